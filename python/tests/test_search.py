@@ -1,8 +1,9 @@
 """The search: places, freedoms, what is said twice and what contradicts, by numbers.
 
 The gallery's drawings, and those of `beyond_triangles`, say in notes how many degrees of freedom a
-hand counts (`freedoms 5, 3 of them of the whole`), and where points lie (`place`, `radius`). What
-is found by numbers may differ from machine to machine by a nanometre: places are within 2 nm."""
+hand counts (`freedoms 5, 3 of them of the whole`, or `freedoms 4 without Equal, the latest that
+contradicts`), and where points lie (`place`, `radius`). What is found by numbers may differ from
+machine to machine by a nanometre: places are within 2 nm."""
 
 from __future__ import annotations
 
@@ -25,11 +26,6 @@ from strips import strip
 TESTS = Path(__file__).parent
 GALLERY = sorted((TESTS / "drawings").glob("*.drawing"))
 BEYOND = sorted((TESTS / "beyond_triangles").glob("*.drawing"))
-CONTRADICTORY = {
-    "off-triangle-too-wide", "over-height-and-direction", "over-isosceles-by-its-angles",
-    "over-lengths-that-turn", "over-middle-of-a-side", "over-middle-that-contradicts",
-    "over-plate-contradiction", "over-plate-width-by-its-hole", "over-slot-too-far-across",
-    "over-two-holes-across"}
 WITHIN_NM = 2
 
 
@@ -59,6 +55,11 @@ def found_in(path: Path) -> Finding:
     return search(drawing_in(path))
 
 
+def contradicts(path: Path) -> bool:
+    """Whether its note counts what is free without some constraint that contradicts."""
+    return "that contradict" in notes(drawing_in(path), "freedoms")[0]
+
+
 def found_of(text: str) -> Finding:
     return search(read_drawing(text))
 
@@ -73,13 +74,13 @@ def test_freedoms_are_those_that_a_hand_counts(path):
     assert found.freedoms == int(re.match(r"\d+", told)[0])
     of_the_whole = re.search(r"(\d+) (of them )?of the whole", told)
     assert found.of_the_whole == (int(of_the_whole[1]) if of_the_whole else 0)
-    assert found.is_doubtful == (path.stem in CONTRADICTORY)
+    assert found.is_doubtful == contradicts(path)
 
 
 @pytest.mark.parametrize("path", GALLERY + BEYOND, ids=lambda path: path.stem)
 def test_each_word_is_met_within_two_nanometres_where_there_are_places(path):
     found = found_in(path)
-    assert (found.solution is None) == (path.stem in CONTRADICTORY)
+    assert (found.solution is None) == contradicts(path)
     assert worst_nm(found) <= WITHIN_NM
 
 
@@ -125,7 +126,8 @@ def test_what_floats_is_held_where_the_fewest_points_move():
     found = found_of("rectangle P 0 0 40 30\nlength PBottom 40\nlength PRight 30\n"
                      "circle H 20 14 5\nradius H 5\n")
     assert (found.freedoms, found.of_the_whole) == (4, 2)
-    assert found.moves == (PointMove(point("H.centre"), 1.0, 0.0), PointMove(point("H.centre"), 0.0, 1.0))
+    centre = point("H.centre")
+    assert found.moves == (PointMove(centre, 1.0, 0.0), PointMove(centre, 0.0, 1.0))
 
 
 def test_what_turns_about_the_origin_has_one_freedom_of_the_whole():
@@ -175,8 +177,8 @@ def test_points_that_are_told_twice_to_be_one_repeat():
     ("over-middle-that-contradicts", {"Middle", "Square", "Height", "Angle", "Half"}),
 ])
 def test_what_contradicts_is_named(name, group):
-    # What the notes of these drawings call spare, but for what leaves no places when it goes (of the
-    # isosceles one: without the equality the height is too great for the rest).
+    # What the notes of these drawings call spare, but for what leaves no places when it goes (of
+    # the isosceles one: without the equality the height is too great for the rest).
     found = found_in(TESTS / f"drawings/{name}.drawing")
     (contradiction,) = found.contradictions
     assert group <= set(contradiction)

@@ -38,8 +38,8 @@ class Searched:
         solution = solution_of(self.equations.unknowns, self.found.x)
         return Finding(
             self.freedom.count, motions.of_the_whole, not self.freedom.is_sure,
-            motions.moves, motions.rims, self._repeats(), (), solution, measure(self.drawing, solution),
-            PlacesBy.NUMBERS)
+            motions.moves, motions.rims, self._repeats(), (), solution,
+            measure(self.drawing, solution), PlacesBy.NUMBERS)
 
     def finding_with(self, judgement: Judgement, program: Solver) -> Finding:
         """The same; of what is open and has places, those by the program, where it constructs them
@@ -59,9 +59,10 @@ class Searched:
         """What is found without places: the freedoms are those without the latest constraint of
         each contradiction."""
         groups = contradictions(self.equations, self.found, self.freedom)
-        rest = self.freedom
-        for latest in sorted({numbers[0] for numbers in groups}, reverse=True)[:1]:
-            rest = Searched(without(self.drawing, latest)).freedom
+        drawing = self.drawing
+        for latest in sorted({numbers[0] for numbers in groups}, reverse=True):
+            drawing = without(drawing, latest)
+        rest = Searched(drawing).freedom if groups else self.freedom
         return Finding(rest.count, rest.motions.of_the_whole, True, repeats=self._repeats(),
                        contradictions=tuple(map(self._names, groups)))
 
