@@ -393,7 +393,8 @@ def test_json_tells_what_is_left_out_and_what_of_it_holds(program):
                            "Half: symmetric A B about M\ndistance A C 13\ndistance B C 13\n"
                            "distance M C 12\ndistance A M 5\ndistance B M 5\n")
     found = drawing_json(JudgedDrawing("half", drawing, judge(drawing, program)))
-    assert found["left_out"] == [] and found["repeats"] == found["left_out_but_holds"] == ["Half"]
+    assert (found["left_out"], found["left_out_but_holds"]) == ([], ["Half"])
+    assert found["repeats"] == [["Half"]]
     assert found["exact"] is False and found["spelled"] == "values"
 
 

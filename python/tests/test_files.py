@@ -143,7 +143,8 @@ def test_a_dxf_outline_is_dimensioned_by_nothing(capsys: pytest.CaptureFixture[s
     out = tmp_path / "plate.dxf"
     assert called(capsys, "draw", FILES / "plate.FCStd", "-o", out)[0] == 0
     sketch = sketch_of(capsys, out)
-    assert sketch["verdict"] == "open" and sketch["places"] is None
+    # By hand: four corners have 8 freedoms, less 4 level edges, and two holes 6; each is read off.
+    assert sketch["verdict"] == "open" and sketch["freedoms"]["count"] == len(sketch["chosen"]) == 10
 
 
 def test_names_do_not_steer_a_terminal(capsys: pytest.CaptureFixture[str], tmp_path: Path) -> None:

@@ -33,6 +33,7 @@ CLAIM = "the sketch, its steps, places and tolerances, as verify reads them"
 FILE = "a sketch: .sketch, .drawing, .FCStd, .slvs, .dxf"
 FREEZE = "take lengths and radii that nothing tells as they are drawn"
 JOBS = "how many of several files are judged at a time (default: as many as processors)"
+NO_SEARCH = "leave out what is found by numbers of what isn't well"
 OUTPUT = "OUT.svg or OUT.dxf"
 RELEASE = "the version of DXF (default: %(default)s)"
 SECONDS = "how long a call may take (default: %(default)g)"
@@ -91,6 +92,7 @@ def _add_judge(commands: Commands) -> None:
     judge.add_argument("--jobs", type=int, default=os.cpu_count() or 1, metavar="N", help=JOBS)
     judge.add_argument("--json", action="store_true", help="print one object of JSON for each file")
     judge.add_argument("--write", type=Path, metavar="OUT", help=WRITE)
+    judge.add_argument("--no-search", action="store_true", help=NO_SEARCH)
 
 
 def _add_draw(commands: Commands) -> None:
@@ -102,11 +104,12 @@ def _add_draw(commands: Commands) -> None:
     draw.add_argument("--sketch", metavar="NAME", help="which sketch of a file that has several")
     releases = [it.value for it in Release]
     draw.add_argument("--release", choices=releases, default=releases[-1], help=RELEASE)
+    draw.add_argument("--no-search", action="store_true", help=NO_SEARCH)
 
 
 def _add_certify(commands: Commands) -> None:
     certify = _command(commands, "certify", "writes of what is good a claim that anyone can check")
-    certify.set_defaults(act=_certify)
+    certify.set_defaults(act=_certify, no_search=True)
     certify.add_argument("file", type=Path, metavar="FILE", help=FILE)
     certify.add_argument(
         "-o", "--output", type=Path, required=True, metavar="OUT.claim", help=CLAIM

@@ -6,13 +6,15 @@ from collections.abc import Sequence
 from dataclasses import replace
 from pathlib import Path
 
-from pertxogai.exits import CommandError, Exit
+from pertxogai.exits import CommandError, Exit, MissingLibrary
 from pertxogai.files.kinds import DesignerDrawing, Input, SketchText, kind_of, read_inputs
 from pertxogai.judging import (
     DrawingRefused, GoodJudgement, JudgedDrawing, Judgement, judge, judge_sketch)
 from pertxogai.language import NotHeld, Refusal
 from pertxogai.output.outcome import DrawingOutcome, Outcome, SketchOutcome
 from pertxogai.program import Program, Solver
+from pertxogai.program.reports import Verdict
+from pertxogai.search import search_judged
 
 
 def program_of(options: argparse.Namespace) -> Program:
@@ -28,9 +30,20 @@ def outcome_of(found: Input, program: Solver, options: argparse.Namespace) -> Ou
     if isinstance(found, SketchText):
         judged = judge_sketch(found.name, found.text, program, options.within)
         return SketchOutcome(judged, program)
-    judgement = _judgement(found, program, options)
-    return DrawingOutcome(JudgedDrawing(found.name, found.drawing, judgement, found.left_out,
-                                        found.aside, options.within))
+    drawing = JudgedDrawing(found.name, found.drawing, _judgement(found, program, options),
+                            found.left_out, found.aside, options.within)
+    return DrawingOutcome(drawing if options.no_search else _searched(drawing, program))
+
+
+def _searched(judged: JudgedDrawing, program: Solver) -> JudgedDrawing:
+    """The same with what is found by numbers, where it isn't well; without numpy or scipy, with
+    what to install."""
+    if judged.judgement.verdict is Verdict.WELL:
+        return judged
+    try:
+        return replace(judged, finding=search_judged(judged.drawing, judged.judgement, program))
+    except MissingLibrary as missing:
+        return replace(judged, not_searched=str(missing))
 
 
 def _judgement(found: DesignerDrawing, program: Solver,

@@ -1,4 +1,4 @@
-"""What the search finds of a drawing that isn't well: by numbers, in floats, certified by nobody."""
+"""What the search finds of a drawing that isn't well: by numbers, in floats, and not certified."""
 from __future__ import annotations
 
 from collections.abc import Iterator

@@ -5,16 +5,19 @@ from __future__ import annotations
 from dataclasses import dataclass
 
 from pertxogai.drawing import Drawing
+from pertxogai.judging.finding import Finding, PlacesBy
 from pertxogai.judging.judgement import Judgement
 from pertxogai.judging.measure.deviation import Deviation, Unit, greatest
 from pertxogai.judging.measure.limit import Limit
+from pertxogai.judging.measure.solution import Solution
 
 
 @dataclass(frozen=True)
 class JudgedDrawing:
     """A drawing, the judgement on it, what of its file the drawing can't say, which of the file's
-    constraints only measure or are switched off, and within what each constraint has to hold.
-    Whether it is good is for `pertxogai.judging.good` to say."""
+    constraints only measure or are switched off, and within what each constraint has to hold;
+    where it was searched, what was found, else why it wasn't, if it should have been. Whether it is
+    good is for `pertxogai.judging.good` to say."""
 
     name: str
     drawing: Drawing
@@ -22,12 +25,29 @@ class JudgedDrawing:
     not_drawn: tuple[str, ...] = ()
     aside: tuple[str, ...] = ()
     limit: Limit = Limit()
+    finding: Finding | None = None
+    not_searched: str = ""
 
     def left_out(self) -> tuple[str, ...]:
         """What the file has and the drawing can't say, and what of the drawing can't be spelled."""
         return self.not_drawn + self.judgement.left_out
 
+    def places(self) -> Solution | None:
+        """Where it lies: as the judgement has it, else as it was found."""
+        if self.judgement.solution is not None or self.finding is None:
+            return self.judgement.solution
+        return self.finding.solution
+
+    def places_by(self) -> PlacesBy | None:
+        """Who says so."""
+        if self.judgement.solution is not None:
+            return PlacesBy.PROGRAM
+        return self.finding.places_by if self.finding else None
+
     def worst(self) -> tuple[Deviation, ...]:
         """The greatest deviation in nm and that in ppb, where something was measured so."""
-        found = (greatest(self.judgement.deviations, unit) for unit in Unit)
+        deviations = self.judgement.deviations
+        if self.judgement.solution is None and self.finding is not None:
+            deviations = self.finding.deviations
+        found = (greatest(deviations, unit) for unit in Unit)
         return tuple(each for each in found if each is not None)

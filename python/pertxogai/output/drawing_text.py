@@ -13,6 +13,7 @@ from pertxogai.judging.judged_drawing import JudgedDrawing
 from pertxogai.judging.measure import Deviation, Solution, Unit, amount_text
 from pertxogai.judging.measure.limit import units_text
 from pertxogai.judging.measure.upright import upright
+from pertxogai.output.finding_text import finding_json, finding_lines, freedoms_text
 from pertxogai.program.reports import CheckReport, Part, Solved
 
 __all__ = ["JudgedDrawing", "drawing_json", "drawing_lines", "spare_json", "spelled_json",
@@ -34,6 +35,7 @@ def drawing_json(judged: JudgedDrawing) -> dict[str, object]:
         **reasons_json(judged),
         "parts": [_part(judgement, part) for part in _check(judgement).parts],
         **spelled_json(judged),
+        **finding_json(judged),
         "measured_over": list(judgement.measured_off),
         "by_rank": _by_rank(judgement),
         "spare": [spare_json(each) for each in judgement.surplus],
@@ -77,9 +79,9 @@ def spelled_json(judged: JudgedDrawing) -> dict[str, object]:
 def _placed_json(judged: JudgedDrawing) -> dict[str, object]:
     """Where it is placed and within what, or the program's fault."""
     judgement = judged.judgement
-    placed = judgement.solution is not None
+    placed, places = judgement.solution is not None, judged.places()
     return {
-        "places": _places(judged.drawing, judgement.solution) if judgement.solution else None,
+        "places": _places(judged.drawing, places) if places else None,
         **within_json(judged),
         "fault": None if placed else _fault(judgement),
         "other_choice": tried_json(judgement.asked.spelled.sketch, judgement.tried,
@@ -102,8 +104,9 @@ def drawing_lines(judged: JudgedDrawing) -> Iterator[str]:
     verdict."""
     judgement = judged.judgement
     check = _check(judgement)
-    yield (f"{judged.name}: {judgement.verdict.value}, spelled {judgement.style.value}, elements "
-           f"{check.elements}, constraints {check.constraints}, parts {len(check.parts)}")
+    freedoms = f", {freedoms_text(judged.finding)}" if judged.finding else ""
+    yield (f"{judged.name}: {judgement.verdict.value}{freedoms}, spelled {judgement.style.value}, "
+           f"elements {check.elements}, constraints {check.constraints}, parts {len(check.parts)}")
     if not judged.drawing.geometry:
         yield "  nothing is drawn in it that could be judged"
     yield from (f"  not met: {reason.text}" for reason in reasons_against(judged)
@@ -120,6 +123,7 @@ def drawing_lines(judged: JudgedDrawing) -> Iterator[str]:
     yield from (f"  its size is told by nothing: {what}, as drawn" for what in
                 judgement.undimensioned)
     yield from _placed_lines(judged)
+    yield from finding_lines(judged)
     yield from _failure_lines(judgement)
     yield from _lacks_lines(judgement)
     yield from _whole_lines(judgement)

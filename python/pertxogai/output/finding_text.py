@@ -1,0 +1,117 @@
+"""What was found of a drawing that isn't well: lines to read, and keys for JSON. Each line that no
+program certifies says so."""
+from __future__ import annotations
+
+from collections.abc import Iterable, Iterator
+from itertools import groupby
+
+from pertxogai.judging.finding import Finding, Group, PlacesBy, PointMove
+from pertxogai.judging.judged_drawing import JudgedDrawing
+from pertxogai.judging.measure import amount_text
+from pertxogai.program.reports import Verdict
+
+MOST_MOVES = 8
+"""So many points that still move are told at most."""
+
+
+def freedoms_text(finding: Finding) -> str:
+    """How many degrees of freedom there are, and who says so."""
+    plural = "" if finding.freedoms == 1 else "s"
+    doubt = ", doubtful" if finding.is_doubtful else ""
+    return f"{finding.freedoms} degree{plural} of freedom (by numbers{doubt})"
+
+
+def finding_lines(judged: JudgedDrawing) -> Iterator[str]:
+    """What was found, without the count of freedoms."""
+    if judged.not_searched:
+        yield f"  not searched: {judged.not_searched}"
+    finding = judged.finding
+    if finding is None:
+        return
+    if judged.judgement.verdict is Verdict.OPEN:
+        yield from _placed_lines(judged, finding)
+    if finding.of_the_whole:
+        yield (f"  of the degrees of freedom {finding.of_the_whole} "
+               f"{'is' if finding.of_the_whole == 1 else 'are'} those of the whole (by numbers)")
+    yield from _move_lines(finding)
+    yield from (f"  repeats others, and may go (by numbers): {_group_text(each)}"
+                for each in finding.repeats)
+    yield from (f"  can't all be met (by numbers): {', '.join(each)}"
+                for each in finding.contradictions)
+
+
+def finding_json(judged: JudgedDrawing) -> dict[str, object]:
+    """The same for JSON. Without a search nothing is counted, and what repeats are the single words
+    that are told again."""
+    finding, by = judged.finding, judged.places_by()
+    names = judged.judgement.repeats
+    return {
+        "freedoms": _freedoms_json(finding) if finding else None,
+        "moves": [_move_json(each) for each in finding.moves] if finding else [],
+        "free_radii": list(finding.free_radii) if finding else [],
+        "chosen": list(finding.chosen) if finding else [],
+        "only_measured": list(finding.only_measured) if finding else [],
+        "repeats": [list(each) for each in _repeats(finding, names)],
+        "contradictions": [list(each) for each in finding.contradictions] if finding else [],
+        "places_by": by.value if by else None,
+    }
+
+
+def _repeats(finding: Finding | None, names: Iterable[str]) -> Iterator[Group]:
+    """The groups that were found, and what repeats others without being in one."""
+    groups = finding.repeats if finding else ()
+    told = {name for group in groups for name in group}
+    yield from groups
+    yield from ((name,) for name in names if name not in told)
+
+
+def _freedoms_json(finding: Finding) -> dict[str, object]:
+    return {"count": finding.freedoms, "of_the_whole": finding.of_the_whole,
+            "doubtful": finding.is_doubtful}
+
+
+def _move_json(move: PointMove) -> dict[str, object]:
+    return {"point": str(move.point), "dx": round(move.dx, 6), "dy": round(move.dy, 6)}
+
+
+def _placed_lines(judged: JudgedDrawing, finding: Finding) -> Iterator[str]:
+    """Who places it, by which values, and how far each word is off there."""
+    if finding.places_by is PlacesBy.PROGRAM:
+        values = f" with chosen values: {', '.join(finding.chosen)}" if finding.chosen else ""
+        yield f"  constructed{values}"
+        if finding.only_measured:
+            yield f"  only measured: {', '.join(finding.only_measured)}"
+    elif finding.places_by is PlacesBy.NUMBERS:
+        yield "  placed by numbers, not constructed"
+    if finding.solution is not None:
+        off = [each for each in judged.worst() if each.amount]
+        yield from (f"  measured: at most {amount_text(each)} off, {each.called(judged.drawing)}"
+                    for each in off)
+        if not off:
+            yield "  measured: each constraint holds exactly"
+
+
+def _move_lines(finding: Finding) -> Iterator[str]:
+    """Which points still move, and where to."""
+    moving = [(point, list(moves))
+              for point, moves in groupby(finding.moves, lambda each: each.point)]
+    for point, moves in moving[:MOST_MOVES]:
+        yield f"  still moves (by numbers): {point}{_along_text(moves)}"
+    if len(moving) > MOST_MOVES:
+        yield f"  and {len(moving) - MOST_MOVES} more points"
+    if finding.free_radii:
+        yield f"  its radius is free (by numbers): {', '.join(finding.free_radii)}"
+
+
+def _along_text(moves: list[PointMove]) -> str:
+    """Along which direction; nothing of a point that moves everywhere."""
+    if len(moves) > 1:
+        return ""
+    dx, dy = (round(each, 3) + 0.0 for each in (moves[0].dx, moves[0].dy))
+    return " along x" if dy == 0 else " along y" if dx == 0 else f" along {dx:g} {dy:g}"
+
+
+def _group_text(group: Group) -> str:
+    """What repeats, and which others say the same."""
+    latest, *others = group
+    return f"{latest}, by {', '.join(others)}" if others else latest
