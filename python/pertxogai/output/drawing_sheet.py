@@ -14,6 +14,7 @@ from pertxogai.output.picture.drawings import Marking, scene_of_designed
 from pertxogai.output.picture.marks import Ink, Scene
 from pertxogai.output.picture.svg import Picture, picture_of
 from pertxogai.output.release import Release
+from pertxogai.program.reports import Verdict
 
 
 MOST_SHOWN = 8
@@ -37,7 +38,8 @@ class DrawingSheet:
     as_drawn: bool
 
     def picture(self) -> Picture:
-        """As placed where that is good, else as drawn with what was judged below it."""
+        """As placed where that is good, or is open and has places; else as drawn. Of what isn't
+        good with what was judged below it."""
         return picture_of(self._scene())
 
     def dxf(self, release: Release) -> str:
@@ -60,9 +62,21 @@ class DrawingSheet:
             return scene_of_designed(judged.drawing, None, judged.name, marking)
         if isinstance(found, GoodJudgement):
             return scene_of_designed(judged.drawing, found.solution, judged.name, Marking())
+        if judgement.verdict is Verdict.OPEN and judged.places() is not None:
+            return scene_of_designed(judged.drawing, judged.places(), judged.name, self._open())
         spare = frozenset(each.number for each in judgement.surplus)
         marking = Marking(parts_of_shapes(judgement), spare, tuple(self._legend()))
         return scene_of_designed(judged.drawing, None, judged.name, marking)
+
+    def _open(self) -> Marking:
+        """The marking of a drawing that is open and has places: the pieces in their colours, what
+        is free lighter, and where to each point still moves."""
+        finding = self.judged.finding
+        assert finding is not None
+        moves = ((each.point, (each.dx, each.dy)) for each in finding.moves)
+        return Marking(parts_of_shapes(self.judged.judgement), legend=tuple(self._legend()),
+                       free=frozenset(finding.free_shapes(self.judged.drawing)),
+                       moves=tuple(moves))
 
     def _left_out(self) -> Iterator[str]:
         """What the picture lacks; where that is much, how much more."""

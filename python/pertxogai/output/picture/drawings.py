@@ -14,7 +14,7 @@ from pertxogai.drawing import (
     Which, XDistance, YDistance)
 from pertxogai.judging.measure import Solution
 from pertxogai.output.picture.marks import (
-    Bow, Dimension, Dot, Ink, LengthBar, Manner, Mark, PointMm, Ring, Scene, Stroke, Tag)
+    Arrow, Bow, Dimension, Dot, Ink, LengthBar, Manner, Mark, PointMm, Ring, Scene, Stroke, Tag)
 from pertxogai.output.picture.plane import between, crossing, foot, sweep, unit
 from pertxogai.output.picture.svg import Picture, picture_of
 from pertxogai.spelling.linear import Number
@@ -26,11 +26,14 @@ SPARE = Ink(Manner.SPARE)
 @dataclass(frozen=True)
 class Marking:
     """What a picture of a drawing tells beside its shapes: the part of each shape, by its name;
-    which constraints may go, by their places from 1; and the lines below."""
+    which constraints may go, by their places from 1; the lines below; which shapes are free; and
+    the directions in which points still move."""
 
     parts: Mapping[str, int] = field(default_factory=dict)
     spare: frozenset[int] = frozenset()
     legend: tuple[tuple[str, Ink], ...] = ()
+    free: frozenset[str] = frozenset()
+    moves: tuple[tuple[PointRef, PointMm], ...] = ()
 
 
 def picture_of_designed(
@@ -51,8 +54,9 @@ def scene_of_designed(
 ) -> Scene:
     """The same as a scene, to which more can be added."""
     where = DrawnPlaces(drawing, solution)
-    marks = tuple(where.mark(shape, marking.parts.get(shape.name)) for shape in drawing.geometry)
-    dimensions: list[Dimension] = []
+    marks = tuple(where.mark(shape, marking.parts.get(shape.name), shape.name in marking.free)
+                  for shape in drawing.geometry)
+    dimensions: list[Dimension] = [Arrow(where.at(ref), way) for ref, way in marking.moves]
     for number, constraint in enumerate(drawing.constraints, 1):
         if number in marking.spare:
             dimensions += where.spare(constraint, drawing.called(number))
@@ -102,9 +106,10 @@ class DrawnPlaces:
             return float(self.drawing.drawn_radius_um(name)) / 1e3
         return float(self.solution.radius(name)) / 1e6
 
-    def mark(self, shape: Shape, part: int | None) -> Mark:
-        """A shape as a mark, with the colour of a part."""
-        ink = Ink(Manner.CONSTRUCTION if shape.construction or shape.outer else Manner.EDGE, part)
+    def mark(self, shape: Shape, part: int | None, is_free: bool = False) -> Mark:
+        """A shape as a mark, with the colour of a part; lighter where it is free."""
+        manner = Manner.FREE if is_free else Manner.EDGE
+        ink = Ink(Manner.CONSTRUCTION if shape.construction or shape.outer else manner, part)
         name = shape.name
         match shape:
             case Point():

@@ -16,6 +16,8 @@ class Manner(Enum):
     DATUM = "datum"
     BAR = "bar"
     SPARE = "spare"
+    FREE = "free"
+    MOVE = "move"
 
 
 @dataclass(frozen=True)
@@ -103,7 +105,16 @@ class Square:
     ink: Ink = Ink(Manner.BAR)
 
 
-Dimension = LengthBar | Tag | Square
+@dataclass(frozen=True)
+class Arrow:
+    """That a point at a place still moves along a direction, a way of length 1, and back."""
+
+    at: PointMm
+    way: PointMm
+    ink: Ink = Ink(Manner.MOVE)
+
+
+Dimension = LengthBar | Tag | Square | Arrow
 """A dimension as it is drawn."""
 
 

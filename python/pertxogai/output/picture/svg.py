@@ -9,7 +9,7 @@ from pathlib import Path
 from textwrap import wrap
 
 from pertxogai.output.picture.marks import (
-    Bow, Dot, Ink, LengthBar, Manner, PointMm, Ring, Scene, Square, Tag)
+    Arrow, Bow, Dot, Ink, LengthBar, Manner, PointMm, Ring, Scene, Square, Tag)
 from pertxogai.output.picture.page import Figure, Page
 from pertxogai.output.picture.plane import sweep
 from pertxogai.output.picture.texts import Text, Texts
@@ -31,6 +31,13 @@ STYLE = """
     .length { font-size: 12px; fill: #5a6673 }
     .legend { font-size: 13px; text-anchor: start }
 """
+FREE_STYLE = """\
+    .free { stroke-width: 2; stroke-opacity: 0.4; fill: none; stroke-linecap: round }
+    .move { stroke: #a8410b; stroke-width: 1.4; fill: none; stroke-linejoin: round }
+"""
+"""What a picture of an open drawing has besides."""
+ARROW, BARB = 22, 5
+"""Half the length of an arrow, and the length of its barbs."""
 
 
 @dataclass(frozen=True)
@@ -77,15 +84,20 @@ class _Drawer:
         size = f'width="{wide:g}" height="{tall:g}" viewBox="0 0 {wide:g} {tall:g}"'
         yield f'<svg xmlns="http://www.w3.org/2000/svg" {size}>'
         yield f"  <title>{escape(self.scene.title)}</title>"
-        yield f"  <style>{STYLE}{''.join(self._part_styles())}  </style>"
+        yield f"  <style>{STYLE}{self._free_style()}{''.join(self._part_styles())}  </style>"
         yield f'  <rect class="back" width="{wide:g}" height="{tall:g}"/>'
         for start, end, bar in self.bars:
             yield f"  <line {_class(bar.ink)} {_ends(start, end)}/>"
         yield from self._squares()
         yield from map(_svg_of, self.figures)
+        yield from self._arrows()
         yield from map(_written, self._texts())
         yield from self._legend()
         yield "</svg>"
+
+    def _free_style(self) -> str:
+        inks = (it.ink.manner for it in (*self.scene.marks, *self.scene.dimensions))
+        return FREE_STYLE if {Manner.FREE, Manner.MOVE} & set(inks) else ""
 
     def _part_styles(self) -> Iterator[str]:
         inks = [it.ink for it in (*self.scene.marks, *self.scene.dimensions)] + [
@@ -119,11 +131,28 @@ class _Drawer:
                 points = " ".join(f"{a:.1f},{b:.1f}" for a, b in spots)
                 yield f'  <polyline {_class(it.ink)} points="{points}"/>'
 
+    def _arrows(self) -> Iterator[str]:
+        """A line with a barb at both ends for each way in which a point still moves."""
+        for it in self.scene.dimensions:
+            if isinstance(it, Arrow):
+                spots = _arrow(self.page.at(it.at), (it.way[0], -it.way[1]))
+                points = " ".join(f"{x:.1f},{y:.1f}" for x, y in spots)
+                yield f'  <polyline {_class(it.ink)} points="{points}"/>'
+
     def _legend(self) -> Iterator[str]:
         for row, (words, ink) in enumerate(self.legend):
             x, y = 14 if words == words.lstrip() else 28, self.page.height + LEGEND_LINE * row + 6
             place = f'x="{x}" y="{y:.1f}"'
             yield f'  <text class="legend" {_fill(ink)} {place}>{escape(words.strip())}</text>'
+
+
+def _arrow(at: PointMm, way: PointMm) -> list[PointMm]:
+    """The corners of an arrow with two heads, in one line."""
+    tip, barb = ARROW, ARROW - BARB
+    corners = [(-barb, BARB), (-tip, 0), (-barb, -BARB), (-tip, 0),
+               (tip, 0), (barb, BARB), (tip, 0), (barb, -BARB)]
+    return [(at[0] + way[0] * along - way[1] * aside, at[1] + way[1] * along + way[0] * aside)
+            for along, aside in corners]
 
 
 def _order(figure: Figure) -> int:
@@ -163,7 +192,7 @@ def _ends(start: PointMm, end: PointMm) -> str:
 
 
 def _class(ink: Ink) -> str:
-    own = ink.manner in (Manner.EDGE, Manner.CONSTRUCTION)
+    own = ink.manner in (Manner.EDGE, Manner.CONSTRUCTION, Manner.FREE)
     return f'class="{ink.manner.value} p{ink.part or 0}"' if own else f'class="{ink.manner.value}"'
 
 
