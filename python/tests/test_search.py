@@ -8,6 +8,7 @@ machine to machine by a nanometre: places are within 2 nm."""
 from __future__ import annotations
 
 import re
+from collections.abc import Iterator
 from fractions import Fraction
 from functools import cache
 from math import hypot
@@ -20,7 +21,9 @@ from pertxogai.drawing import Drawing, PointRef, Which, read_drawing, um_of_mm
 from pertxogai.judging.finding import Finding, PointMove
 from pertxogai.judging.measure import Unit, greatest
 from pertxogai.search import search
+from pertxogai.search.equations import Equations
 from pertxogai.search.searched import Searched
+from pertxogai.search.solving import solve
 from strips import strip
 
 TESTS = Path(__file__).parent
@@ -93,6 +96,27 @@ def test_points_lie_where_a_hand_finds_them(path):
         assert max(abs(a - b) for a, b in zip(lies, told)) <= WITHIN_NM, name
     for name, mm in map(str.split, notes(drawing, "radius")):
         assert abs(found.solution.radius(name) - um_of_mm(mm) * 1000) <= WITHIN_NM, name
+
+
+def test_a_shape_that_is_shaken_by_a_tenth_comes_back():
+    # Of the drawings without freedom, each shaken twice; small features of some turn round.
+    back = [is_back for path in GALLERY for is_back in shaken(path)]
+    assert len(back) > 100 and sum(back) >= 0.98 * len(back)
+
+
+def shaken(path: Path) -> Iterator[bool]:
+    """Whether a drawing without freedom, begun elsewhere, ends where it ends by itself."""
+    searched = Searched(drawing_in(path))
+    if not searched.found.is_as_drawn() or searched.freedom.count:
+        return
+    points = 2 * len(searched.equations.unknowns.points)
+    for seed in range(2):
+        equations = Equations(drawing_in(path))
+        by = np.random.default_rng(seed).uniform(-0.1, 0.1, len(equations.drawn))
+        equations.drawn = equations.drawn + by * equations.size_nm
+        equations.drawn[points:] = np.abs(equations.drawn[points:])
+        found = solve(equations)
+        yield found.is_solved() and bool(np.abs(found.x - searched.found.x).max() < 1000)
 
 
 # -- what moves

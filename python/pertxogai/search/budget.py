@@ -4,7 +4,7 @@ from __future__ import annotations
 from time import thread_time
 
 MOST_STEPS = 400
-MOST_SECONDS = 1.2
+MOST_SECONDS = 1.0
 
 
 class Budget:

@@ -20,7 +20,7 @@ Numbers = tuple[int, ...]
 """Constraints by their places, from 1, the latest first."""
 MOST_LEFT_OUT = 12
 """So many constraints are left out, one after the other."""
-STEPS, SECONDS = 60, 0.8
+STEPS, SECONDS = 60, 0.6
 """The most steps of each of these searches, and the most seconds of all."""
 
 

@@ -10,6 +10,7 @@ from pertxogai.judging.judgement import Judgement
 from pertxogai.judging.measure import measure
 from pertxogai.program import Solver
 from pertxogai.program.reports import Verdict
+from pertxogai.search.budget import MOST_SECONDS, Budget
 from pertxogai.search.constructing import construct
 from pertxogai.search.contradictions import Numbers, contradictions, without
 from pertxogai.search.dependencies import Dependency
@@ -20,14 +21,18 @@ from pertxogai.search.solving import Found, solve
 from pertxogai.search.unknowns import By, Source
 
 
+REST_SECONDS = 0.4
+"""What the search may take for what is left without what contradicts."""
+
+
 class Searched:
     """What was searched of a drawing: the equations, where they were found to be met or nearly so,
     and the freedoms there."""
 
-    def __init__(self, drawing: Drawing) -> None:
+    def __init__(self, drawing: Drawing, seconds: float = MOST_SECONDS) -> None:
         self.drawing = drawing
         self.equations = Equations(drawing)
-        self.found: Found = solve(self.equations)
+        self.found: Found = solve(self.equations, Budget(seconds=seconds))
         self.freedom: Freedom = freedom(self.equations, self.found.x)
 
     def finding(self) -> Finding:
@@ -62,7 +67,7 @@ class Searched:
         drawing = self.drawing
         for latest in sorted({numbers[0] for numbers in groups}, reverse=True):
             drawing = without(drawing, latest)
-        rest = Searched(drawing).freedom if groups else self.freedom
+        rest = Searched(drawing, REST_SECONDS).freedom if groups else self.freedom
         return Finding(rest.count, rest.motions.of_the_whole, True, repeats=self._repeats(),
                        contradictions=tuple(map(self._names, groups)))
 

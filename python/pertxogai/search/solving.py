@@ -7,7 +7,7 @@ In this order, until one meets all rows with nothing the other way round:
   2. the same with that left open;
   3. the drawing in another scale;
   4. a walk: the rows are led to 0 in 4, 16 and then 64 equal parts, each solved from the last;
-  5. where none of these meets the rows, 2 from places that are shaken a little, four times.
+  5. 2 from places that are shaken a little, eight times.
 Else the best of them is taken."""
 from __future__ import annotations
 
@@ -30,7 +30,7 @@ WALK_NEAR = 1e-4
 """A part of a walk ends within this part of the drawing's size."""
 SAME_SCALE, OTHER_SCALE = 1.15, 1.001
 """Within this factor a drawing isn't scaled: at first, and where another scale is tried."""
-SHAKES, SHAKE = 4, 0.05
+SHAKES, SHAKE = 8, 0.05
 """How often it is shaken, and by which part of its size."""
 LEAST_LENGTH = 1e-6
 """What is drawn shorter than this part of the drawing's size tells no scale."""
@@ -94,8 +94,7 @@ class _Solving:
         yield descend(self._loose, self._start, self._budget)
         yield from self._other_scale()
         yield from self._walks()
-        if not any(each.is_solved() for each in self._found):
-            yield from self._shaken()
+        yield from self._shaken()
 
     def _other_scale(self) -> Iterator[End]:
         drawn = self._loose.drawn
