@@ -136,6 +136,7 @@ class _Asked:
             case Midpoint(point, segment):
                 start, way = self._unknowns.line(segment)
                 return self._same(start + way.times(0.5), self._unknowns.point(point))
+        raise AssertionError(constraint)
 
     def _mirrored(
         self, one: Combination, other: Combination, about: ShapeRef | PointRef
