@@ -9,12 +9,13 @@ from __future__ import annotations
 
 from collections.abc import Iterator, Sequence
 from dataclasses import dataclass, replace
+from time import monotonic
 
-from pertxogai.judging.judgement import Judgement, judge_at_once
-from pertxogai.judging.limits import DrawingRefused
 from pertxogai.drawing import (
     Coincident, Collinear, Concentric, Constraint, Drawing, Equal, Length, Midpoint, Parallel,
     ParallelDistance, Perpendicular, PointOn, Symmetric, Tangent)
+from pertxogai.judging.judgement import Judgement, judge_at_once
+from pertxogai.judging.limits import DrawingRefused
 from pertxogai.language import NotHeld, Refusal
 from pertxogai.judging.measure import Deviation, Solution, Unit, greatest, measure
 from pertxogai.program import ProgramError, Solver
@@ -36,8 +37,8 @@ MOST_VALUES = 6
 """The most values that take the place of constraints."""
 MOST_TRIED = 60
 """The most constraints that are tried for each."""
-MOST_ASKED = 200
-"""The most drawings of which the program is asked."""
+MOST_ASKED, MOST_SECONDS = 200, 10.0
+"""The most drawings of which the program is asked, and the seconds after which no more are."""
 MANY_PIECES = 10 ** 6
 _FIRST = (Equal, Tangent, PointOn, Symmetric, Midpoint, Collinear)
 """What is only measured rather than others: these need a size that may be unknown."""
@@ -149,14 +150,15 @@ def _with(drawing: Drawing, chosen: Sequence[Constraint],
 
 
 class _Trials:
-    """Asks the program, so many times at most."""
+    """Asks the program, so many times and for so long at most."""
 
     def __init__(self, drawing: Drawing, program: Solver) -> None:
         self._drawing, self._program, self._left = drawing, program, MOST_ASKED
+        self._end = monotonic() + MOST_SECONDS
 
     def are_spent(self) -> bool:
-        """Whether no more are left."""
-        return self._left <= 0
+        """Whether no more are left, or no time."""
+        return self._left <= 0 or monotonic() >= self._end
 
     def construction(self, chosen: tuple[Constraint, ...], swaps: tuple[Swap, ...],
                      x: Array) -> Construction:
