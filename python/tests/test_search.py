@@ -235,6 +235,16 @@ def test_one_point_told_by_both_axes_has_no_freedom():
     assert found.solution.spot(point("A")) == (3_000_000, 4_000_000)
 
 
+@pytest.mark.parametrize("word, is_met", [
+    ("length Edge 40", True), ("distance Edge.start Edge.end 30", False), ("angle Edge 10deg", False)])
+def test_what_speaks_only_of_outer_shapes_moves_nothing(word, is_met):
+    # The edge is 40 long and level; the point beside it has x and y, of which nothing is told.
+    found = search(read_drawing(f"outer segment Edge 0 0 40 0\npoint P 3 4\n{word}\n"))
+    assert found.freedoms == 2
+    groups = (f"constraint 1 ({word})",),
+    assert (found.repeats, found.contradictions) == ((groups, ()) if is_met else ((), groups))
+
+
 def test_nothing_free_stays_where_it_is_told():
     found = found_of("point A 0 0\nfixed A\nouter segment E 0 0 10 0\n")
     assert (found.freedoms, found.moves, found.contradictions) == (0, (), ())

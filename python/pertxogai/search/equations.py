@@ -97,7 +97,7 @@ class Equations:
             Asides(rows, first_way, drawn), self._leans)
         self._kinds = tuple(kind for kind in kinds if len(kind.rows))
         pairs = [pair for kind in self._kinds for pair in kind.pairs()]
-        self._pattern = Pattern(self._linear, _slope_entries(pairs, all_ways))
+        self._pattern = Pattern(self._linear, _slope_entries(pairs, all_ways), 2 * len(pairs))
 
     def _ways(self, x: Array) -> Ways:
         xy = (self._of_ways @ x).reshape(-1, 2) + self._constant

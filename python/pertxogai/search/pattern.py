@@ -16,9 +16,10 @@ MOST_DENSE = 30_000
 
 
 class Pattern:
-    """A constant matrix, and what the slopes add to it."""
+    """A constant matrix, and what so many slopes add to it: some nothing, as those of what is
+    given."""
 
-    def __init__(self, constant: Matrix, slopes: Iterable[SlopeEntry]) -> None:
+    def __init__(self, constant: Matrix, slopes: Iterable[SlopeEntry], count: int) -> None:
         self._shape: tuple[int, int] = constant.shape
         self._is_dense = self._shape[0] * self._shape[1] <= MOST_DENSE
         added, known = list(slopes), constant.tocoo()
@@ -28,7 +29,6 @@ class Pattern:
                                         return_inverse=True)
         self._constant = np.zeros(len(self._places))
         np.add.at(self._constant, entry[:len(known_places)], known.data)
-        count = 1 + max((slope for _, _, slope, _ in added), default=-1)
         self._of_slopes = matrix_of(
             ((place, slope, factor) for place, (_, _, slope, factor)
              in zip(entry[len(known_places):].tolist(), added)), (len(self._places), count))
