@@ -2,12 +2,14 @@
 
 from __future__ import annotations
 
+from fractions import Fraction
 from pathlib import Path
 
 import pytest
 
-from pertxogai.drawing import Drawing, line_of, read_drawing
-from pertxogai.judging.measure import Unit, greatest, measure
+from pertxogai.drawing import (
+    AngleBetween, Degrees, Drawing, Length, ShapeRef, line_of, read_drawing)
+from pertxogai.judging.measure import Deviation, Unit, greatest, measure
 from pertxogai.search.constructing import Construction, construct
 from pertxogai.search.searched import Searched
 
@@ -64,4 +66,17 @@ def test_what_is_free_is_told_by_a_radius_before_a_place(program):
 def test_nothing_is_told_of_what_is_well(program):
     text = "segment S 0 0 9 0\nfixed S.start\nhorizontal S\nlength S 10\n"
     found = constructed(read_drawing(text), program)
-    assert (found.chosen, found.swaps, found.worst_nm()) == ((), (), 0)
+    assert (found.chosen, found.swaps, found.unmet()) == ((), (), ())
+
+
+@pytest.mark.parametrize("amount, unit, is_met", [
+    (2, Unit.NM, True), (3, Unit.NM, False), (2, Unit.PPB, True), (50, Unit.PPB, False)])
+def test_each_word_is_to_be_met_in_its_own_unit(amount, unit, is_met):
+    length = Length(ShapeRef("S"), Fraction(10))
+    angle = AngleBetween(ShapeRef("S"), ShapeRef("T"), Degrees(Fraction(60)))
+    # A direction by whose rounding the end of a line lies further off than whole nanometres say.
+    off = ([Deviation(1, length, amount, unit)] if unit is Unit.NM else
+           [Deviation(1, angle, 9, Unit.NM), Deviation(1, angle, amount, unit)])
+    found = Construction((), (), pieces=0, deviations=tuple(off))
+    assert found.is_good() is is_met
+    assert (found.worth() > Construction((), (), pieces=0).worth()) or is_met

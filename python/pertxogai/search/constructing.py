@@ -17,7 +17,7 @@ from pertxogai.drawing import (
 from pertxogai.judging.judgement import Judgement, judge_at_once
 from pertxogai.judging.limits import DrawingRefused
 from pertxogai.language import NotHeld, Refusal
-from pertxogai.judging.measure import Deviation, Solution, Unit, greatest, measure
+from pertxogai.judging.measure import Deviation, Limit, Solution, Unit, greatest, measure
 from pertxogai.program import ProgramError, Solver
 from pertxogai.program.reports import Verdict
 from pertxogai.search.arrays import Array
@@ -31,8 +31,8 @@ from pertxogai.search.unknowns import By, Unknowns
 from pertxogai.search.values import (
     NM, drawn_at, lengths_of, stretch_of, told_best, value_of, values_of)
 
-GOOD_NM = 2
-"""Within so many nanometres each word is met on the program's places."""
+GOOD = Limit(2)
+"""Within what each word is met on the program's places, its length and its direction."""
 MOST_VALUES = 6
 """The most values that take the place of constraints."""
 MOST_TRIED = 60
@@ -68,7 +68,7 @@ class Construction:
 
     def is_good(self) -> bool:
         """Whether the program places it, and each word is met there."""
-        return self.pieces == 0 and self.worst_nm() <= GOOD_NM
+        return self.pieces == 0 and not self.unmet()
 
     def solution(self) -> Solution | None:
         """Where the program places it."""
@@ -79,14 +79,14 @@ class Construction:
         follow = (each.value for each in self.swaps if each.value is not None)
         return (*self.chosen, *follow)
 
-    def worst_nm(self) -> int:
-        """How far the worst word is off."""
-        worst = greatest(self.deviations, Unit.NM)
-        return worst.amount if worst else 0
+    def unmet(self) -> tuple[Deviation, ...]:
+        """The words that aren't met, by what of each is off."""
+        return tuple(GOOD.beyond(self.deviations))
 
-    def worth(self) -> tuple[int, int]:
-        """The less, the better."""
-        return self.pieces, self.worst_nm()
+    def worth(self) -> tuple[int, int, int]:
+        """The less, the better: pieces, then words that aren't met, then nanometres."""
+        worst = greatest(self.deviations, Unit.NM)
+        return self.pieces, len(self.unmet()), worst.amount if worst else 0
 
 
 def construct(drawing: Drawing, equations: Equations, x: Array, free: Freedom,
