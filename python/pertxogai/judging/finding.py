@@ -65,3 +65,15 @@ class Finding:
         for ref in drawing.points():
             if drawing.meetings.leader(ref) in moving:
                 yield ref.shape
+
+
+@dataclass(frozen=True)
+class Nearly:
+    """A relation that a drawing nearly has, by the line that would say so, and by how many degrees
+    or millimetres it is off. is_free: whether nothing tells otherwise, so that the line could be
+    added."""
+
+    line: str
+    off: float
+    unit: str
+    is_free: bool

@@ -23,13 +23,19 @@ ALONG = ((1.0, 0.0), (0.0, 1.0))
 
 @dataclass(frozen=True)
 class Motions:
-    """What still moves. of_the_whole: in how many ways all of it may be moved and turned at once,
-    of three; these are no moves. moves: of each point that stands for those that are one with it.
-    rims: the circles and arcs of which the radius may still change."""
+    """What still moves. whole: how all of it may be moved and turned at once, in three ways at
+    most, each a column of length 1 with how it changes the unknowns; these are no moves. moves: of
+    each point that stands for those that are one with it. rims: the circles and arcs of which the
+    radius may still change."""
 
-    of_the_whole: int
+    whole: Array
     moves: tuple[PointMove, ...] = ()
     rims: tuple[str, ...] = ()
+
+    @property
+    def of_the_whole(self) -> int:
+        """In how many ways all of it may be moved and turned at once."""
+        return int(self.whole.shape[1])
 
 
 def motions(unknowns: Unknowns, x: Array, jacobian: Matrix, free: Sequence[Free]) -> Motions:
@@ -42,7 +48,7 @@ def motions(unknowns: Unknowns, x: Array, jacobian: Matrix, free: Sequence[Free]
              for move in _moves(ref, rows.get(2 * number), rows.get(2 * number + 1),
                                 at.get(2 * number) is at.get(2 * number + 1)))
     rims = (name for name, column in unknowns.column_of.items() if _is_free(rows.get(column)))
-    return Motions(whole.shape[1], tuple(moves), tuple(rims))
+    return Motions(whole, tuple(moves), tuple(rims))
 
 
 # -- the whole

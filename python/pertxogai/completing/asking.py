@@ -1,0 +1,153 @@
+"""What the program says of a completed drawing: whether it is well and placed, and stays so where a
+value is a little more or less."""
+from __future__ import annotations
+
+from collections.abc import Iterator, Sequence
+from dataclasses import dataclass, replace
+from fractions import Fraction
+from time import monotonic
+
+from pertxogai import language
+from pertxogai.drawing import (
+    AngleBetween, Constraint, Degrees, Diameter, Distance, Drawing, Length, PointLineDistance,
+    Radius, XDistance, YDistance)
+from pertxogai.judging import (
+    DrawingRefused, Judgement, Names, PlaceBy, Question, Trial, first_good, judge_at_once)
+from pertxogai.judging.measure import Limit
+from pertxogai.judging.remembering import Remembering
+from pertxogai.judging.trials import written_by
+from pertxogai.judging.within import Wider, within
+from pertxogai.language import NotHeld, Refusal
+from pertxogai.program import Solver, Status
+from pertxogai.program.reports import Solved, Verdict, read_parts
+
+ROOM = (Fraction(101, 100), Fraction(99, 100))
+"""A value is tried so many times as large."""
+ROOM_DEGREES = (Fraction(1, 2), Fraction(-1, 2))
+"""An angle is tried so many degrees more."""
+Valued = (Length, Distance, XDistance, YDistance, PointLineDistance, Radius, Diameter)
+
+
+@dataclass(frozen=True)
+class State:
+    """What the program says of a drawing. lacks: its own count of what is missing, of the spelled
+    sketch. left_out: how many constraints couldn't be spelled. unplaced: how many of its parts have
+    no places; None where that wasn't asked."""
+
+    verdict: Verdict
+    is_placed: bool
+    lacks: int
+    left_out: int
+    unplaced: int | None = None
+
+    @staticmethod
+    def of(trial: Trial) -> State:
+        """What a trial says."""
+        sketch = trial.spelled.sketch
+        return State(trial.verdict, isinstance(trial.solved, Solved),
+                     2 * len(sketch.elements) - 3 - len(sketch.constraints),
+                     len(trial.spelled.left_out))
+
+    def is_better_than(self, before: State) -> bool:
+        """Whether less is missing, and nothing is lost."""
+        if self.verdict is Verdict.OVER or self.left_out > before.left_out:
+            return False
+        if before.unplaced is not None and (self.unplaced or 0) > before.unplaced:
+            return False
+        return self.is_placed or self.verdict is Verdict.OPEN and self.lacks < before.lacks
+
+
+class Asking:
+    """Asks the program about drawings, until so many seconds are over."""
+
+    def __init__(self, program: Solver, limit: Limit, seconds: float) -> None:
+        self._program, self._limit = Remembering(Wider(program, limit)), limit
+        self._end = monotonic() + seconds
+
+    def is_over(self) -> bool:
+        """Whether no more may be asked."""
+        return monotonic() >= self._end
+
+    def state(self, drawing: Drawing, by_parts: bool = False) -> State | None:
+        """What the program says, `by_parts` also of which parts have places; None where it takes no
+        such drawing. Raises ProgramError."""
+        trial = self._trial(drawing)
+        if trial is None:
+            return None
+        state = State.of(trial)
+        if by_parts and not state.is_placed:
+            return replace(state, unplaced=self._unplaced(trial))
+        return state
+
+    def _unplaced(self, trial: Trial) -> int:
+        """How many parts have no places."""
+        if trial.verdict is not Verdict.OPEN:
+            return 1
+        keys = f"place={PlaceBy.POINTS.value}", within(trial.spelled)
+        report = read_parts(
+            written_by(self._program, "parts", trial.spelled.sketch.text(), *keys))
+        return sum(not isinstance(part.shape, Solved) for part in report.parts)
+
+    def better(self, drawing: Drawing, more: Constraint, before: State) -> State | None:
+        """What the program says of a drawing with one constraint more, where less is missing then
+        and nothing is lost, also where its value is a little more or less; else None. Raises
+        ProgramError."""
+        first: State | None = None
+        for constraint in (more, *_near(more)):
+            told = replace(drawing, constraints=(*drawing.constraints, constraint))
+            state = self.state(told, by_parts=True)
+            if state is None or not state.is_better_than(before):
+                return None
+            first = first or state
+        return first
+
+    def good(self, drawing: Drawing) -> Judgement | None:
+        """The judgement on a drawing that is well and placed, and on which each constraint is met;
+        None where it isn't so. Raises ProgramError."""
+        try:
+            judged = judge_at_once(drawing, self._program, limit=self._limit)
+        except (DrawingRefused, Refusal, NotHeld):
+            return None
+        if judged.solution is None or any(self._limit.beyond(judged.deviations)):
+            return None
+        return judged
+
+    def without_room(self, drawing: Drawing, places: range) -> Constraint | None:
+        """Of the constraints of a drawing at some places, from 0, the last by which it has no
+        places where its value is a little more or less: it is no good choice, as it holds only as
+        it was read. Raises ProgramError."""
+        for place in reversed(places):
+            before, after = drawing.constraints[:place], drawing.constraints[place + 1:]
+            for other in _near(drawing.constraints[place]):
+                trial = self._trial(replace(drawing, constraints=(*before, other, *after)))
+                if trial is None or not isinstance(trial.solved, Solved):
+                    return drawing.constraints[place]
+        return None
+
+    def completion(self, drawing: Drawing) -> tuple[Names, Sequence[language.Constraint]] | None:
+        """What the program's own completion adds to the spelled sketch of a drawing, and the names
+        of that; None where it is well, or no completion is found. Raises ProgramError."""
+        trial = self._trial(drawing)
+        if trial is None or trial.verdict is not Verdict.OPEN:
+            return None
+        answer = self._program.ask(("complete",), trial.spelled.sketch.text())
+        if answer.status is not Status.DONE:
+            return None
+        names = Names(drawing, trial.spelled, trial.axes.facts.refs)
+        whole = language.Sketch.parse(answer.text)
+        return names, whole.constraints[len(trial.spelled.sketch.constraints):]
+
+    def _trial(self, drawing: Drawing) -> Trial | None:
+        try:
+            return first_good(Question(drawing, self._program, self._limit))
+        except (DrawingRefused, Refusal, NotHeld):
+            return None
+
+
+def _near(constraint: Constraint) -> Iterator[Constraint]:
+    """The same with its value a little more, and a little less."""
+    if isinstance(constraint, Valued):
+        yield from (replace(constraint, value_um=constraint.value_um * by) for by in ROOM)
+    elif isinstance(constraint, AngleBetween) and isinstance(constraint.value, Degrees):
+        angle = constraint.value.value
+        yield from (replace(constraint, value=Degrees(angle + by)) for by in ROOM_DEGREES)

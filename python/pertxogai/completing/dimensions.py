@@ -1,0 +1,193 @@
+"""The dimensions that a designer may give a placed drawing, with the values that they have there,
+by kind and in the order in which a designer gives them."""
+from __future__ import annotations
+
+from cmath import phase
+from collections.abc import Iterator, Sequence
+from enum import Enum
+from itertools import combinations
+from math import degrees
+
+from pertxogai.completing.figure import Figure, ends
+from pertxogai.completing.values import round_degrees, round_um
+from pertxogai.drawing import (
+    ORIGIN, X_AXIS, Y_AXIS, AngleBetween, Coincident, Constraint, Degrees, Diameter, Distance,
+    Horizontal, Length, Pair, Perpendicular, PointLineDistance, PointOn, PointRef, Radius, Segment,
+    Sense, ShapeRef, Vertical, XDistance, YDistance)
+
+LEAST_UM, LEAST_PART = 1.0, 2e-4
+"""What is shorter, and shorter than this part of the drawing's size, is nothing."""
+LEAST_DEGREES = 0.5
+"""Edges that run nearer to each other make no angle."""
+SLANT = 1e-6
+"""An edge is slanted that rises by more than this part of its length."""
+MOST_EACH = 2000
+"""The most dimensions of a kind that are looked at."""
+
+
+class Kind(Enum):
+    """What a dimension tells."""
+
+    SIZE = "size"
+    """The diameter of a circle, the radius of an arc."""
+    LENGTH = "length"
+    """The length of an edge."""
+    RUN = "run"
+    """x or y of a point."""
+    HEIGHT = "height"
+    """The distance of a point from an edge."""
+    APART = "apart"
+    """The distance of two points."""
+    ANGLE = "angle"
+    """The angle of two edges, or of an edge and the x axis."""
+
+
+ORDERS = (
+    (Kind.SIZE, Kind.LENGTH, Kind.RUN, Kind.HEIGHT, Kind.APART, Kind.ANGLE),
+    (Kind.SIZE, Kind.RUN, Kind.LENGTH, Kind.HEIGHT, Kind.APART, Kind.ANGLE),
+    (Kind.RUN, Kind.HEIGHT, Kind.LENGTH, Kind.SIZE, Kind.APART, Kind.ANGLE),
+)
+"""The orders of kinds, as they are tried."""
+
+
+def dimensions(figure: Figure, kind: Kind, base: PointRef) -> Iterator[Constraint]:
+    """Those of a kind; x and y are told from the base, which is the origin or a point."""
+    match kind:
+        case Kind.SIZE:
+            yield from _sizes(figure)
+        case Kind.LENGTH:
+            yield from _lengths(figure)
+        case Kind.RUN:
+            yield from runs(figure, base, figure.points)
+        case Kind.HEIGHT:
+            yield from _heights(figure)
+        case Kind.APART:
+            yield from _distances(figure)
+        case Kind.ANGLE:
+            yield from _angles(figure)
+
+
+def _sizes(figure: Figure) -> Iterator[Constraint]:
+    for circle in figure.circles:
+        yield Diameter(ShapeRef(circle.name), round_um(2 * figure.radius_um(circle)))
+    for arc in figure.arcs:
+        yield Radius(ShapeRef(arc.name), round_um(figure.radius_um(arc)))
+
+
+def _lengths(figure: Figure) -> Iterator[Constraint]:
+    """The level edges first."""
+    def is_slanted(edge: Segment) -> bool:
+        way = figure.way(edge)
+        return min(abs(way.real), abs(way.imag)) > SLANT * abs(way)
+
+    for edge in sorted(figure.edges, key=is_slanted):
+        yield Length(ShapeRef(edge.name), round_um(figure.length_um(edge)))
+
+
+def runs(figure: Figure, base: PointRef, points: Sequence[PointRef]) -> Iterator[Constraint]:
+    """x and y of some points from a base: that one is level with it where that is nothing."""
+    at = 0j if base == ORIGIN else figure.at(base)
+    for point in points:
+        if point != base:
+            yield from _runs(base, point, figure.at(point) - at, nothing_um(figure))
+
+
+def _runs(base: PointRef, point: PointRef, way: complex, nothing: float) -> Iterator[Constraint]:
+    """x and y of a point that lies so from the base, in micrometres."""
+    if abs(way.real) > nothing:
+        yield XDistance(base, point, round_um(abs(way.real)))
+    else:
+        yield PointOn(point, Y_AXIS) if base == ORIGIN else Vertical(Pair(base, point))
+    if abs(way.imag) > nothing:
+        yield YDistance(base, point, round_um(abs(way.imag)))
+    else:
+        yield PointOn(point, X_AXIS) if base == ORIGIN else Horizontal(Pair(base, point))
+
+
+def nothing_um(figure: Figure) -> float:
+    """What is no longer is nothing, in micrometres."""
+    return max(LEAST_UM, LEAST_PART * figure.size_um)
+
+
+def _heights(figure: Figure) -> Iterator[Constraint]:
+    """From the longest edges first."""
+    longest_first = sorted(figure.edges, key=lambda edge: -figure.length_um(edge))
+    pairs = ((point, edge) for edge in longest_first for point in figure.points)
+    for _, (point, edge) in zip(range(MOST_EACH), pairs):
+        height = height_of(figure, point, edge)
+        if isinstance(height, PointLineDistance):
+            yield height
+
+
+def height_of(figure: Figure, point: PointRef, edge: Segment) -> Constraint:
+    """How far a point lies from an edge: that it lies on it where that is nothing."""
+    off_um = figure.off_um(point, edge)
+    if off_um > nothing_um(figure):
+        return PointLineDistance(point, ShapeRef(edge.name), round_um(off_um))
+    return PointOn(point, ShapeRef(edge.name))
+
+
+def _distances(figure: Figure) -> Iterator[Constraint]:
+    """Those of the nearest points first."""
+    pairs = zip(range(MOST_EACH), combinations(figure.points, 2))
+    nearest_first = sorted((figure.apart_um(*pair), place, pair) for place, pair in pairs)
+    for apart_um, _, (first, second) in nearest_first:
+        if apart_um > nothing_um(figure):
+            yield Distance(first, second, round_um(apart_um))
+
+
+def _angles(figure: Figure) -> Iterator[Constraint]:
+    """Those of a corner first, then those of other edges."""
+    pairs = [pair for _, pair in zip(range(MOST_EACH), combinations(figure.edges, 2))]
+    for is_corner in (True, False):
+        for first, second in pairs:
+            if (figure.corner(first, second) is not None) is is_corner:
+                yield from angles_of(figure, first, second)
+
+
+def angles_of(figure: Figure, first: Segment, second: Segment) -> Iterator[Constraint]:
+    """The angle as on paper: of the corner that two edges share, else the acute one; none where
+    they run one way."""
+    corner, angle = figure.corner(first, second), abs(figure.turn(first, second))
+    if corner is None:
+        angle = min(angle, 180 - angle)
+    elif corner[0].which is not corner[1].which:
+        angle = 180 - angle
+    if LEAST_DEGREES < angle < 180 - LEAST_DEGREES:
+        lines = ShapeRef(first.name), ShapeRef(second.name)
+        rounded = round_degrees(angle)
+        yield Perpendicular(*lines) if rounded == 90 else AngleBetween(*lines, Degrees(rounded))
+
+
+# -- what ties the whole
+
+
+def ties(drawn: Figure) -> Iterator[list[Constraint]]:
+    """What may tie the whole to the axes and the origin as it is drawn: directions of edges, the
+    longest first; the place of a point that is drawn at the origin, or of the base; where it would
+    turn about that, the place of the farthest point; the places of all others."""
+    longest_first = sorted(drawn.edges, key=lambda edge: -drawn.length_um(edge))
+    nothing = nothing_um(drawn)
+    base = next((ref for ref in drawn.points if abs(drawn.at(ref)) <= nothing), base_of(drawn))
+    farthest = max(drawn.points, key=lambda ref: drawn.apart_um(base, ref))
+    there = [Coincident(base, ORIGIN)] if abs(drawn.at(base)) <= nothing else []
+    yield [*(direction(drawn, edge) for edge in longest_first), *there,
+           *runs(drawn, ORIGIN, [base]), *runs(drawn, base, [farthest])]
+    yield list(runs(drawn, ORIGIN, drawn.points))
+
+
+def direction(figure: Figure, edge: Segment) -> Constraint:
+    """The direction of an edge against the x axis: with a sign, as it runs."""
+    line, turn = ShapeRef(edge.name), round_degrees(degrees(phase(figure.way(edge))))
+    if turn % 180 == 0:
+        return Horizontal(line)
+    if turn % 90 == 0:
+        return Vertical(line)
+    return AngleBetween(X_AXIS, line, Degrees(turn), Sense.SIGNED)
+
+
+def base_of(figure: Figure) -> PointRef:
+    """The point that others are told from where the origin isn't: the lowest on the left, of
+    edges where there are any."""
+    corners = [end for edge in figure.edges for end in ends(edge)]
+    return min(corners or figure.points, key=lambda ref: figure.at(ref).real + figure.at(ref).imag)

@@ -1,0 +1,96 @@
+"""A placed drawing in floats, as one looks at it: points, ways, corners. A place or a way is a
+complex number, x + y i, in micrometres; an angle is in degrees."""
+from __future__ import annotations
+
+from cmath import phase
+from collections.abc import Iterator
+from math import degrees
+
+from pertxogai.drawing import (
+    Arc, Circle, Drawing, PointRef, Segment, ShapeRef, Which, points_of)
+
+LEAST_UM = 1.0
+"""An edge that is shorter has no direction."""
+
+
+class Figure:
+    """The shapes of a drawing that aren't outer, and where they lie. size_um: the greatest of the
+    width and the height over its points, and of the diameters."""
+
+    def __init__(self, placed: Drawing) -> None:
+        self.drawing = placed
+        own = [shape for shape in placed.geometry if not shape.outer]
+        self.edges = [shape for shape in own
+                      if isinstance(shape, Segment) and self.length_um(shape) >= LEAST_UM]
+        self.circles = [shape for shape in own if isinstance(shape, Circle)]
+        self.arcs = [shape for shape in own if isinstance(shape, Arc)]
+        self.points = tuple(self._points())
+        places = [self.at(ref) for ref in self.points] or [0j]
+        widths = [max(values) - min(values) for values in (
+            [place.real for place in places], [place.imag for place in places])]
+        rims: list[Circle | Arc] = [*self.circles, *self.arcs]
+        self.size_um = max(*widths, *(2 * self.radius_um(rim) for rim in rims))
+
+    def _points(self) -> Iterator[PointRef]:
+        """The points of the shapes, centres before others; of those that are one the first."""
+        own = (ref for shape in self.drawing.geometry if not shape.outer
+               for ref in points_of(shape))
+        seen: set[PointRef] = set()
+        for ref in sorted(own, key=lambda ref: ref.which is not Which.CENTRE):
+            if self.leader(ref) not in seen:
+                seen.add(self.leader(ref))
+                yield ref
+
+    def leader(self, ref: PointRef) -> PointRef:
+        """The one that stands for the points that are told to be one with a point."""
+        return self.drawing.meetings.leader(ref)
+
+    def at(self, ref: PointRef) -> complex:
+        """Where a point lies."""
+        place = self.drawing.meetings.drawn(ref)
+        return complex(place.x_um, place.y_um)
+
+    def way(self, edge: Segment) -> complex:
+        """The way from an edge's start to its end."""
+        start, end = ends(edge)
+        return self.at(end) - self.at(start)
+
+    def length_um(self, edge: Segment) -> float:
+        """How long an edge is."""
+        return abs(self.way(edge))
+
+    def apart_um(self, first: PointRef, second: PointRef) -> float:
+        """How far two points are apart."""
+        return abs(self.at(second) - self.at(first))
+
+    def beside(self, point: PointRef, edge: Segment) -> complex:
+        """Where a point lies seen along an edge from its start: the real part says how far along
+        it, in its lengths, and the imaginary part how far to the left of it."""
+        return (self.at(point) - self.at(ends(edge)[0])) / self.way(edge)
+
+    def off_um(self, point: PointRef, edge: Segment) -> float:
+        """How far a point lies off the line of an edge."""
+        return abs(self.beside(point, edge).imag) * self.length_um(edge)
+
+    def radius_um(self, rim: Circle | Arc) -> float:
+        """The radius of a circle or an arc."""
+        return float(self.drawing.drawn_radius_um(rim.name))
+
+    def turn(self, first: Segment, second: Segment) -> float:
+        """By how much the first edge has to turn to the left to run as the second."""
+        return degrees(phase(self.way(second) / self.way(first)))
+
+    def corner(self, first: Segment, second: Segment) -> tuple[PointRef, PointRef] | None:
+        """The ends of two edges that are one point, if any."""
+        pair = self.drawing.meetings.corner(ShapeRef(first.name), ShapeRef(second.name))
+        return (pair.first, pair.second) if pair else None
+
+
+def ends(edge: Segment | Arc) -> tuple[PointRef, PointRef]:
+    """The start and the end of an edge."""
+    return PointRef(edge.name, Which.START), PointRef(edge.name, Which.END)
+
+
+def centre(rim: Circle | Arc) -> PointRef:
+    """The centre of a circle or an arc."""
+    return PointRef(rim.name, Which.CENTRE)

@@ -1,0 +1,210 @@
+"""What completes a drawing: what is proposed, in which words, what it fixes, and why nothing is.
+
+The expected lines are a hand's: what a designer would give of each, in the order of the kinds:
+first relations that the drawing nearly has, then sizes, lengths, x and y, heights, distances,
+angles."""
+from __future__ import annotations
+
+from dataclasses import replace
+from fractions import Fraction
+from pathlib import Path
+from random import Random
+
+import pytest
+
+from pertxogai.completing import Completion, NoProposal, WhyNot, complete, nearly
+from pertxogai.completing.asking import Asking
+from pertxogai.completing.choosing import TASTES, choose, with_more
+from pertxogai.completing.figure import Figure
+from pertxogai.completing.relations import relations
+from pertxogai.completing.slack import Slack
+from pertxogai.completing.values import round_degrees, round_um
+from pertxogai.drawing import (
+    AngleBetween, Coincident, Concentric, Diameter, Distance, Drawing, Length, PointLineDistance,
+    Radius, XDistance, YDistance, line_of, read_drawing, words_of)
+from pertxogai.judging.measure import Limit
+from pertxogai.program.reports import Verdict
+from pertxogai.search.searched import Searched
+
+TESTS = Path(__file__).parent
+GALLERY = sorted((TESTS / "drawings").glob("*.drawing"))
+OPEN = [path for path in GALLERY if path.read_text().startswith("# expect open")]
+WELL = [path for path in GALLERY if path.read_text().startswith("# expect well")]
+BEYOND = sorted((TESTS / "beyond_triangles").glob("*.drawing"))
+DIMENSIONS = (Length, Distance, XDistance, YDistance, PointLineDistance, Radius, Diameter,
+              AngleBetween)
+
+PLATE = "rectangle Plate 0 0 80 50\ncoincident PlateBottom.start Origin\n"
+LOOSE = "segment A 0 0 40 0.3\nsegment B A.end 40.2 30\n"
+
+
+# -- values
+
+@pytest.mark.parametrize("value_um, written_um", [
+    (40_000.4, 40_000), (39_996.1, 40_000), (12_344.9, 12_340), (300.6, 300), (104.2, 104),
+    (1.4, 1), (0.2, 1)])
+def test_a_length_is_written_to_a_hundredth_of_a_millimetre_where_that_is_near(value_um,
+                                                                              written_um):
+    assert round_um(value_um) == written_um
+
+
+@pytest.mark.parametrize("value, written", [
+    (59.9999, 60), (44.994, Fraction("44.99")), (-7.1251, Fraction("-7.13"))])
+def test_an_angle_is_written_to_a_hundredth_of_a_degree(value, written):
+    assert round_degrees(value) == written
+
+
+# -- relations
+
+@pytest.mark.parametrize("text, lines", [
+    ("segment A 0 0 40 0.6\n", ["horizontal A"]),  # 0.86 degrees.
+    ("segment A 0 0 40 0.8\n", []),  # 1.15 degrees.
+    ("segment A 0 0 0.5 40\n", ["vertical A"]),
+    ("segment A 0 0 40 20\nsegment B A.end 20 60\n", ["perpendicular A B", "equal A B"]),
+    ("segment A 0 0 40 20\nsegment B 5 30 25 40.2\n", ["parallel A B"]),
+    ("circle C 0 0 5\ncircle D 30 10 5.04\n", ["equal C D"]),
+    ("circle C 0 0 5\ncircle D 30 10 5.06\n", []),
+    ("circle C 0 0 5\ncircle D 9 6 5.8\n", ["tangent C D"]),  # 10.817 apart, 10.8 for both radii.
+    ("circle C 0 0 5\nsegment A -20 3.26 20 6.76\n", ["tangent A C"]),  # 4.991 off.
+    ("circle C 0 0 5\nsegment A -20 3 20 6.5\n", []),  # 4.732 off.
+    ("segment A 0 0 40 20\nsegment B 40.01 20 60 70\n", ["coincident A.end B.start"]),
+    ("circle C 0 0 5\ncircle D 0.01 0 9\n", ["concentric C D"]),
+    ("segment A 0 0 40 20\npoint P 20 10.01\n", ["on P A"]),
+])
+def test_relations_that_are_nearly_so(text, lines):
+    found = relations(Figure(read_drawing(text)))
+    assert [words_of(each.constraint) for each in found] == lines
+
+
+# -- what is chosen, by rank alone
+
+@pytest.mark.parametrize("text, own, datum", [
+    # A plate of which nothing is told but the corner: both lengths.
+    (PLATE, ["length PlateBottom 80", "length PlateRight 50"], []),
+    # Two edges that are nearly square: one level, one upright, then both lengths, then the place.
+    # The ends of A come together halfway in y, to 0.15, and then those of B in x, to 40.1.
+    (LOOSE, ["horizontal A", "vertical B", "length A 40.1", "length B 29.85"],
+     ["coincident A.start Origin"]),
+    # Two holes of one size on one level, in a plate that stands.
+    (PLATE + "fixed PlateTop.start\ncircle H 20 25 4\ncircle K 60.1 25.2 4.01\n",
+     ["horizontal H.centre K.centre", "equal H K", "diameter H 8.01", "x H.centre 20",
+      "y H.centre 25.1", "x K.centre 60.1"], []),
+    # A lone circle: its size, and where it lies.
+    ("circle C 12 5 3\n", ["diameter C 6"], ["x C.centre 12", "y C.centre 5"]),
+    # An edge of a given length that leans by 30 degrees: its direction, and the place of an end.
+    ("segment A 2 1 19.32 11\nlength A 20\n", [],
+     ["angle A +30deg", "x A.start 2", "y A.start 1"]),
+])
+def test_what_a_designer_would_give(text, own, datum):
+    slack = Slack.of(read_drawing(text))
+    choice = choose(slack, TASTES[0])
+    assert [words_of(each) for each in choice.own] == own
+    assert [words_of(each) for each in choice.datum] == datum
+
+
+def test_the_order_of_kinds_decides():
+    slack = Slack.of(read_drawing(PLATE))
+    chosen = [[words_of(each) for each in choose(slack, taste).own] for taste in TASTES[1:]]
+    assert chosen == [["length PlateBottom 80", "length PlateRight 50"],
+                      ["x PlateBottom.end 80", "y PlateRight.end 50"],
+                      ["x PlateBottom.end 80", "y PlateRight.end 50"]]
+
+
+def test_what_is_refused_is_told_otherwise():
+    slack = Slack.of(read_drawing(PLATE))
+    taste = TASTES[0].without(read_drawing(PLATE + "length PlateBottom 80\n").constraints[-1])
+    assert [words_of(each) for each in choose(slack, taste).own] == [
+        "length PlateRight 50", "length PlateTop 80"]
+
+
+# -- what the program says of it
+
+@pytest.mark.parametrize("path", OPEN, ids=lambda path: path.stem)
+def test_an_open_drawing_comes_to_well(path, program):
+    drawing = read_drawing(path.read_text())
+    found = complete(drawing, program)
+    assert isinstance(found, Completion)
+    assert found.judgement.verdict is Verdict.WELL and found.judgement.solution is not None
+    lines = [each.line() for each in found.all()]
+    # Points that are made one lose two freedoms by one line.
+    takes = [2 if isinstance(each.constraint, Coincident | Concentric) else 1
+             for each in found.all()]
+    assert sum(takes) == Searched(drawing).freedom.count and len(lines) == len(set(lines))
+    assert not set(lines) & set(drawing.wordings)
+    assert found.drawing.constraints[:len(drawing.constraints)] == drawing.constraints
+    assert Searched(found.drawing).freedom.count == 0
+    assert all(each.fixes for each in found.all())
+
+
+@pytest.mark.parametrize("path", WELL[::5], ids=lambda path: path.stem)
+def test_a_third_of_the_dimensions_taken_away_comes_back_to_well(path, program):
+    drawing = read_drawing(path.read_text())
+    dimensions = [each for each in drawing.constraints if isinstance(each, DIMENSIONS)]
+    gone = Random(path.stem).sample(dimensions, -(-len(dimensions) // 3))
+    left = tuple(each for each in drawing.constraints if each not in gone)
+    found = complete(replace(drawing, constraints=left), program)
+    if isinstance(found, NoProposal):
+        assert found.why is WhyNot.NOTHING and not Searched(drawing).freedom.count
+    else:
+        assert found.judgement.verdict is Verdict.WELL and found.judgement.solution is not None
+
+
+@pytest.mark.parametrize("text, why", [
+    (PLATE + "length PlateBottom 80\nlength PlateRight 50\n", WhyNot.NOTHING),
+    (PLATE + "length PlateBottom 80\nlength PlateTop 80\n", WhyNot.OVER),
+    ("segment A 0 0 10 0\nsegment B A.end 15 8\nsegment C B.end A.start\n"
+     "length A 10\nlength B 10\nlength C 30\n", WhyNot.NO_PLACES),
+    ("", WhyNot.NOTHING)])
+def test_why_nothing_is_proposed(text, why, program):
+    found = complete(read_drawing(text), program)
+    assert isinstance(found, NoProposal) and found.why is why
+
+
+def test_what_is_rigid_beyond_triangles_lacks_nothing(program):
+    frame = (TESTS / "beyond_triangles/frame-of-nine-bars.drawing").read_text()
+    found = complete(read_drawing(frame), program)
+    # It floats, so that what would tie it is free; the program finds no construction with that.
+    assert isinstance(found, NoProposal) and found.why is WhyNot.STUCK
+
+
+def test_what_each_line_fixes(program):
+    found = complete(read_drawing(PLATE), program)
+    assert [(each.line(), each.fixes) for each in found.proposals] == [
+        ("length PlateBottom 80", ("PlateBottom.end", "PlateRight.end along x")),
+        ("length PlateRight 50", ("PlateRight.end", "PlateTop.end"))]
+
+
+def test_a_value_that_leaves_no_room_is_given_up_for_another(program):
+    # A triangle that is drawn flat: its third length has no room, an angle or a height has.
+    text = ("segment A 0 0 30 0\nsegment B A.end 70 0.2\nsegment C B.end A.start\n"
+            "length A 30\nlength B 40\n")
+    drawing = read_drawing(text)
+    tight = read_drawing(text + "length C 70\n")
+    asking = Asking(program, Limit(), 60.0)
+    assert asking.without_room(tight, range(2, 3)) == tight.constraints[-1]
+    found = complete(drawing, program)
+    assert isinstance(found, Completion)
+    assert "length C" not in " ".join(each.line() for each in found.all())
+
+
+def test_what_is_nearly_so_and_free_or_told_otherwise():
+    # A leans by 0.43 degrees, and its ends are told so: nothing of it is free.
+    text = "segment A 0 0 40 0.3\nfixed A\nsegment B 0 10 40 10.2\n"
+    found = [(each.line, round(each.off, 3), each.unit, each.is_free)
+             for each in nearly(read_drawing(text))]
+    assert found == [("horizontal A", 0.43, "degrees", False),
+                     ("horizontal B", 0.286, "degrees", True),
+                     ("parallel A B", 0.143, "degrees", True),
+                     ("equal A B", 0.001, "mm", True)]
+
+
+def test_what_follows_is_not_nearly_so():
+    assert nearly(read_drawing(PLATE + "length PlateBottom 80\nlength PlateRight 50\n")) == ()
+
+
+def test_lines_are_added_behind_the_drawing_with_its_notes():
+    drawing = read_drawing("# a plate\n" + PLATE + "# its end\n")
+    more = read_drawing(PLATE + "length PlateBottom 80\n").constraints[-1:]
+    assert with_more(drawing, more).notes == drawing.notes
+    assert line_of(with_more(drawing, more).constraints[-1]) == "length PlateBottom 80"
+    assert isinstance(drawing, Drawing) and BEYOND
