@@ -6,6 +6,7 @@ from dataclasses import dataclass
 from enum import Enum
 
 from pertxogai.drawing import Constraint, Drawing
+from pertxogai.judging.measure import Solution
 
 
 class FileRefusal(Exception):
@@ -62,3 +63,13 @@ class FileSketch:
     numbers: tuple[int, ...] = ()
     left_out: tuple[LeftOut, ...] = ()
     aside: tuple[NotDriving, ...] = ()
+
+
+@dataclass(frozen=True)
+class Addition:
+    """What is written into a sketch of a file besides what stands there: the drawing with it, which
+    constraints at the end of that it is, and where the drawing lies with it."""
+
+    drawing: Drawing
+    added: tuple[Constraint, ...]
+    solution: Solution

@@ -6,7 +6,7 @@ from dataclasses import dataclass
 from pathlib import Path
 
 from pertxogai.drawing import Drawing, DrawingRefusal, read_drawing
-from pertxogai.files.contents import FileRefusal, FileSketch
+from pertxogai.files.contents import Addition, FileRefusal, FileSketch
 from pertxogai.files.limits import TEXT_BYTES, read_bytes
 from pertxogai.files.printable import printable
 from pertxogai.judging.good import GoodJudgement
@@ -43,13 +43,15 @@ Input = SketchText | DesignerDrawing
 
 @dataclass(frozen=True)
 class Kind:
-    """A kind of file: the ending of its name, what it is, what reads it, and what copies it with
-    good sketches. What reads it has the limits of `limits`."""
+    """A kind of file: the ending of its name, what it is, what reads it, what copies it with good
+    sketches, and what copies it with more constraints and the places that meet them. What reads it
+    has the limits of `limits`."""
 
     suffix: str
     what: str
     read: Callable[[Path], tuple[Input, ...]]
     write: Callable[[Path, Path, Mapping[str, GoodJudgement]], None] | None = None
+    add: Callable[[Path, Path, Mapping[str, Addition]], None] | None = None
 
 
 def kind_of(path: Path) -> Kind | None:
@@ -124,16 +126,29 @@ def _write_freecad(path: Path, out: Path, good: Mapping[str, GoodJudgement]) -> 
     write_freecad(path, out, good)
 
 
+def _add_freecad(path: Path, out: Path, additions: Mapping[str, Addition]) -> None:
+    from pertxogai.files.freecad.writing import write_additions
+
+    write_additions(path, out, additions)
+
+
 def _write_solvespace(path: Path, out: Path, good: Mapping[str, GoodJudgement]) -> None:
     from pertxogai.files.solvespace.writing import write_solvespace
 
     write_solvespace(path, out, good)
 
 
+def _add_solvespace(path: Path, out: Path, additions: Mapping[str, Addition]) -> None:
+    from pertxogai.files.solvespace.writing import write_additions
+
+    write_additions(path, out, additions)
+
+
 KINDS = (
     Kind(".sketch", "the sketch language", _read_sketch),
     Kind(".drawing", "a designer's drawing", _read_drawing),
-    Kind(".FCStd", "FreeCAD", _read_freecad, _write_freecad),
-    Kind(".slvs", "SolveSpace", _read_solvespace, _write_solvespace),
+    Kind(".FCStd", "FreeCAD", _read_freecad, _write_freecad, _add_freecad),
+    Kind(".slvs", "SolveSpace", _read_solvespace, _write_solvespace,
+         _add_solvespace),
     Kind(".dxf", "a DXF drawing", _read_outline),
 )

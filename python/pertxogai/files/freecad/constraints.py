@@ -62,7 +62,7 @@ _WORDS = {
     Kind.WEIGHT: "a spline's weight",
 }
 _NO_SHAPE = -2000
-_X_NUMBER, _Y_NUMBER = -1, -2
+X_NUMBER, Y_NUMBER = -1, -2
 
 
 @dataclass(frozen=True)
@@ -139,7 +139,7 @@ class Shapes:
 
     def point(self, end: End) -> PointRef:
         """The point of a place."""
-        if end.shape in (_X_NUMBER, _Y_NUMBER) and end.position is Position.START:
+        if end.shape in (X_NUMBER, Y_NUMBER) and end.position is Position.START:
             return ORIGIN
         shape = self._shape(end)
         which = _WHICH.get((type(shape), end.position))
@@ -149,8 +149,8 @@ class Shapes:
 
     def line(self, end: End) -> ShapeRef:
         """The segment or axis of a place."""
-        if end.shape in (_X_NUMBER, _Y_NUMBER):
-            return X_AXIS if end.shape == _X_NUMBER else Y_AXIS
+        if end.shape in (X_NUMBER, Y_NUMBER):
+            return X_AXIS if end.shape == X_NUMBER else Y_AXIS
         shape = self._shape(end)
         if not isinstance(shape, Segment):
             raise NotSayable(f"{shape.name} is no segment")
@@ -158,7 +158,7 @@ class Shapes:
 
     def rim(self, end: End) -> ShapeRef:
         """The circle or arc of a place."""
-        shape = None if end.shape in (_X_NUMBER, _Y_NUMBER) else self._shape(end)
+        shape = None if end.shape in (X_NUMBER, Y_NUMBER) else self._shape(end)
         if not isinstance(shape, (Circle, Arc)):
             raise NotSayable(f"{shape.name if shape else 'an axis'} is no circle or arc")
         return ShapeRef(shape.name)

@@ -74,6 +74,13 @@ def _name(count: int, word: str) -> str:
     return f"{word}{count + 1}" if count >= 0 else f"Outer{FIRST_OUTER - count + 1}"
 
 
+def number_of(name: str) -> int:
+    """FreeCAD's number of the shape that the drawing calls so."""
+    digits = len(name) - len(name.rstrip("0123456789"))
+    word, count = name[:-digits], int(name[-digits:])
+    return FIRST_OUTER + 1 - count if word == "Outer" else count - 1
+
+
 def body_of(node: Node) -> Node:
     """The element of a shape's entry that has the numbers. Raises Unsaid where there is none."""
     for child in node.children:

@@ -1,7 +1,8 @@
-"""Placed coordinates written back into a copy of a FreeCAD file.
+"""Placed coordinates, and constraints that are added, written into a copy of a FreeCAD file.
 
-The numbers of the sketch's own shapes change, in `Document.xml`; every other byte of that and
-every other member of the zip stays as it is. FreeCAD finds the edges anew when it recomputes.
+The numbers of the sketch's own shapes change, and its list of constraints grows at its end, in
+`Document.xml`; every other byte of that and every other member of the zip stays as it is. FreeCAD
+finds the edges anew when it recomputes.
 """
 
 from __future__ import annotations
@@ -12,13 +13,15 @@ import re
 from collections.abc import Mapping
 from decimal import Decimal
 from fractions import Fraction
+from itertools import repeat
 from pathlib import Path
 from typing import IO
 from zipfile import ZipFile
 
 from pertxogai.drawing import Arc, Circle, Point, PointRef, Segment, Shape, Which
 from pertxogai.files.atomic import written_whole
-from pertxogai.files.contents import FileRefusal
+from pertxogai.files.contents import Addition, FileRefusal
+from pertxogai.files.freecad.adding import addition_tag
 from pertxogai.files.freecad.archive import DOCUMENT, open_archive, pieces_of, read_member
 from pertxogai.files.freecad.markup import Kept, Node
 from pertxogai.files.freecad.reading import SKETCH, objects_of
@@ -31,6 +34,7 @@ MOST_WRITTEN = 1 << 30
 """The most bytes, unpacked, of a file that is copied."""
 
 _TAG = re.compile(rb"<(?:[^\"'>]|\"[^\"]*\"|'[^']*')*>")
+_LIST_END = b"</ConstraintList>"
 _NM_PER_MM = 10 ** 6
 _DIGITS = 16
 
@@ -50,29 +54,73 @@ def write_places(path: Path, out: Path, solutions: Mapping[str, Solution]) -> No
 
     Raises FileRefusal where the file can't be read or copied, and where `out` is the file.
     """
+    _write(path, out, solutions, {})
+
+
+def write_additions(path: Path, out: Path, additions: Mapping[str, Addition]) -> None:
+    """Copies a file to `out` with constraints more in each sketch that is named, and its shapes
+    where they lie with these. Raises FileRefusal as `write_places`."""
+    _write(path, out, {name: each.solution for name, each in additions.items()}, additions)
+
+
+def _write(path: Path, out: Path, solutions: Mapping[str, Solution],
+           additions: Mapping[str, Addition]) -> None:
     with open_archive(path) as archive:
         document = read_member(path, archive, DOCUMENT)
         if sum(info.file_size for info in archive.infolist()) > MOST_WRITTEN:
             raise FileRefusal(f"{path}: has more than {MOST_WRITTEN >> 30} GB: too much to copy")
-        changed = _changed(path, document, solutions)
+        changed = _changed(path, document, solutions, additions)
         with written_whole(out, path) as stream:
             _copy(path, archive, stream, changed)
 
 
-def _changed(path: Path, document: bytes, solutions: Mapping[str, Solution]) -> bytes:
-    """The document with the shapes of the named sketches placed anew."""
+def _changed(path: Path, document: bytes, solutions: Mapping[str, Solution],
+             additions: Mapping[str, Addition]) -> bytes:
+    """The document with the shapes of the named sketches placed anew, and with what is added."""
     edits: dict[int, Written] = {}
+    lists: dict[int, bytes] = {}
     for kept in objects_of(path, document):
         if kept.kind == SKETCH and kept.name in solutions:
             edits.update(_edits(kept, upright(solutions[kept.name])))
+        if kept.kind == SKETCH and kept.name in additions:
+            begin, count = _list_of_constraints(path, kept)
+            addition = additions[kept.name]
+            edits[begin] = {"count": str(count + len(addition.added))}
+            lists[begin] = b"".join(map(addition_tag, repeat(addition.drawing), addition.added))
     pieces, done = [], 0
     for begin, values in sorted(edits.items()):
         tag = _TAG.match(document, begin)
         if tag is None:
-            raise FileRefusal(f"{path}: its {DOCUMENT} is written otherwise than FreeCAD does")
+            raise _written_otherwise(path)
         pieces += [document[done:begin], _rewritten(tag.group(), values)]
         done = tag.end()
+        if begin in lists:
+            pieces[-1], end = _opened(path, pieces[-1], document, done)
+            pieces += [document[done:end], lists[begin], _LIST_END]
+            done = end + len(_LIST_END) * document.startswith(_LIST_END, end)
     return b"".join([*pieces, document[done:]])
+
+
+def _list_of_constraints(path: Path, kept: Kept) -> tuple[int, int]:
+    """The byte where a sketch's list of constraints begins, and how many there are."""
+    held = kept.properties.get("Constraints")
+    if held is None or not held.children:
+        raise _written_otherwise(path)
+    return held.children[0].begin, len(held.children[0].children)
+
+
+def _opened(path: Path, tag: bytes, document: bytes, done: int) -> tuple[bytes, int]:
+    """A list's tag that has an end, and the byte where its entries end."""
+    if tag.endswith(b"/>"):
+        return tag[:-2].rstrip() + b">", done
+    end = document.find(_LIST_END, done)
+    if end < 0:
+        raise _written_otherwise(path)
+    return tag, end
+
+
+def _written_otherwise(path: Path) -> FileRefusal:
+    return FileRefusal(f"{path}: its {DOCUMENT} is written otherwise than FreeCAD does")
 
 
 def _edits(kept: Kept, solution: Solution) -> dict[int, Written]:

@@ -55,8 +55,8 @@ _OTHERS = {
     210: "arc-arc-length-ratio", 211: "arc-line-length-ratio", 212: "arc-arc-len-difference",
     213: "arc-line-len-difference",
 }
-_X_PLANE, _Y_PLANE = 0x00020000, 0x00030000
-_X_NORMAL, _Y_NORMAL = 0x00020020, 0x00030020
+X_PLANE, Y_PLANE = 0x00020000, 0x00030000
+X_NORMAL, Y_NORMAL = 0x00020020, 0x00030020
 
 
 @dataclass(frozen=True)
@@ -115,15 +115,15 @@ class Plane:
 
     def axis(self, handle: int) -> ShapeRef:
         """The axis that a reference plane shows as in this plane."""
-        if not self._level or handle not in (_X_PLANE, _Y_PLANE):
+        if not self._level or handle not in (X_PLANE, Y_PLANE):
             raise NotSayable("it speaks of a plane that is no axis of this drawing")
-        return Y_AXIS if handle == _X_PLANE else X_AXIS
+        return Y_AXIS if handle == X_PLANE else X_AXIS
 
     def along(self, handle: int) -> ShapeRef:
         """The axis along which the normal of a reference plane runs."""
-        if not self._level or handle not in (_X_NORMAL, _Y_NORMAL):
+        if not self._level or handle not in (X_NORMAL, Y_NORMAL):
             raise NotSayable("it is projected on a line that is no axis of this drawing")
-        return X_AXIS if handle == _X_NORMAL else Y_AXIS
+        return X_AXIS if handle == X_NORMAL else Y_AXIS
 
     def _shape(self, handle: int, *kinds: Request) -> Drawn:
         found = self._shapes.get(handle)

@@ -9,6 +9,7 @@ from pertxogai.files.builder import DrawingBuilder
 from pertxogai.files.contents import (
     FileRefusal, FileSketch, NotDriving, NotDrivingCause, NotSayable)
 from pertxogai.files.limits import SKETCH_ENTRIES, Count, TooMuch
+from pertxogai.files.solvespace.adding import Handles
 from pertxogai.files.solvespace.constraints import COMMENT, Plane, Touch, name_of, say
 from pertxogai.files.solvespace.records import Record, read_lines, records
 from pertxogai.files.solvespace.shapes import Drawn, drawn, shape
@@ -87,6 +88,13 @@ def requests_of(group: Record, contents: Contents) -> list[Record]:
 def name_of_group(group: Record) -> str:
     """What the sketch of a group is called: g002."""
     return f"g{group.handle('h.v'):03x}"
+
+
+def handles_of(group: Record, contents: Contents) -> Handles:
+    """SolveSpace's numbers of a sketch."""
+    shapes = _shapes(group, contents, DrawingBuilder())
+    return Handles(group.handle("h.v"), group.handle("activeWorkplane.v"),
+                   {one.name: one for one in shapes}, _is_level(group))
 
 
 def _sketch(group: Record, contents: Contents) -> FileSketch:

@@ -1,7 +1,8 @@
-"""Placed coordinates written into a new SolveSpace file.
+"""Placed coordinates, and constraints that are added, written into a new SolveSpace file.
 
-The numbers (`Param`) of the sketch's points and radii change; everything else stays as it is.
-SolveSpace makes its entities of these numbers when it opens the file.
+The numbers (`Param`) of the sketch's points and radii change, and new records follow the last
+constraint; everything else stays as it is. SolveSpace makes its entities of these numbers when it
+opens the file.
 """
 
 from __future__ import annotations
@@ -12,9 +13,10 @@ from fractions import Fraction
 from pathlib import Path
 
 from pertxogai.files.atomic import written_whole
-from pertxogai.files.contents import NotSayable
+from pertxogai.files.contents import Addition, FileRefusal, NotSayable
+from pertxogai.files.solvespace.adding import Handles, addition_lines
 from pertxogai.files.solvespace.reading import (
-    contents_of, name_of_group, requests_of, sketch_groups)
+    Contents, contents_of, handles_of, name_of_group, requests_of, sketch_groups)
 from pertxogai.files.solvespace.records import Record, read_lines, records
 from pertxogai.files.solvespace.shapes import Request, drawn
 from pertxogai.judging.good import GoodJudgement
@@ -38,15 +40,56 @@ def write_places(path: Path, out: Path, solutions: Mapping[str, Solution]) -> No
 
     Raises FileRefusal where the file can't be read or written, and where `out` is the file.
     """
+    _write(path, out, solutions, {})
+
+
+def write_additions(path: Path, out: Path, additions: Mapping[str, Addition]) -> None:
+    """Copies a file to `out` with constraints more in each sketch that is named, and its numbers
+    as they are with these. Raises FileRefusal as `write_places`, and where SolveSpace has no such
+    constraint."""
+    _write(path, out, {name: each.solution for name, each in additions.items()}, additions)
+
+
+def _write(path: Path, out: Path, solutions: Mapping[str, Solution],
+           additions: Mapping[str, Addition]) -> None:
     lines = read_lines(path)
     contents = contents_of(path, lines)
     values: dict[int, str] = {}
+    added = list[bytes]()
+    number = _last_number(contents)
     for group in sketch_groups(contents):
-        solution = solutions.get(name_of_group(group))
-        if solution is not None:
-            values.update(_values(requests_of(group, contents), upright(solution)))
+        name = name_of_group(group)
+        if name in solutions:
+            values.update(_values(requests_of(group, contents), upright(solutions[name])))
+        if name in additions:
+            added += _added(path, additions[name], handles_of(group, contents), number)
+            number += len(additions[name].added)
+    end = _end_of_constraints(lines)
     with written_whole(out, path) as stream:
-        stream.write(b"\n".join(_rewritten(lines, values)))
+        stream.write(b"\n".join([*_rewritten(lines[:end], values), *added, *lines[end:]]))
+
+
+def _added(path: Path, addition: Addition, handles: Handles, number: int) -> Iterator[bytes]:
+    """The records of what is added, as the constraints behind that number. Raises FileRefusal."""
+    try:
+        for count, constraint in enumerate(addition.added, number + 1):
+            yield from addition_lines(addition.drawing, constraint, handles, count)
+    except NotSayable as unsaid:
+        raise FileRefusal(f"{path}: {unsaid}: write it as a .drawing") from None
+
+
+def _last_number(contents: Contents) -> int:
+    """The greatest number of a constraint."""
+    return max((record.handle("h.v") for group in contents.constraints.values()
+                for record in group), default=0)
+
+
+def _end_of_constraints(lines: list[bytes]) -> int:
+    """The line behind the blank one that follows the last constraint, or the last of what comes
+    before the constraints."""
+    ends = {record.word: record.added + 1 for record in records(lines)}
+    end = ends.get("Constraint", max(ends.values(), default=len(lines)))
+    return end + (end < len(lines) and not lines[end].strip())
 
 
 def _values(requests: list[Record], solution: Solution) -> Iterator[tuple[int, str]]:
