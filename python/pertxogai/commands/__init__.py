@@ -1,5 +1,5 @@
-"""The commands `judge`, `draw`, `certify` and `page`, as ./pertxogai calls them. Each imports
-what it needs once it is called."""
+"""The commands `judge`, `draw`, `complete`, `certify` and `page`, as ./pertxogai calls them. Each
+imports what it needs once it is called."""
 from __future__ import annotations
 
 import argparse
@@ -29,13 +29,16 @@ where something isn't, and a line says what; 2 where the words or a file can't b
 can be written; 3 where the program gave no answer; of many files the greatest. The program is found
 by --program, the variable PERTXOGAI_SKETCH, the repository's build, or the path."""
 CHECK = "have it read by sketch verify, sketch_claim.py and sketch_claim.c"
+COMPLETED = "the drawing with them as a .drawing, or the .FCStd or .slvs with them written in"
 CLAIM = "the sketch, its steps, places and tolerances, as verify reads them"
 FILE = "a sketch: .sketch, .drawing, .FCStd, .slvs, .dxf"
 FREEZE = "take lengths and radii that nothing tells as they are drawn"
 JOBS = "how many of several files are judged at a time (default: as many as processors)"
+NEARLY = "tell the relations that a drawing nearly has, as level edges and equal lengths"
 NO_SEARCH = "leave out what is found by numbers of what isn't well"
 OUTPUT = "OUT.svg or OUT.dxf"
 RELEASE = "the version of DXF (default: %(default)s)"
+SKETCH = "which sketch of a file that has several"
 SECONDS = "how long a call may take (default: %(default)g)"
 WITHIN = "what is met within N nm, or an angle within N ppb, holds (default: %(default)s)"
 WRITE = "copy a .FCStd or .slvs to OUT, with those of its sketches placed that are good"
@@ -80,6 +83,7 @@ def command_line() -> argparse.ArgumentParser:
     commands = parser.add_subparsers(dest="command", required=True, metavar="COMMAND")
     _add_judge(commands)
     _add_draw(commands)
+    _add_complete(commands)
     _add_certify(commands)
     add_page(commands)
     return parser
@@ -93,6 +97,7 @@ def _add_judge(commands: Commands) -> None:
     judge.add_argument("--json", action="store_true", help="print one object of JSON for each file")
     judge.add_argument("--write", type=Path, metavar="OUT", help=WRITE)
     judge.add_argument("--no-search", action="store_true", help=NO_SEARCH)
+    judge.add_argument("--nearly", action="store_true", help=NEARLY)
 
 
 def _add_draw(commands: Commands) -> None:
@@ -101,10 +106,20 @@ def _add_draw(commands: Commands) -> None:
     draw.add_argument("file", type=Path, metavar="FILE", help=FILE)
     draw.add_argument("-o", "--output", type=Path, required=True, metavar="OUT", help=OUTPUT)
     draw.add_argument("--as-drawn", action="store_true", help="as drawn, and not as placed")
-    draw.add_argument("--sketch", metavar="NAME", help="which sketch of a file that has several")
+    draw.add_argument("--sketch", metavar="NAME", help=SKETCH)
     releases = [it.value for it in Release]
     draw.add_argument("--release", choices=releases, default=releases[-1], help=RELEASE)
     draw.add_argument("--no-search", action="store_true", help=NO_SEARCH)
+
+
+def _add_complete(commands: Commands) -> None:
+    completing = _command(commands, "complete",
+                          "proposes the dimensions that a sketch lacks, in your own words")
+    completing.set_defaults(act=_complete)
+    completing.add_argument("file", type=Path, metavar="FILE", help=FILE)
+    completing.add_argument("--json", action="store_true", help="print one object of JSON")
+    completing.add_argument("-o", "--output", type=Path, metavar="OUT", help=COMPLETED)
+    completing.add_argument("--sketch", metavar="NAME", help=SKETCH)
 
 
 def _add_certify(commands: Commands) -> None:
@@ -115,7 +130,7 @@ def _add_certify(commands: Commands) -> None:
         "-o", "--output", type=Path, required=True, metavar="OUT.claim", help=CLAIM
     )
     certify.add_argument("--check", action="store_true", help=CHECK)
-    certify.add_argument("--sketch", metavar="NAME", help="which sketch of a file that has several")
+    certify.add_argument("--sketch", metavar="NAME", help=SKETCH)
 
 
 def _command(commands: Commands, name: str, what: str) -> argparse.ArgumentParser:
@@ -128,6 +143,7 @@ def _command(commands: Commands, name: str, what: str) -> argparse.ArgumentParse
     parser.add_argument("--within", type=_limit, default=str(DEFAULT), metavar="N", help=WITHIN)
     parser.add_argument("--program", metavar="PATH", help="the program `sketch`")
     parser.add_argument("--seconds", type=float, default=60.0, help=SECONDS)
+    parser.set_defaults(nearly=False)
     return parser
 
 
@@ -155,6 +171,12 @@ def _draw(options: argparse.Namespace) -> Exit:
     from pertxogai.commands.drawing import draw
 
     return draw(options)
+
+
+def _complete(options: argparse.Namespace) -> Exit:
+    from pertxogai.commands.completing import complete_file
+
+    return complete_file(options)
 
 
 def _certify(options: argparse.Namespace) -> Exit:

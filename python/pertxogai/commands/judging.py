@@ -2,7 +2,8 @@
 from __future__ import annotations
 
 import argparse
-from collections.abc import Sequence
+from collections.abc import Iterator, Sequence
+from contextlib import contextmanager
 from dataclasses import replace
 from pathlib import Path
 
@@ -14,7 +15,6 @@ from pertxogai.language import NotHeld, Refusal
 from pertxogai.output.outcome import DrawingOutcome, Outcome, SketchOutcome
 from pertxogai.program import Program, Solver
 from pertxogai.program.reports import Verdict
-from pertxogai.search import search_judged
 
 
 def program_of(options: argparse.Namespace) -> Program:
@@ -28,30 +28,57 @@ def outcome_of(found: Input, program: Solver, options: argparse.Namespace) -> Ou
     """What the program says of one sketch of a file. Raises CommandError, TextRefused and
     ProgramError."""
     if isinstance(found, SketchText):
-        judged = judge_sketch(found.name, found.text, program, options.within)
-        return SketchOutcome(judged, program)
-    drawing = JudgedDrawing(found.name, found.drawing, _judgement(found, program, options),
-                            found.left_out, found.aside, options.within)
-    return DrawingOutcome(drawing if options.no_search else _searched(drawing, program))
+        return SketchOutcome(judge_sketch(found.name, found.text, program, options.within),
+                             program)
+    judged = JudgedDrawing(found.name, found.drawing, _judgement(found, program, options),
+                           found.left_out, found.aside, options.within)
+    return DrawingOutcome(_searched(judged, program, options))
 
 
-def _searched(judged: JudgedDrawing, program: Solver) -> JudgedDrawing:
-    """The same with what is found by numbers, where it isn't well; without numpy or scipy, with
-    what to install."""
-    if judged.judgement.verdict is Verdict.WELL:
-        return judged
+def _searched(judged: JudgedDrawing, program: Solver,
+              options: argparse.Namespace) -> JudgedDrawing:
+    """The same with what is found by numbers: where it isn't well, its freedoms and what would
+    complete it; what it nearly has, where that is asked for. Without numpy or scipy, with what to
+    install."""
     try:
-        return replace(judged, finding=search_judged(judged.drawing, judged.judgement, program))
+        if options.nearly:
+            from pertxogai.completing import nearly
+
+            judged = replace(judged, nearly=nearly(judged.drawing))
+        if options.no_search or judged.judgement.verdict is Verdict.WELL:
+            return judged
+        from pertxogai.search import search_judged
+
+        finding = search_judged(judged.drawing, judged.judgement, program)
+        return replace(judged, finding=finding, proposed=_proposed(judged, program))
     except MissingLibrary as missing:
         return replace(judged, not_searched=str(missing))
+
+
+def _proposed(judged: JudgedDrawing, program: Solver) -> tuple[str, ...]:
+    """The lines with which a drawing that is open is well; none where none are found."""
+    if judged.judgement.verdict is not Verdict.OPEN:
+        return ()
+    from pertxogai.completing import Completion, complete
+
+    found = complete(judged.drawing, program, judged.limit)
+    return tuple(each.line() for each in found.all()) if isinstance(found, Completion) else ()
 
 
 def _judgement(found: DesignerDrawing, program: Solver,
                options: argparse.Namespace) -> Judgement:
     """The judgement on a drawing. Raises CommandError where no sketch can be made of it, or the
     program refuses the one that was made."""
-    try:
+    with made_of(found):
         return judge(found.drawing, program, options.freeze, options.within)
+
+
+@contextmanager
+def made_of(found: DesignerDrawing) -> Iterator[None]:
+    """Raises CommandError where no sketch can be made of a drawing, or the program refuses the one
+    that was made."""
+    try:
+        yield
     except (DrawingRefused, NotHeld) as refused:
         raise CommandError(f"{found.name}: {refused}") from None
     except Refusal as refused:

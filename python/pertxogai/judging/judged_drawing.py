@@ -5,7 +5,7 @@ from __future__ import annotations
 from dataclasses import dataclass
 
 from pertxogai.drawing import Drawing
-from pertxogai.judging.finding import Finding, PlacesBy
+from pertxogai.judging.finding import Finding, Nearly, PlacesBy
 from pertxogai.judging.judgement import Judgement
 from pertxogai.judging.measure.deviation import Deviation, Unit, greatest
 from pertxogai.judging.measure.limit import Limit
@@ -16,8 +16,9 @@ from pertxogai.judging.measure.solution import Solution
 class JudgedDrawing:
     """A drawing, the judgement on it, what of its file the drawing can't say, which of the file's
     constraints only measure or are switched off, and within what each constraint has to hold;
-    where it was searched, what was found, else why it wasn't, if it should have been. Whether it is
-    good is for `pertxogai.judging.good` to say."""
+    where it was searched, what was found, else why it wasn't, if it should have been; lines with
+    which it would be well, and the relations that it nearly has, where these were asked for.
+    Whether it is good is for `pertxogai.judging.good` to say."""
 
     name: str
     drawing: Drawing
@@ -27,6 +28,8 @@ class JudgedDrawing:
     limit: Limit = Limit()
     finding: Finding | None = None
     not_searched: str = ""
+    proposed: tuple[str, ...] = ()
+    nearly: tuple[Nearly, ...] = ()
 
     def left_out(self) -> tuple[str, ...]:
         """What the file has and the drawing can't say, and what of the drawing can't be spelled."""

@@ -3,6 +3,7 @@
 from __future__ import annotations
 
 from collections.abc import Iterator, Sequence
+from dataclasses import asdict
 
 from pertxogai.drawing import Circle, Drawing, PointRef
 from pertxogai.drawing.geometry import Arc
@@ -36,6 +37,8 @@ def drawing_json(judged: JudgedDrawing) -> dict[str, object]:
         "parts": [_part(judgement, part) for part in _check(judgement).parts],
         **spelled_json(judged),
         **finding_json(judged),
+        "proposed": list(judged.proposed),
+        "nearly": [asdict(each) for each in judged.nearly],
         "measured_over": list(judgement.measured_off),
         "by_rank": _by_rank(judgement),
         "spare": [spare_json(each) for each in judgement.surplus],
@@ -130,9 +133,11 @@ def drawing_lines(judged: JudgedDrawing) -> Iterator[str]:
     yield from (f"  one is too many all the same, of: {', '.join(each)} (by rank)"
                 for each in judgement.too_many)
     yield from _missing_lines(judgement)
+    yield from _proposed_lines(judged)
     yield from _unmet_lines(judgement)
     yield from _surplus_lines(judgement)
     yield from (f"  look: {warning.text()}" for warning in judgement.warnings)
+    yield from _nearly_lines(judged)
 
 
 def _tried_lines(judgement: Judgement) -> Iterator[str]:
@@ -213,6 +218,20 @@ def _missing_lines(judgement: Judgement) -> Iterator[str]:
                f"{joint.tie.value}")
     if len(lacks.joints) > MOST_ADVICE:
         yield f"  and {len(lacks.joints) - MOST_ADVICE} more pairs of pieces"
+
+
+def _proposed_lines(judged: JudgedDrawing) -> Iterator[str]:
+    """What completes an open drawing."""
+    if judged.proposed:
+        yield "  what to do: add these, with which it is well (./pertxogai complete tells of each)"
+    yield from (f"    {line}" for line in judged.proposed)
+
+
+def _nearly_lines(judged: JudgedDrawing) -> Iterator[str]:
+    """The relations that it nearly has."""
+    for each in judged.nearly:
+        why = "nothing says so" if each.is_free else "what is told says otherwise"
+        yield f"  nearly: {each.line}, off by {each.off:.3g} {each.unit}; {why}"
 
 
 def _unmet_lines(judgement: Judgement) -> Iterator[str]:
