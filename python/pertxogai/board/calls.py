@@ -20,6 +20,8 @@ from pertxogai.board.opened_files import opened
 from pertxogai.board.overlaid import laid_over
 from pertxogai.board.overlap import Overlapping
 from pertxogai.board.panel import Asides, Untold, lines_shown
+from pertxogai.board.proposals import proposals_shown
+from pertxogai.completing import complete
 from pertxogai.drawing import Drawing, DrawingRefusal, DrawingUnsound, Place, WordFault, checked
 from pertxogai.files.contents import FileRefusal
 from pertxogai.exits import MissingLibrary
@@ -165,6 +167,13 @@ def _weigh(desk: Desk, given: Fields) -> Json:
                                  Asides(left, unweighed, judged.short))}
 
 
+def _complete(desk: Desk, given: Fields) -> Json:
+    """The lines that complete a drawing, or why none are proposed."""
+    judged = desk.judged(given.text("text"))
+    found = complete(judged.drawing, desk.attending, judged.judgement.limit)
+    return proposals_shown(judged.drawing, found, judged.shown())
+
+
 def _plan(desk: Desk, given: Fields) -> Json:
     """The construction, step by step."""
     return {"construction": desk.judged(given.text("text")).construction().shown()}
@@ -263,7 +272,7 @@ def _open(desk: Desk, given: Fields) -> Json:
 
 
 CALLS: Mapping[str, Callable[[Desk, Fields], Json]] = {
-    "judge": _judge, "edit": _edit, "offers": _offers, "weigh": _weigh, "plan": _plan,
-    "flips": _flips, "redraw": _redraw, "verify": _verify, "dxf": _dxf, "svg": _svg,
+    "judge": _judge, "edit": _edit, "offers": _offers, "weigh": _weigh, "complete": _complete,
+    "plan": _plan, "flips": _flips, "redraw": _redraw, "verify": _verify, "dxf": _dxf, "svg": _svg,
     "program-dxf": _program_dxf, "open": _open,
 }

@@ -3,7 +3,7 @@ from __future__ import annotations
 
 from pertxogai.board.anchors import point_of, spot_of
 from pertxogai.board.edits import (
-    Ask, Call, Construction, Draw, Edit, Erase, Move, Rename, Shift, Value)
+    Ask, Call, Construction, Draw, Edit, Erase, Lines, Move, Rename, Shift, Value)
 from pertxogai.board.fields import FieldRefused, Fields
 from pertxogai.board.new_names import Figure
 from pertxogai.drawing import Drawing, Place
@@ -25,6 +25,8 @@ def read_edit(drawing: Drawing, given: Fields) -> Edit:
         case "ask":
             return Ask(given.texts("words"),
                        given.text("value") if given.has("value") else None)
+        case "lines":
+            return Lines(given.texts("lines"))
         case "value":
             return Value(given.whole("number"), given.text("value"))
         case "call":

@@ -120,6 +120,19 @@ class Ask:
 
 
 @dataclass(frozen=True)
+class Lines:
+    """Asks for what each of some lines says, as `length Bottom 40`."""
+
+    lines: tuple[str, ...]
+
+    def on(self, drawing: Drawing) -> Drawing:
+        """The drawing with those constraints, the last."""
+        more = [each for line in self.lines for each in asked(drawing, line.split())]
+        return replace(drawing, constraints=(*drawing.constraints, *more),
+                       notes=_behind(drawing, len(more)))
+
+
+@dataclass(frozen=True)
 class Value:
     """Gives the constraint at a place, from 1, another value."""
 
@@ -188,7 +201,7 @@ def faults_of(where: str) -> Iterator[None]:
         raise DrawingUnsound(where, fault.word, fault.what) from None
 
 
-Edit = (Draw | Move | Shift | Erase | Ask | Value | Call | Rename | Construction)
+Edit = (Draw | Move | Shift | Erase | Ask | Lines | Value | Call | Rename | Construction)
 
 
 def _words(spot: Anchor) -> str:

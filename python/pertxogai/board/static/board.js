@@ -1,12 +1,12 @@
 /** The board: the drawing as SVG, faint as drawn beneath what is placed, with its marks. */
 import { svg, byId } from './nodes.js';
 import { View } from './view.js';
-import { Marks, markMade } from './marks.js';
+import { Marks, markMade, proposedMade } from './marks.js';
 import { Layer } from './layer.js';
 import { Shown } from './shown.js';
 import { awayFrom, kindOf, pathOf, shapeMade, pointMade, stillMade, middleOf, line, ring } from './shapes.js';
 
-const LAYERS = ['grid', 'drawn', 'edges', 'other', 'marks', 'dots', 'names', 'joints', 'faults'];
+const LAYERS = ['grid', 'drawn', 'edges', 'other', 'proposed', 'marks', 'dots', 'names', 'joints', 'faults'];
 /** So near in pixels a click is one on the edge itself. */
 const NEAR = 3.5;
 export const NOTHING = { drawing: { shapes: [], constraints: [], marks: [] }, judgement: null };
@@ -22,6 +22,9 @@ export class Board {
   overlay = null;
   other = null;
   placed = [];
+  /** The marks of what is proposed, and where they were placed. */
+  proposed = [];
+  proposedAt = [];
   /** Where its upper left corner lay on the page. */
   corner = null;
   /** What was last made of what. */
@@ -69,6 +72,7 @@ export class Board {
       drawn: this.shown.views.length ? stillMade(shapes, this.shown.drawn, this.plane) : [],
       edges: isStill ? null : shapes.map((shape) => this.edge(shape)),
       other: this.other ? stillMade(shapes, this.other, this.plane) : [],
+      proposed: this.overlay ? [] : this.proposedMarks(marks),
       marks: this.marks(marks, judgement),
       dots: isStill ? null : this.overlay ? [] : this.dots(shapes),
       names: this.overlay ? [] : this.names(shapes),
@@ -150,6 +154,27 @@ export class Board {
     if (this.isSame('marks', [...from, numbers, [...spare].join(), [...blamed].join(), [...unmet].join(), JSON.stringify(judgement?.excess ?? [])])) return null;
     const kinds = this.answer.drawing.constraints.map(({ number, called }) => `markgroup ${spare.has(number) || excess.has(number) ? 'spare' : ''} ${excess.has(number) ? 'excess' : ''} ${blamed.has(called) || unmet.has(number) ? 'blamed' : ''} ${numbers.has(number) ? 'selectedmark' : ''}`);
     return this.placed.map((mark, place) => markMade(mark, place, kinds[mark.number - 1], excess.get(mark.number)?.told));
+  }
+
+  /** Shows what is proposed, beside the marks of what is asked. */
+  propose(proposals) {
+    this.proposed = proposals.flatMap(({ marks, line }) => marks.map((mark) => ({ ...mark, line })));
+    this.draw();
+  }
+
+  /** The marks of what is proposed, where no others stand. Null where all are shown so already. */
+  proposedMarks(marks) {
+    const { scale, x, y } = this.plane;
+    if (this.isSame('proposed', [scale, x, y, marks, this.proposed])) return null;
+    const places = new Marks(this.plane);
+    places.all(marks);
+    this.proposedAt = places.all(this.proposed);
+    return this.proposedAt.map(proposedMade);
+  }
+
+  /** Where the first mark of what is proposed under a number stands, in pixels. */
+  proposedPlace(number) {
+    return this.proposedAt.find((each) => each.number === number)?.at;
   }
 
   /** Where the first mark of a constraint stands, in pixels. */

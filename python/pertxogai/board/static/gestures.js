@@ -55,8 +55,10 @@ export class Gestures {
     this.pressed = { at, last: at, thing, pans, moved: false, edit: null };
   }
 
-  /** What lies under the hand: a point or shape by its name, a constraint by its number, or nothing. A sign leaves an edge that it lies on its clicks. */
+  /** What lies under the hand: a point or shape by its name, a constraint by its number, what is proposed, or nothing. A sign leaves an edge that it lies on its clicks. */
   touched(node, at) {
+    const proposed = Number(node.closest('[data-proposed]')?.dataset.proposed);
+    if (proposed) return (node.matches('.sign') && this.board.edgeAt(at)) || { proposed };
     const number = Number(node.closest('[data-constraint]')?.dataset.constraint);
     if (!number) return node.closest('[data-name]')?.dataset.name;
     return (node.matches('.sign') && this.board.edgeAt(at)) || number;
@@ -132,7 +134,8 @@ export class Gestures {
 
   /** Selects what was clicked; a click beside all selects nothing. */
   select(thing, more) {
-    if (thing) this.selection.take(thing, more);
+    if (thing?.proposed) this.board.node.dispatchEvent(new CustomEvent('proposed', { detail: thing.proposed }));
+    else if (thing) this.selection.take(thing, more);
     else if (!more) this.selection.set([]);
   }
 

@@ -18,9 +18,12 @@ export class Keys {
     const { key, shiftKey: shift } = event;
     const chord = (event.ctrlKey || event.metaKey) && !BRACKETS[key];
     const dialog = document.querySelector('dialog[open]');
+    const proposed = Number(event.target.closest('[data-proposed]')?.dataset.proposed);
     const isTyping = dialog || event.target.matches('input:not([type="range"]), textarea');
     if (isTyping) return chord && (dialog ? 's' : 'so').includes(key.toLowerCase()) && pressed(`Control+${key}`);
-    if (BRACKETS[key]) this.page.gestures.next(BRACKETS[key], shift || '{}'.includes(key));
+    if (proposed && key === 'Enter') this.page.proposals.change(proposed);
+    else if (proposed && key === ' ') this.page.proposals.take(proposed);
+    else if (BRACKETS[key]) this.page.gestures.next(BRACKETS[key], shift || '{}'.includes(key));
     else if (ARROWS[key]) return this.arrow(event, chord);
     else if (chord) return pressed(`Control+${shift ? 'Shift+' : ''}${key}`);
     else if (event.altKey) return pressed(`Alt+${key}`);

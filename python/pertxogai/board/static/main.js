@@ -9,6 +9,7 @@ import { Gestures } from './gestures.js';
 import { Hand } from './tools.js';
 import { Offers } from './offers.js';
 import { Verdict } from './verdict.js';
+import { Proposals } from './proposals.js';
 import { Texts } from './texts.js';
 import { Asked } from './asked.js';
 import { Steps } from './steps.js';
@@ -32,6 +33,7 @@ class Page {
     this.gestures = new Gestures(this.board, paper, this.selection, this.hand, hint);
     this.offers = new Offers(paper, this.board, this.selection);
     this.verdict = new Verdict(byId('verdict'), paper, this.selection);
+    this.proposals = new Proposals(paper, this.board);
     this.texts = new Texts(paper);
     this.asked = new Asked(paper, this.selection, this.offers);
     this.steps = new Steps(paper, this.board);
@@ -43,11 +45,11 @@ class Page {
   }
 
   /** What each button of the page does, by its id. */
-  buttons({ paper, board, files, offers, steps, gestures: { sequence } }) {
+  buttons({ paper, board, files, offers, steps, proposals, gestures: { sequence } }) {
     return {
       new: () => files.begin('', 'drawing'), gallery: () => files.gallery(), open: () => files.input.click(), save: () => files.save(),
       undo: () => sequence.do(() => paper.go(-1)), redo: () => sequence.do(() => paper.go(1)), help: () => closed(byId('keys')),
-      construction: (button) => sequence.do(() => this.construct(button)), fit: () => board.fit(), 'redraw-all': () => paper.redraw([]),
+      construction: (button) => sequence.do(() => this.construct(button)), fit: () => board.fit(), complete: () => proposals.takeAll(), 'redraw-all': () => paper.redraw([]),
       revalue: () => this.keys.enter(false), construct: () => offers.construct(), rename: () => offers.rename(), erase: () => offers.erase(),
       back: () => steps.go(-1), on: () => steps.go(1), play: () => steps.play(), flip: () => steps.flip(), redraw: () => steps.redraw(), verify: () => steps.verify(),
     };

@@ -23,7 +23,7 @@ export class Marks {
     return [...marks].sort((one, other) => Boolean(other.bar) - Boolean(one.bar)).map((mark) => {
       const placed = mark.bar ? this.bar(mark) : this.tag(mark);
       this.take(placed.at, placed.text);
-      return { number: mark.number, sign: mark.sign, ...placed };
+      return { number: mark.number, sign: mark.sign, line: mark.line, ...placed };
     });
   }
 
@@ -85,6 +85,12 @@ function beside([dx, dy]) {
 /** A placed mark, in classes, with what is told of it where a hand rests on it. */
 export function markMade({ number, sign, path, text, at: [x, y] }, key, kind, told) {
   return [key, 'g', { class: kind, 'data-constraint': number }, told && ['title', {}, told], path && ['path', { class: 'mark', d: path }], ['text', { x, y, class: sign ? 'sign' : 'value' }, text]];
+}
+
+/** A placed mark of what is proposed: a button, with its line where a hand rests on it. */
+export function proposedMade({ number, sign, path, text, line, at: [x, y] }, key) {
+  return [key, 'g', { class: 'proposedmark', 'data-proposed': number, role: 'button', tabindex: 0, 'aria-label': `add ${line}` }, ['title', {}, `${line}: click adds it, Enter asks for another value`],
+    path && ['path', { class: 'mark', d: path }], ['text', { x, y, class: sign ? 'sign' : 'value' }, text]];
 }
 
 /** The box of two places, with so much around: left, right, low, high. */

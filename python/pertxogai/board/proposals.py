@@ -1,0 +1,37 @@
+"""What completes a drawing, as the page is told it: each line that could be added, what it fixes, and
+its marks where all is shown."""
+from __future__ import annotations
+
+from collections.abc import Iterator
+
+from pertxogai.board.marks import marks
+from pertxogai.completing import Completion, NoProposal, Proposal
+from pertxogai.drawing import Drawing, words_of
+from pertxogai.judging.measure import Solution
+from pertxogai.output.picture.drawings import DrawnPlaces
+
+Json = dict[str, object]
+
+
+def proposals_shown(drawing: Drawing, found: Completion | NoProposal,
+                    shown: Solution | None) -> Json:
+    """What is proposed of a drawing, where all of it is shown; None for where it is drawn. Where
+    nothing is, why."""
+    if isinstance(found, NoProposal):
+        return {"proposals": [], "why": found.why.value}
+    return {"proposals": list(_shown(DrawnPlaces(drawing, shown), found)), "why": ""}
+
+
+def _shown(where: DrawnPlaces, found: Completion) -> Iterator[Json]:
+    for number, each in enumerate(found.all(), 1):
+        yield {"number": number, "line": each.line(), **_words(each), "fixes": list(each.fixes),
+               "ties": each in found.datum,
+               "marks": list(marks(where, number, each.constraint))}
+
+
+def _words(proposal: Proposal) -> Json:
+    """The words of a line without its value, and the value; None where it has none."""
+    constraint = proposal.constraint
+    words = words_of(constraint).split()
+    has_value = hasattr(constraint, "value_um") or hasattr(constraint, "value")
+    return {"words": words[:-1] if has_value else words, "value": words[-1] if has_value else None}
