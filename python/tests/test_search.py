@@ -194,6 +194,30 @@ def test_points_that_are_told_twice_to_be_one_repeat():
     assert found.repeats == (("Twice",),)
 
 
+def test_a_line_that_goes_on_another_from_their_corner_is_no_repeat():
+    # A is 40 long from the origin, level; B goes on from its end, 20 long. Nothing is free.
+    text = ("segment A 0 0 40 0\nsegment B A.end 60 1\ncoincident A.start Origin\n"
+            "horizontal A\nlength A 40\ncollinear A B\nlength B 20\n")
+    found = found_of(text)
+    assert (found.freedoms, found.repeats) == (0, ())
+
+
+@pytest.mark.parametrize("other, lies", [
+    ("circle D 33 0 13\nradius D 13\non D XAxis\n", "20 0"),
+    ("segment S 20 -9 20 9\nlength S 18\ny S.start -9\n", "20 0")])
+def test_a_point_that_lies_on_two_shapes_that_touch_is_where_they_do(other, lies):
+    # The circle C of 20 stands about the origin; what touches it does so in P, which moves nowhere.
+    shape = other.split()[1]
+    text = (f"circle C 0 0 20\n{other.splitlines()[0]}\npoint P 20 0.4\nradius C 20\n"
+            "coincident C.centre Origin\n" + "\n".join(other.splitlines()[1:])
+            + f"\non P C\non P {shape}\ntangent C {shape}\n"
+            + ("" if shape == "D" else "vertical S\n"))
+    found = found_of(text)
+    assert (found.freedoms, found.repeats, found.is_doubtful) == (0, (), False)
+    told = [um_of_mm(each) * 1000 for each in lies.split()]
+    assert all(abs(a - b) <= WITHIN_NM for a, b in zip(found.solution.spot(point("P")), told))
+
+
 @pytest.mark.parametrize("name, group", [
     ("over-isosceles-by-its-angles", {"Width", "Angle", "Height"}),
     ("over-lengths-that-turn", {"First", "Second", "Equal"}),

@@ -90,8 +90,14 @@ class _Asked:
                 angle = cosine_and_sine(turn(self._drawing, constraint))
                 return (self._lean(ways, angle, is_directed=True),)
             case Collinear(first, second):
-                line, (start, way) = self._axis_first(first, second)
-                return [self._aside(line, point) for point in (start, start + way)]
+                return self._collinear(*self._axis_first(first, second))
+
+    def _collinear(self, line: Line, other: Line) -> Iterable[Row]:
+        """Both ends of the other line lie on a line; of an end that the two share that says nothing,
+        so it isn't asked, unless they share both."""
+        own, points = (line[0], line[0] + line[1]), (other[0], other[0] + other[1])
+        asked = [point for point in points if point not in own]
+        return [self._aside(line, point) for point in asked or points]
 
     def _level(self, level: Horizontal | Vertical) -> Row:
         if isinstance(level.of, Pair):
@@ -166,7 +172,7 @@ class _Asked:
     # -- touching
 
     def _tangent(self, tangent: Tangent) -> Row:
-        at = self._drawing.meetings.contact(tangent)
+        at = self._drawing.meetings.contact(tangent) or self._on_both(tangent)
         if at is not None:
             return self._touching_at(tangent, at)
         line, rim = tangent.first, tangent.second
@@ -176,6 +182,13 @@ class _Asked:
             centre = self._unknowns.centre(rim)
             return self._aside(self._unknowns.line(line), centre, self._radius(rim), is_sided=True)
         return self._rims_touching(tangent)
+
+    def _on_both(self, tangent: Tangent) -> Pair | None:
+        """A point that is told to lie on both shapes: there they touch. That their distance is right
+        would say no more, to the first order, than that the point lies on both."""
+        on_first, on_second = (self._unknowns.on(each) for each in (tangent.first, tangent.second))
+        at = next((point for point in on_first if point in on_second), None)
+        return Pair(at, at) if at is not None else None
 
     def _touching_at(self, tangent: Tangent, at: Pair) -> Row:
         """The normals there run alike: those of rims are their radii, and a line is square to its
