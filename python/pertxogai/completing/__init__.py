@@ -30,5 +30,5 @@ def nearly(drawing: Drawing) -> tuple[Nearly, ...]:
     """The relations that a sound drawing nearly has where the search places it, and that don't
     follow from what it says; none where no places are found. Raises MissingLibrary."""
     check_libraries()
-    from pertxogai.completing.nearly import nearly_of
+    from pertxogai.completing.nearly_so import nearly_of
     return tuple(nearly_of(drawing))
