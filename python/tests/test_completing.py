@@ -105,9 +105,9 @@ def test_what_a_designer_would_give(text, own, datum):
 def test_the_order_of_kinds_decides():
     slack = Slack.of(read_drawing(PLATE))
     chosen = [[words_of(each) for each in choose(slack, taste).own] for taste in TASTES[1:]]
-    assert chosen == [["length PlateBottom 80", "length PlateRight 50"],
-                      ["x PlateBottom.end 80", "y PlateRight.end 50"],
-                      ["x PlateBottom.end 80", "y PlateRight.end 50"]]
+    by_lengths = ["length PlateBottom 80", "length PlateRight 50"]
+    by_runs = ["x PlateBottom.end 80", "y PlateRight.end 50"]
+    assert chosen == [by_lengths, by_runs, by_runs, by_lengths, by_runs]
 
 
 def test_what_is_refused_is_told_otherwise():
@@ -153,11 +153,15 @@ def test_a_third_of_the_dimensions_taken_away_comes_back_to_well(path, program):
     (PLATE + "length PlateBottom 80\nlength PlateRight 50\n", WhyNot.NOTHING),
     (PLATE + "length PlateBottom 80\nlength PlateTop 80\n", WhyNot.OVER),
     ("segment A 0 0 10 0\nsegment B A.end 15 8\nsegment C B.end A.start\n"
-     "length A 10\nlength B 10\nlength C 30\n", WhyNot.NO_PLACES),
-    ("", WhyNot.NOTHING)])
+     "length A 10\nlength B 10\nlength C 30\n", WhyNot.NO_PLACES)])
 def test_why_nothing_is_proposed(text, why, program):
     found = complete(read_drawing(text), program)
     assert isinstance(found, NoProposal) and found.why is why
+
+
+def test_of_an_empty_drawing_nothing_is_missing(program):
+    found = complete(Drawing(), program)
+    assert isinstance(found, NoProposal) and found.why is WhyNot.NOTHING
 
 
 def test_what_is_rigid_beyond_triangles_lacks_nothing(program):

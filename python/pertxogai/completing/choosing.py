@@ -4,6 +4,7 @@ from __future__ import annotations
 
 from collections.abc import Iterable, Iterator, Sequence
 from dataclasses import dataclass, replace
+from enum import Enum
 
 from pertxogai.completing.dimensions import ORDERS, Kind, base_of, dimensions, ties
 from pertxogai.completing.figure import Figure
@@ -25,14 +26,26 @@ class Choice:
     datum: tuple[Constraint, ...]
 
 
+class Relate(Enum):
+    """Which relations that a drawing nearly has are taken."""
+
+    ALL = "all"
+    LEVEL = "level"
+    """That edges are level or upright."""
+    NONE = "none"
+
+    def takes(self, constraint: Constraint) -> bool:
+        """Whether a relation is taken."""
+        return self is Relate.ALL or self is Relate.LEVEL and is_level(constraint)
+
+
 @dataclass(frozen=True)
 class Taste:
-    """How to choose. order: of the kinds of dimensions. relates: whether relations beside level and
-    upright edges are taken. refused: constraints that aren't taken, by their words without the
-    value."""
+    """How to choose. order: of the kinds of dimensions. relate: which relations are taken. refused:
+    constraints that aren't taken, by their words without the value."""
 
     order: Sequence[Kind]
-    relates: bool = True
+    relate: Relate = Relate.ALL
     refused: frozenset[str] = frozenset()
 
     def allows(self, constraint: Constraint) -> bool:
@@ -44,7 +57,8 @@ class Taste:
         return replace(self, refused=self.refused | {kind_words(constraint)})
 
 
-TASTES = (Taste(ORDERS[0]), *(Taste(order, relates=False) for order in ORDERS))
+TASTES = (Taste(ORDERS[0]), *(Taste(order, Relate.LEVEL) for order in ORDERS),
+          *(Taste(order, Relate.NONE) for order in ORDERS[:2]))
 """How it is chosen, one after the other."""
 
 
@@ -143,7 +157,7 @@ def _next_relations(slack: Slack, taste: Taste,
     taking, held = Taking.nothing(slack), list[Constraint]()
     found = [each for each in relations(Figure(slack.placed))
              if taste.allows(each.constraint) and words_of(each.constraint) not in unmet
-             and (taste.relates or is_level(each.constraint))]
+             and taste.relate.takes(each.constraint)]
     for relation, (constraint, asked) in zip(found, slack.asked([it.constraint for it in found])):
         more = taking.with_taken(asked, is_level(constraint))
         if more is None:

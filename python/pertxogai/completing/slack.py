@@ -49,7 +49,7 @@ class Slack:
         searched = Searched(drawing, seconds)
         equations, x = searched.equations, searched.found.x
         ways = wide(searched.freedom.free, equations.unknowns.count)
-        if not searched.found.is_as_drawn() or ways is None:
+        if not searched.found.is_solved() or ways is None:
             return None
         placed = drawn_at(drawing, solution_of(equations.unknowns, x))
         whole = ways.T @ searched.freedom.motions.whole
