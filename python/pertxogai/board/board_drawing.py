@@ -10,6 +10,7 @@ from pertxogai.board.judgement_json import places_shown
 from pertxogai.board.panel import Untold
 from pertxogai.board.placed_elements import elements_placed
 from pertxogai.board.placed_parts import LaidPart, parts_laid, shown_between
+from pertxogai.board.protocol import Judgement as JudgementJson, Places
 from pertxogai.board.shortage import shortage
 from pertxogai.drawing import Drawing
 from pertxogai.judging import Judgement, TooMuch, judge_at_once, too_much, weighed, with_choices
@@ -40,7 +41,7 @@ class BoardDrawing:
     program: Solver
     before: Drawing = Drawing()
     sight: Sight | None = None
-    told: dict[str, object] | None = None
+    told: JudgementJson | None = None
 
     @cached_property
     def judgement(self) -> Judgement:
@@ -101,13 +102,12 @@ class BoardDrawing:
             return shown_between(self.drawing, self.parts)
         return self.judgement.solution
 
-    def placed(self, before: BoardDrawing | None) -> dict[str, object] | None:
+    def placed(self, before: BoardDrawing | None) -> Places | None:
         """Where all lies as it is placed, as the page is told it; as it was told of a drawing
         before, where all of that is placed so."""
         solution = self.judgement.solution
         if before and before.told and solution == before.judgement.solution:
-            known = before.told["placed"]
-            return known if isinstance(known, dict) else None
+            return before.told["placed"]
         return None if solution is None else places_shown(DrawnPlaces(self.drawing, solution))
 
     def solved(self) -> Solved:

@@ -5,7 +5,7 @@ import json
 from collections.abc import Callable, Mapping
 from dataclasses import dataclass, field
 from fractions import Fraction
-from typing import TypeAlias
+from typing import cast
 
 from pertxogai.board.board_drawing import BoardDrawing, NotPlaced
 from pertxogai.board.document import read_document, write_document
@@ -21,6 +21,9 @@ from pertxogai.board.overlaid import laid_over
 from pertxogai.board.overlap import Overlapping
 from pertxogai.board.panel import Asides, Untold, lines_shown
 from pertxogai.board.proposals import proposals_shown
+from pertxogai.board.protocol import (
+    Answer, ChangedDrawing, Completed, Dxf, Edited, Judged, Offered, Opened, OtherShape, Planned,
+    Svg, Trouble, Verified, Weighed)
 from pertxogai.completing import complete
 from pertxogai.drawing import Drawing, DrawingRefusal, DrawingUnsound, Place, WordFault, checked
 from pertxogai.files.contents import FileRefusal
@@ -38,7 +41,6 @@ from pertxogai.output.release import Release
 from pertxogai.program import ProgramError, Solver, Status
 from pertxogai.program.reports import Flipped, NoChoice
 
-Json: TypeAlias = dict[str, object]
 KEPT = 4
 """How many judgements are kept, for the calls that follow one."""
 
@@ -54,7 +56,7 @@ class Desk:
     def __post_init__(self) -> None:
         self.attending = Overlapping(self.program)
 
-    def answer(self, name: str, given: object) -> Json:
+    def answer(self, name: str, given: object) -> Answer:
         """What a call gives: `refused` and `trouble` are told in it."""
         call = CALLS.get(name)
         if call is None:
@@ -94,7 +96,7 @@ class Desk:
             del self.kept[next(iter(self.kept))]
         return judged
 
-    def edited(self, drawing: Drawing, known: BoardDrawing, given: Fields) -> Json:
+    def edited(self, drawing: Drawing, known: BoardDrawing, given: Fields) -> Edited:
         """What is told of a drawing that an edit has made of a known one, kept by its text as
         what that reads as; where the page `knows` what was told of that one, without what is as it
         was. Raises DrawingUnsound."""
@@ -102,25 +104,32 @@ class Desk:
         text = self.attending.meanwhile(lambda: write_document(drawing))
         found = _whole(judged, given.texts("left_out"), known, given.flag("knows"))
         self.keep(text.value, judged)
-        return {"text": text.value, **found}
+        found["text"] = text.value
+        return found
 
 
-def trouble(kind: str, message: str) -> Json:
+def trouble(kind: str, message: str) -> Answer:
     """Why a call has no answer: what kind of trouble, and one line that says what to do."""
-    return {"trouble": {"kind": kind, "message": " ".join(message.split())}}
+    return {"trouble": _trouble(kind, message)}
 
 
-def _judge(desk: Desk, given: Fields) -> Json:
+def _trouble(kind: str, message: str) -> Trouble:
+    return {"kind": kind, "message": " ".join(message.split())}
+
+
+def _judge(desk: Desk, given: Fields) -> Judged:
     """The drawing of a text, and the judgement on it."""
     text = given.text("text")
-    return {"text": text, **_whole(desk.judged(text), given.texts("left_out"))}
+    found = cast(Judged, _whole(desk.judged(text), given.texts("left_out")))
+    found["text"] = text
+    return found
 
 
 def _whole(judged: BoardDrawing, left_out: tuple[str, ...], before: BoardDrawing | None = None,
-           is_known: bool = False) -> Json:
+           is_known: bool = False) -> Edited:
     """The judgement, and what is drawn, by what was drawn before; where that `is_known` on the
     page, without what is as it was. left_out: what the drawing can't say of its file."""
-    answer: Json = {"judgement": None}
+    answer: Edited = {"judgement": None}
     shown, sight = None, before.sight if before else None
     try:
         if judged.drawing.geometry:
@@ -130,31 +139,33 @@ def _whole(judged: BoardDrawing, left_out: tuple[str, ...], before: BoardDrawing
             known = before.told if before and is_known else None
             answer["judgement"] = without_known(judged.told, known)
     except DrawingRefused as error:
-        answer |= trouble("language", str(error))
+        answer["trouble"] = _trouble("language", str(error))
     except ProgramError as error:
-        answer |= trouble("program", str(error))
+        answer["trouble"] = _trouble("program", str(error))
     except (Refusal, NotHeld) as error:
-        answer |= trouble("language", f"the program takes no such sketch: {error}")
+        answer["trouble"] = _trouble("language", f"the program takes no such sketch: {error}")
     found = sight_of(judged.drawing, shown, sight)
     judged.sight = None if "trouble" in answer else found
-    return {**answer, "drawing": found.told(sight if is_known else None)}
+    whole = cast(ChangedDrawing, found.told())
+    answer["drawing"] = found.changed(sight) if sight and is_known else whole
+    return answer
 
 
-def _edit(desk: Desk, given: Fields) -> Json:
+def _edit(desk: Desk, given: Fields) -> Edited:
     """The text that an edit makes of a text, and all that `judge` tells of it."""
     known = desk.judged(given.text("text"))
     edit = read_edit(known.drawing, Fields.of(given.values.get("edit")))
     return desk.edited(edit.on(known.drawing), known, given)
 
 
-def _offers(desk: Desk, given: Fields) -> Json:
+def _offers(desk: Desk, given: Fields) -> Offered:
     """Which constraints fit some points and shapes."""
     found = offers(desk.judged(given.text("text")).drawing, given.texts("names"))
     return {"offers": [{"words": list(each.words), "sign": each.sign, "value": each.value}
                        for each in found]}
 
 
-def _weigh(desk: Desk, given: Fields) -> Json:
+def _weigh(desk: Desk, given: Fields) -> Weighed:
     """What is left out of a drawing that is over, and what may go instead, each with how far it is
     off without it; where one of these can't be told, the other, and why. Of one that is well and
     isn't met, what comes of other choices."""
@@ -167,19 +178,19 @@ def _weigh(desk: Desk, given: Fields) -> Json:
                                  Asides(left, unweighed, judged.short))}
 
 
-def _complete(desk: Desk, given: Fields) -> Json:
+def _complete(desk: Desk, given: Fields) -> Completed:
     """The lines that complete a drawing, or why none are proposed."""
     judged = desk.judged(given.text("text"))
     found = complete(judged.drawing, desk.attending, judged.judgement.limit)
     return proposals_shown(judged.drawing, found, judged.shown())
 
 
-def _plan(desk: Desk, given: Fields) -> Json:
+def _plan(desk: Desk, given: Fields) -> Planned:
     """The construction, step by step."""
     return {"construction": desk.judged(given.text("text")).construction().shown()}
 
 
-def _flips(desk: Desk, given: Fields) -> Json:
+def _flips(desk: Desk, given: Fields) -> OtherShape | Answer:
     """The other shape, in which the choices of some steps are turned over."""
     judged = desk.judged(given.text("text"))
     found = judged.flipped(_steps(given))
@@ -192,7 +203,7 @@ def _flips(desk: Desk, given: Fields) -> Json:
     return {"placed": places_shown(DrawnPlaces(judged.drawing, laid_over(found, here)))}
 
 
-def _redraw(desk: Desk, given: Fields) -> Json:
+def _redraw(desk: Desk, given: Fields) -> Edited | Answer:
     """The text with all points drawn where they are placed, or where they are in another
     shape: `steps` are turned over."""
     judged = desk.judged(given.text("text"))
@@ -223,13 +234,13 @@ def _place(spot: PointNm) -> Place:
     return Place(x, y)
 
 
-def _verify(desk: Desk, given: Fields) -> Json:
+def _verify(desk: Desk, given: Fields) -> Verified:
     """What the program says of the claim that is shown, and the claim."""
     judged = desk.judged(given.text("text"))
     return {"said": judged.verified().text().strip(), "claim": judged.claim().text()}
 
 
-def _dxf(desk: Desk, given: Fields) -> Json:
+def _dxf(desk: Desk, given: Fields) -> Dxf:
     """The shapes as placed in DXF, by the version of `release`. Raises NoPlaces."""
     try:
         release = Release(given.text("release"))
@@ -239,7 +250,7 @@ def _dxf(desk: Desk, given: Fields) -> Json:
     return {"dxf": _sheet(desk, given).dxf(release)}
 
 
-def _svg(desk: Desk, given: Fields) -> Json:
+def _svg(desk: Desk, given: Fields) -> Svg:
     """A picture as SVG."""
     return {"svg": _sheet(desk, given).picture().svg}
 
@@ -251,7 +262,7 @@ def _sheet(desk: Desk, given: Fields) -> DrawingSheet:
     return DrawingSheet(whole, False)
 
 
-def _program_dxf(desk: Desk, given: Fields) -> Json:
+def _program_dxf(desk: Desk, given: Fields) -> Dxf:
     """What the program itself writes as DXF of the sketch, byte by byte, where the drawing is
     good. Raises NotPlaced where it isn't."""
     judged = desk.judged(given.text("text"))
@@ -266,12 +277,12 @@ def _program_dxf(desk: Desk, given: Fields) -> Json:
     return {"dxf": report.text}
 
 
-def _open(desk: Desk, given: Fields) -> Json:
+def _open(desk: Desk, given: Fields) -> Opened:
     """The sketches of a file."""
     return {"sketches": opened(given.text("name"), given.text("data"))}
 
 
-CALLS: Mapping[str, Callable[[Desk, Fields], Json]] = {
+CALLS: Mapping[str, Callable[[Desk, Fields], Answer]] = {
     "judge": _judge, "edit": _edit, "offers": _offers, "weigh": _weigh, "complete": _complete,
     "plan": _plan, "flips": _flips, "redraw": _redraw, "verify": _verify, "dxf": _dxf, "svg": _svg,
     "program-dxf": _program_dxf, "open": _open,

@@ -9,12 +9,12 @@ from functools import cached_property
 from pertxogai.board.motion import STILL, Motion, PointMm, laid
 from pertxogai.board.placed_elements import Element, ElementLine, ElementPoint
 from pertxogai.board.placed_parts import drawn
+from pertxogai.board.protocol import (
+    Cluster, Construction as ConstructionJson, ElementJson, Locus, Step as StepJson)
 from pertxogai.drawing import points_of
 from pertxogai.judging import Judgement
 from pertxogai.language.clusters import ClusterName, Step
 from pertxogai.program.reports import Plan
-
-Json = dict[str, object]
 
 
 @dataclass(frozen=True)
@@ -27,20 +27,20 @@ class Construction:
     plan: Plan
     placed: Mapping[str, Element]
 
-    def shown(self) -> Json:
+    def shown(self) -> ConstructionJson:
         """All of it for the page."""
         return {
             "elements": {name: self._element(name, each) for name, each in self.placed.items()},
             "steps": [self._step(step) for step in self.plan.steps],
         }
 
-    def _element(self, name: str, element: Element) -> Json:
+    def _element(self, name: str, element: Element) -> ElementJson:
         called = self._called(name)
         if isinstance(element, ElementPoint):
-            return {"called": called, "at": list(element.at)}
-        return {"called": called, "through": list(element.through), "way": list(element.way)}
+            return {"called": called, "at": element.at}
+        return {"called": called, "through": element.through, "way": element.way}
 
-    def _step(self, step: Step) -> Json:
+    def _step(self, step: Step) -> StepJson:
         place = step.joins.index(step.keeps)
         made = step.at[(place + 1) % 3]
         others = (step.at[place], step.at[(place + 2) % 3])
@@ -53,7 +53,7 @@ class Construction:
             "loci": [locus for name in others for locus in self._locus(made, name)],
         }
 
-    def _cluster(self, name: ClusterName, kept: bool) -> Json:
+    def _cluster(self, name: ClusterName, kept: bool) -> Cluster:
         motion = self.motions[name]
         return {"name": name.text(), "called": self._leaf(name), "kept": kept,
                 "elements": sorted(self.members[name]), "shapes": list(self._shapes(name)),
@@ -111,17 +111,17 @@ class Construction:
                 pairs.append((element.at, drawn(self.judgement, ref)))
         return laid(pairs)
 
-    def _locus(self, made: str, anchor: str) -> Iterator[Json]:
+    def _locus(self, made: str, anchor: str) -> Iterator[Locus]:
         """Where the constructed element may lie by one cluster: a circle about a point, a line
         beside a line; a line that is constructed touches a circle, or is shown itself."""
         element, by = self.placed[made], self.placed[anchor]
         match element, by:
             case ElementPoint(at), ElementPoint(centre):
-                yield {"circle": list(centre), "radius": math.dist(at, centre)}
+                yield {"circle": centre, "radius": math.dist(at, centre)}
             case ElementPoint(at), ElementLine(_, way):
-                yield {"line": list(at), "way": list(way)}
+                yield {"line": at, "way": way}
             case ElementLine(through, way), ElementPoint(centre):
                 away = (centre[0] - through[0]) * way[1] - (centre[1] - through[1]) * way[0]
-                yield {"circle": list(centre), "radius": abs(away)}
+                yield {"circle": centre, "radius": abs(away)}
             case ElementLine(through, way), ElementLine():
-                yield {"line": list(through), "way": list(way)}
+                yield {"line": through, "way": way}

@@ -5,16 +5,21 @@ from __future__ import annotations
 
 from collections.abc import Sequence
 from dataclasses import dataclass
+from typing import TypeVar, assert_never
 
 from pertxogai.board.anchors import leader_of
-from pertxogai.board.marks import Mark, marks
-from pertxogai.drawing import Arc, Circle, Constraint, Drawing, Shape, points_of
+from pertxogai.board.marks import marks
+from pertxogai.board.protocol import (
+    ChangedDrawing, Constraint as ConstraintJson, Drawing as DrawingJson, Kind, Mark,
+    Shape as ShapeJson)
+from pertxogai.drawing import Arc, Circle, Constraint, Drawing, Segment, Shape, points_of
+from pertxogai.drawing.geometry import Point as DrawnPoint
 from pertxogai.drawing.mentions import named
 from pertxogai.drawing.named_shapes import shares
 from pertxogai.judging.measure import Solution
 from pertxogai.output.picture.drawings import DrawnPlaces
 
-Json = dict[str, object]
+Thing = TypeVar("Thing")
 
 
 @dataclass(frozen=True)
@@ -24,27 +29,27 @@ class Sight:
 
     drawing: Drawing
     solution: Solution | None
-    shapes: Sequence[Json]
-    constraints: Sequence[Json]
+    shapes: Sequence[ShapeJson]
+    constraints: Sequence[ConstraintJson]
     marks: Sequence[Sequence[Mark]]
 
-    def told(self, known: Sight | None = None) -> Json:
-        """All of it; None of a list, or of a thing of a list, that is as it was in what is
-        known."""
-        if known is None:
-            return {what: now for what, now in self._lists()}
-        return {what: _unknown(now, before)
-                for (what, now), (_, before) in zip(self._lists(), known._lists())}
-
-    def _lists(self) -> tuple[tuple[str, Sequence[object]], ...]:
+    def told(self) -> DrawingJson:
+        """All of it."""
         marks = [mark for each in self.marks for mark in each]
-        return ("shapes", self.shapes), ("constraints", self.constraints), ("marks", marks)
+        return {"shapes": list(self.shapes), "constraints": list(self.constraints), "marks": marks}
+
+    def changed(self, known: Sight) -> ChangedDrawing:
+        """All of it; None for a list, or a thing of a list, that is as it was in what is known."""
+        now, before = self.told(), known.told()
+        return {"shapes": _unknown(now["shapes"], before["shapes"]),
+                "constraints": _unknown(now["constraints"], before["constraints"]),
+                "marks": _unknown(now["marks"], before["marks"])}
 
 
-def _unknown(now: Sequence[object], known: Sequence[object]) -> Sequence[object] | None:
+def _unknown(now: Sequence[Thing], known: Sequence[Thing]) -> list[Thing | None] | None:
     """What of a list isn't the same at the same place of a known one."""
     if len(now) != len(known):
-        return now
+        return list(now)
     left = [None if each is other or each == other else each for each, other in zip(now, known)]
     return None if left.count(None) == len(left) else left
 
@@ -52,7 +57,9 @@ def _unknown(now: Sequence[object], known: Sequence[object]) -> Sequence[object]
 def sight_of(drawing: Drawing, solution: Solution | None, before: Sight | None = None) -> Sight:
     """A drawing as it is told, by that of the drawing that it was made from."""
     drawn, where = DrawnPlaces(drawing, None), DrawnPlaces(drawing, solution)
-    shapes, constraints, shown = [], [], []
+    shapes: list[ShapeJson] = []
+    constraints: list[ConstraintJson] = []
+    shown: list[Sequence[Mark]] = []
     whole = {id(shape): told for shape, told in zip(before.drawing.geometry, before.shapes)
              if not shares(shape)} if before else {}
     for shape in drawing.geometry:
@@ -60,9 +67,10 @@ def sight_of(drawing: Drawing, solution: Solution | None, before: Sight | None =
     elsewhere = _elsewhere(drawing, solution, before)
     olds = list(zip(before.drawing.constraints, before.constraints, before.marks)) if before else []
     for number, constraint in enumerate(drawing.constraints, 1):
-        old, told, marked = olds[number - 1] if number <= len(olds) else (None, {}, ())
-        constraints.append(told if old is constraint else _constraint(drawing, number, constraint))
-        stays = old is constraint and elsewhere.isdisjoint(named(constraint))
+        old, told, marked = olds[number - 1] if number <= len(olds) else (None, None, ())
+        is_same = told is not None and old is constraint
+        constraints.append(told if told and is_same else _constraint(drawing, number, constraint))
+        stays = is_same and elsewhere.isdisjoint(named(constraint))
         shown.append(marked if stays else list(marks(where, number, constraint)))
     return Sight(drawing, solution, shapes, constraints, shown)
 
@@ -83,12 +91,12 @@ def _drawn(drawing: Drawing, shape: Shape) -> list[object]:
     return [*map(drawing.drawn, points_of(shape)), getattr(shape, "radius_um", None)]
 
 
-def _shape(where: DrawnPlaces, shape: Shape) -> Json:
+def _shape(where: DrawnPlaces, shape: Shape) -> ShapeJson:
     drawing = where.drawing
-    found: Json = {
-        "name": shape.name, "kind": type(shape).__name__.lower(),
+    found: ShapeJson = {
+        "name": shape.name, "kind": _kind(shape),
         "construction": shape.construction, "outer": shape.outer,
-        "points": {str(ref): list(where.at(ref)) for ref in points_of(shape)},
+        "points": {str(ref): where.at(ref) for ref in points_of(shape)},
         "shares": [str(ref) for ref in points_of(shape) if leader_of(drawing, ref) != ref],
     }
     if isinstance(shape, (Circle, Arc)):
@@ -96,7 +104,22 @@ def _shape(where: DrawnPlaces, shape: Shape) -> Json:
     return found
 
 
-def _constraint(drawing: Drawing, number: int, constraint: Constraint) -> Json:
+def _kind(shape: Shape) -> Kind:
+    """The word of a shape."""
+    match shape:
+        case Segment():
+            return "segment"
+        case Circle():
+            return "circle"
+        case Arc():
+            return "arc"
+        case DrawnPoint():
+            return "point"
+        case other:
+            assert_never(other)
+
+
+def _constraint(drawing: Drawing, number: int, constraint: Constraint) -> ConstraintJson:
     words = drawing.wordings[number - 1].split()
     has_value = hasattr(constraint, "value_um") or hasattr(constraint, "value")
     return {"number": number, "name": constraint.name, "called": drawing.called(number),

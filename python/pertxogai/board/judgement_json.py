@@ -3,10 +3,13 @@ at; what was measured stays in whole nanometres."""
 from __future__ import annotations
 
 from collections.abc import Iterable, Mapping
+from typing import cast
 
 from pertxogai.board.motion import PointMm
 from pertxogai.board.panel import Asides, Untold, alone_of, excess_told, lines_shown
 from pertxogai.board.placed_parts import LaidPart
+from pertxogai.board.protocol import (
+    Amount, ChangedJudgement, Excess, Failure, Judgement as JudgementJson, Missing, Places, Point)
 from pertxogai.drawing import Arc, Circle, PointRef
 from pertxogai.judging import Judgement, TooMuch
 from pertxogai.judging.good import reasons_json
@@ -16,19 +19,19 @@ from pertxogai.output.drawing_text import spare_json
 from pertxogai.output.picture.drawings import DrawnPlaces
 from pertxogai.program.reports import Verdict
 
-Json = dict[str, object]
 LONG = "placed", "laid", "colours", "language"
 """What of a judgement isn't told again to a page that knows it."""
 
 
-def judgement_shown(judged: JudgedDrawing, parts: Iterable[LaidPart], placed: Json | None,
-                    short: str = "") -> Json:
+def judgement_shown(judged: JudgedDrawing, parts: Iterable[LaidPart], placed: Places | None,
+                    short: str = "") -> JudgementJson:
     """What is judged, and where it is shown, as it is placed and by its parts; and by how much the
     dimensions beneath a fault miss each other. What is left out of what is over isn't told yet."""
-    judgement = judged.judgement
+    judgement, reasons = judged.judgement, reasons_json(judged)
     return {
         "verdict": judgement.verdict.value,
-        **reasons_json(judged),
+        "good": reasons["good"],
+        "why_not": reasons["why_not"],
         "lines": lines_shown(judged, Asides(short=short)),
         "spare": [spare_json(each) for each in judgement.surplus],
         "excess": [],
@@ -41,13 +44,16 @@ def judgement_shown(judged: JudgedDrawing, parts: Iterable[LaidPart], placed: Js
     }
 
 
-def without_known(judgement: Json, known: Json | None) -> Json:
+def without_known(judgement: JudgementJson, known: JudgementJson | None) -> ChangedJudgement:
     """A judgement without what is long, and is as it was in one that the page knows."""
-    return {what: now for what, now in judgement.items()
-            if known is None or what not in LONG or now != known[what]}
+    if known is None:
+        return cast(ChangedJudgement, judgement)
+    before = dict(known)
+    return cast(ChangedJudgement, {what: now for what, now in judgement.items()
+                                   if what not in LONG or now != before[what]})
 
 
-def excess_shown(judgement: Judgement, left: TooMuch | Untold) -> list[Json]:
+def excess_shown(judgement: Judgement, left: TooMuch | Untold) -> list[Excess]:
     """The dimensions that are left out, each as it is told."""
     if isinstance(left, Untold):
         return []
@@ -56,7 +62,7 @@ def excess_shown(judgement: Judgement, left: TooMuch | Untold) -> list[Json]:
              "told": excess_told(each, alone)} for each in left.dimensions]
 
 
-def places_shown(where: DrawnPlaces) -> Json:
+def places_shown(where: DrawnPlaces) -> Places:
     """Where all points lie, and how large the rims are."""
     drawing = where.drawing
     rims = [shape.name for shape in drawing.geometry if isinstance(shape, (Circle, Arc))]
@@ -64,22 +70,22 @@ def places_shown(where: DrawnPlaces) -> Json:
             "radii": {name: where.radius(name) for name in rims}}
 
 
-def _laid(part: LaidPart) -> Json:
+def _laid(part: LaidPart) -> Places:
     return {"part": part.number, "points": _points(part.points), "radii": part.radii}
 
 
-def _points(points: Mapping[PointRef, PointMm]) -> Json:
-    return {str(ref): list(spot) for ref, spot in points.items()}
+def _points(points: Mapping[PointRef, PointMm]) -> dict[str, Point]:
+    return {str(ref): spot for ref, spot in points.items()}
 
 
-def _colours(judgement: Judgement) -> Json:
+def _colours(judgement: Judgement) -> dict[str, int]:
     """The parts of the points and shapes, by their names; none of what is all of one part."""
     if judgement.verdict is Verdict.WELL:
         return {}
     return {**parts_of_points(judgement), **parts_of_shapes(judgement)}
 
 
-def _missing(judgement: Judgement) -> Json | None:
+def _missing(judgement: Judgement) -> Missing | None:
     found = judgement.missing
     if found is None:
         return None
@@ -94,12 +100,12 @@ def _missing(judgement: Judgement) -> Json | None:
     }
 
 
-def _failure(judgement: Judgement) -> Json | None:
+def _failure(judgement: Judgement) -> Failure | None:
     """A fault: the program's words, what is beneath it, where, and by how much it misses."""
     found = judgement.failure
     if found is None:
         return None
-    amount = None
+    amount: Amount | None = None
     if found.amount is not None:
         low, high = found.amount.low, found.amount.high
         amount = {"low": float(low), "high": float(high), "unit": found.amount.unit.value}

@@ -6,7 +6,9 @@ import math
 from collections.abc import Iterator, Mapping
 from contextlib import suppress
 from dataclasses import dataclass
+from typing import cast
 
+from pertxogai.board.protocol import Mark, MarkAlone
 from pertxogai.drawing import (
     Arc, Axis, Circle, Coincident, Collinear, Concentric, Constraint, Equal, Fixed, Horizontal,
     Midpoint, Pair, Parallel, Perpendicular, PointOn, PointRef, ShapeRef, Symmetric, Tangent,
@@ -16,8 +18,6 @@ from pertxogai.judging.measure.solution import MissingPlace
 from pertxogai.output.picture.drawings import BAR, DrawnPlaces
 from pertxogai.output.picture.marks import LengthBar, PointMm, Tag
 from pertxogai.output.picture.plane import between, sweep
-
-Mark = Mapping[str, object]
 
 _SIGNS: Mapping[type, str] = {
     Horizontal: "―", Vertical: "|", Parallel: "∥", Perpendicular: "⊥", Collinear: "⋯", Equal: "=",
@@ -35,16 +35,16 @@ def marks(where: DrawnPlaces, number: int, constraint: Constraint) -> Iterator[M
     speaks of."""
     with suppress(MissingPlace):
         for mark in _marks(where, constraint):
-            yield {**mark, "number": number}
+            yield cast(Mark, {**mark, "number": number})
 
 
-def _marks(where: DrawnPlaces, constraint: Constraint) -> Iterator[Mark]:
+def _marks(where: DrawnPlaces, constraint: Constraint) -> Iterator[MarkAlone]:
     shown = list(where.dimensions(constraint, BAR))
     for each in shown:
         if isinstance(each, LengthBar):
-            yield {"bar": [list(each.start), list(each.end)], "text": each.text}
+            yield {"bar": (each.start, each.end), "text": each.text}
         elif isinstance(each, Tag):
-            yield {"at": list(each.at), "radius": each.radius, "text": each.text}
+            yield {"at": each.at, "radius": each.radius, "text": each.text}
     if not shown:
         yield from (place.sign(sign_of(constraint)) for place in _places(where, constraint))
 
@@ -57,13 +57,13 @@ class _Beside:
     at: PointMm
     turn: float | None = None
 
-    def sign(self, sign: str) -> Mark:
+    def sign(self, sign: str) -> MarkAlone:
         """A sign there, as the page is told it: at an edge with the direction which it is to stand
         beside."""
         if self.turn is None:
-            return {"sign": sign, "at": list(self.at)}
-        way = [math.cos(self.turn), math.sin(self.turn)]
-        return {"sign": sign, "at": list(self.at), "way": way}
+            return {"sign": sign, "at": self.at}
+        way = math.cos(self.turn), math.sin(self.turn)
+        return {"sign": sign, "at": self.at, "way": way}
 
 
 def _places(where: DrawnPlaces, constraint: Constraint) -> Iterator[_Beside]:

@@ -10,16 +10,16 @@ from pathlib import Path
 from pertxogai.board.document import write_document
 from pertxogai.board.fields import FieldRefused
 from pertxogai.board.from_language import drawn_from
+from pertxogai.board.protocol import FileSketch, GalleryDrawing
 from pertxogai.files.kinds import DesignerDrawing, Input, InputRefused, SketchText, read_inputs
 from pertxogai.judging.judged_sketch import TextRefused
 from pertxogai.language import Refusal, Sketch
 
-Json = dict[str, object]
 _ROOM = "file"
 """What a file is called while it is read."""
 
 
-def opened(name: str, data: str) -> list[Json]:
+def opened(name: str, data: str) -> list[FileSketch]:
     """The sketches of a file, each with its text, what couldn't be said, and its name. `data` is
     in base 64. Raises FieldRefused, and InputRefused with the name of the file alone."""
     try:
@@ -39,7 +39,7 @@ def opened(name: str, data: str) -> list[Json]:
             raise InputRefused(str(refusal).replace(str(path), plain)) from None
 
 
-def _json(found: Input, plain: str) -> Json:
+def _json(found: Input, plain: str) -> FileSketch:
     stem = Path(plain).stem
     if isinstance(found, SketchText):
         taken = drawn_from(_sketch(found, plain))
@@ -63,7 +63,7 @@ def _sketch(found: SketchText, plain: str) -> Sketch:
         raise InputRefused(str(told)) from None
 
 
-def gallery(folder: Path) -> Iterator[Json]:
+def gallery(folder: Path) -> Iterator[GalleryDrawing]:
     """The drawings to begin from, by their names."""
     for path in sorted(folder.glob("*.drawing")):
         yield {"name": path.stem, "text": path.read_text(encoding="utf-8")}

@@ -4,8 +4,10 @@ from __future__ import annotations
 from collections.abc import Iterator, Sequence
 from dataclasses import dataclass
 from fractions import Fraction
+from typing import cast
 
 from pertxogai.board.faulted import fault_told
+from pertxogai.board.protocol import Line as LineJson
 from pertxogai.drawing.numbers import mm_text
 from pertxogai.judging import Excess, Judgement, Surplus, TooMuch
 from pertxogai.judging.choices import change
@@ -61,11 +63,11 @@ class Asides:
     short: str = ""
 
 
-def lines_shown(judged: JudgedDrawing, asides: Asides = Asides()) -> list[dict[str, object]]:
+def lines_shown(judged: JudgedDrawing, asides: Asides = Asides()) -> list[LineJson]:
     """All lines, each with what it has."""
     lines = *_told(judged, asides), *_left_out(judged), *_notes(judged.judgement)
-    return [{name: value for name, value in vars(line).items() if value not in ("", (), None)}
-            for line in lines]
+    return [cast(LineJson, {name: value for name, value in vars(line).items()
+                            if value not in ("", (), None)}) for line in lines]
 
 
 def _told(judged: JudgedDrawing, asides: Asides) -> Iterator[Line]:

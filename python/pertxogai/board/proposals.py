@@ -5,16 +5,15 @@ from __future__ import annotations
 from collections.abc import Iterator
 
 from pertxogai.board.marks import marks
+from pertxogai.board.protocol import Completed, Proposed
 from pertxogai.completing import Completion, NoProposal, Proposal
 from pertxogai.drawing import Drawing, words_of
 from pertxogai.judging.measure import Solution
 from pertxogai.output.picture.drawings import DrawnPlaces
 
-Json = dict[str, object]
-
 
 def proposals_shown(drawing: Drawing, found: Completion | NoProposal,
-                    shown: Solution | None) -> Json:
+                    shown: Solution | None) -> Completed:
     """What is proposed of a drawing, where all of it is shown; None for where it is drawn. Where
     nothing is, why."""
     if isinstance(found, NoProposal):
@@ -22,16 +21,17 @@ def proposals_shown(drawing: Drawing, found: Completion | NoProposal,
     return {"proposals": list(_shown(DrawnPlaces(drawing, shown), found)), "why": ""}
 
 
-def _shown(where: DrawnPlaces, found: Completion) -> Iterator[Json]:
+def _shown(where: DrawnPlaces, found: Completion) -> Iterator[Proposed]:
     for number, each in enumerate(found.all(), 1):
-        yield {"number": number, "line": each.line(), **_words(each), "fixes": list(each.fixes),
-               "ties": each in found.datum,
+        words, value = _words(each)
+        yield {"number": number, "line": each.line(), "words": words, "value": value,
+               "fixes": list(each.fixes), "ties": each in found.datum,
                "marks": list(marks(where, number, each.constraint))}
 
 
-def _words(proposal: Proposal) -> Json:
+def _words(proposal: Proposal) -> tuple[list[str], str | None]:
     """The words of a line without its value, and the value; None where it has none."""
     constraint = proposal.constraint
     words = words_of(constraint).split()
     has_value = hasattr(constraint, "value_um") or hasattr(constraint, "value")
-    return {"words": words[:-1] if has_value else words, "value": words[-1] if has_value else None}
+    return (words[:-1], words[-1]) if has_value else (words, None)

@@ -13,6 +13,7 @@ from collections.abc import Sequence
 from dataclasses import dataclass, field, replace
 from time import monotonic
 
+from pertxogai.board import protocol
 from pertxogai.board.calls import Desk, trouble
 from pertxogai.program import Answer, Program, ProgramTimedOut
 
@@ -73,13 +74,14 @@ def main(words: Sequence[str]) -> None:
             gc.collect()
 
 
-def _answer(desk: Desk, line: str) -> dict[str, object]:
+def _answer(desk: Desk, line: str) -> protocol.Answer:
     """The answer to a line; a fault of this side is told as one, and ends nothing."""
     began = monotonic()
     try:
         call = json.loads(line)
         found = desk.answer(call["call"], call["given"])
-        return {**found, "ms": round((monotonic() - began) * 1000)}
+        found["ms"] = round((monotonic() - began) * 1000)
+        return found
     except MemoryError:
         return trouble("memory", "the call took more memory than it may: draw less at once")
     except RecursionError:

@@ -10,6 +10,7 @@ from __future__ import annotations
 from collections.abc import Collection, Iterator
 from dataclasses import dataclass
 from enum import Enum
+from typing import TypedDict
 
 from pertxogai.drawing import ORIGIN, Drawing
 from pertxogai.judging.mirrored import mirrored
@@ -147,13 +148,30 @@ def reasons_against(judged: JudgedDrawing | JudgedSketch) -> tuple[Reason, ...]:
     return found.reasons if isinstance(found, NotGood) else ()
 
 
-def reasons_json(judged: JudgedDrawing | JudgedSketch) -> dict[str, object]:
+class ReasonJson(TypedDict):
+    """A reason, as JSON. off, unit: how far the constraint is off, of what isn't met."""
+
+    why: str
+    text: str
+    constraint: int | None
+    off: int | None
+    unit: str | None
+
+
+class ReasonsJson(TypedDict):
+    """Whether a judgement is good, and why not."""
+
+    good: bool
+    why_not: list[ReasonJson]
+
+
+def reasons_json(judged: JudgedDrawing | JudgedSketch) -> ReasonsJson:
     """Whether a judgement is good, and why not, for JSON."""
     reasons = reasons_against(judged)
     return {"good": not reasons, "why_not": [_json(each) for each in reasons]}
 
 
-def _json(reason: Reason) -> dict[str, object]:
+def _json(reason: Reason) -> ReasonJson:
     off = reason.off
     return {"why": reason.lack.value, "text": reason.text, "constraint": reason.constraint,
             "off": off.amount if off else None, "unit": off.unit.value if off else None}

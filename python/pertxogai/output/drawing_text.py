@@ -4,6 +4,7 @@ from __future__ import annotations
 
 from collections.abc import Iterator, Sequence
 from dataclasses import asdict
+from typing import TypedDict
 
 from pertxogai.drawing import Circle, Drawing, PointRef
 from pertxogai.drawing.geometry import Arc
@@ -278,7 +279,19 @@ def _part(judgement: Judgement, part: Part) -> dict[str, object]:
             "held": part.held, "due": part.due}
 
 
-def spare_json(each: Surplus) -> dict[str, object]:
+class SpareJson(TypedDict):
+    """A dimension that may go, as JSON. off, unit: how far it is off without it; rest: what the
+    others are then; null where that isn't known."""
+
+    number: int
+    name: str
+    repeats: bool | None
+    off: int | None
+    unit: str | None
+    rest: str | None
+
+
+def spare_json(each: Surplus) -> SpareJson:
     """A dimension that may go."""
     return {"number": each.number, "name": each.name, "repeats": each.repeats(),
             "off": each.off.amount if each.off is not None else None,

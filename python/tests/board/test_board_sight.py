@@ -81,16 +81,16 @@ def test_an_edit_of_each_kind(path: Path) -> None:
     for new in edited(drawing):
         for before, found, alone in sights(drawing, new):
             assert found == alone
-            assert completed(found.told(before), before.told()) == alone.told()
+            assert completed(found.changed(before), before.told()) == alone.told()
 
 
 def test_of_what_is_as_it_was_nothing_is_told() -> None:
     drawing = read_drawing("segment A 0 0 9 0\ncircle C 1 1 2\nlength A 9\n")
     before = sight_of(drawing, None)
-    assert sight_of(drawing, None, before).told(before) == {
+    assert sight_of(drawing, None, before).changed(before) == {
         "shapes": None, "constraints": None, "marks": None}
     moved = checked(Move((), (("C", Fraction(3000)),)).on(drawing), drawing)
-    told = sight_of(moved, None, before).told(before)
+    told = sight_of(moved, None, before).changed(before)
     assert (told["constraints"], told["marks"]) == (None, None)
     assert [each and each["radius"] for each in told["shapes"]] == [None, 3]
 

@@ -1,14 +1,29 @@
+// @ts-check
 /** The board: the drawing as SVG, faint as drawn beneath what is placed, with its marks. */
-import { svg, byId } from './nodes.js';
+import { svg, nodeOf } from './nodes.js';
 import { View } from './view.js';
 import { Marks, markMade, proposedMade } from './marks.js';
 import { Layer } from './layer.js';
 import { Shown } from './shown.js';
-import { awayFrom, kindOf, pathOf, shapeMade, pointMade, stillMade, middleOf, line, ring } from './shapes.js';
+import { awayFrom, kindOf, pathOf, shapeMade, pointMade, stillMade, middleOf, line, ring }
+  from './shapes.js';
 
-const LAYERS = ['grid', 'drawn', 'edges', 'other', 'proposed', 'marks', 'dots', 'names', 'joints', 'faults'];
+/** @typedef {import('./page').Child} Child */
+/** @typedef {import('./page').Keyed} Keyed */
+/** @typedef {import('./page').Place} Place */
+/** @typedef {import('./page').PlacedMark} PlacedMark */
+/** @typedef {import('./page').Read} Read */
+/** @typedef {import('./protocol').Judgement} Judgement */
+/** @typedef {import('./protocol').Mark} Mark */
+/** @typedef {import('./protocol').Shape} Shape */
+
+const LAYERS = ['grid', 'drawn', 'edges', 'other', 'proposed', 'marks', 'dots', 'names', 'joints',
+  'faults'];
 /** So near in pixels a click is one on the edge itself. */
 const NEAR = 3.5;
+/** So near in pixels a click is one on a point. */
+const NEAR_POINT = 10;
+/** @type {Read} */
 export const NOTHING = { drawing: { shapes: [], constraints: [], marks: [] }, judgement: null };
 
 /** Draws answers on an SVG node. */
@@ -16,31 +31,70 @@ export class Board {
   plane = new View();
   answer = NOTHING;
   shown = new Shown(NOTHING);
-  /** What the hand is about to draw, the cross of the keyboard, a step of the construction, the other shape. */
+  /**
+   * What the hand is about to draw.
+   * @type {((plane: View) => (Node | null | false)[]) | null}
+   */
   preview = null;
+  /**
+   * The cross of the keyboard, in millimetres.
+   * @type {Place | null}
+   */
   cross = null;
+  /**
+   * A step of the construction.
+   * @type {((plane: View) => Node) | null}
+   */
   overlay = null;
+  /**
+   * The other shape.
+   * @type {import('./protocol').Places | null}
+   */
   other = null;
+  /** @type {PlacedMark[]} */
   placed = [];
-  /** The marks of what is proposed, and where they were placed. */
+  /**
+   * The marks of what is proposed, each with its line.
+   * @type {(Mark & { line: string })[]}
+   */
   proposed = [];
+  /**
+   * Where they were placed.
+   * @type {PlacedMark[]}
+   */
   proposedAt = [];
-  /** Where its upper left corner lay on the page. */
+  /**
+   * Where its upper left corner lay on the page.
+   * @type {Place | null}
+   */
   corner = null;
-  /** What was last made of what. */
+  /**
+   * What was last made of what.
+   * @type {Record<string, unknown[]>}
+   */
   from = {};
   waits = false;
 
+  /**
+   * @param {SVGSVGElement} node
+   * @param {import('./selection.js').Selection} selection
+   */
   constructor(node, selection) {
-    Object.assign(this, { node, selection, over: svg('g', { class: 'overlay' }) });
-    this.layers = Object.fromEntries(LAYERS.map((kind) => [kind, new Layer(svg('g', { class: kind }), svg)]));
+    this.node = node;
+    this.selection = selection;
+    this.over = svg('g', { class: 'overlay' });
+    this.layers = Object.fromEntries(
+      LAYERS.map((kind) => [kind, new Layer(svg('g', { class: kind }), svg)]));
     node.replaceChildren(...Object.values(this.layers).map((layer) => layer.node), this.over);
-    byId('faint').append(this.layers.drawn.node);
+    nodeOf('faint', SVGSVGElement).append(this.layers.drawn.node);
     selection.addEventListener('change', () => this.draw());
     new ResizeObserver(() => this.stay()).observe(node);
   }
 
-  /** The board has another size, or lies elsewhere on the page: what it shows stays where it was under the hand. */
+  /**
+   * The board has another size, or lies elsewhere on the page: what it shows stays where it was
+   * under the hand.
+   */
   stay() {
     const { left, top } = this.node.getBoundingClientRect();
     const [x, y] = this.corner ?? [left, top];
@@ -49,7 +103,10 @@ export class Board {
     this.drawNow();
   }
 
-  /** Shows an answer of the server. */
+  /**
+   * Shows an answer of the server.
+   * @param {Read} answer
+   */
   show(answer) {
     this.answer = answer;
     this.shown = new Shown(answer);
@@ -66,103 +123,202 @@ export class Board {
   drawNow() {
     this.waits = false;
     const { drawing: { shapes, marks }, judgement } = this.overlay ? NOTHING : this.answer;
+    const { shown: { views, drawn }, plane } = this;
     const isStill = this.isStill(shapes, judgement);
+    /** @type {Record<string, Keyed[] | null>} */
     const made = {
       grid: this.grid(this.size()),
-      drawn: this.shown.views.length ? stillMade(shapes, this.shown.drawn, this.plane) : [],
+      drawn: views.length ? stillMade(shapes, drawn, plane) : [],
       edges: isStill ? null : shapes.map((shape) => this.edge(shape)),
-      other: this.other ? stillMade(shapes, this.other, this.plane) : [],
+      other: this.other ? stillMade(shapes, this.other, plane) : [],
       proposed: this.overlay ? [] : this.proposedMarks(marks),
       marks: this.marks(marks, judgement),
       dots: isStill ? null : this.overlay ? [] : this.dots(shapes),
       names: this.overlay ? [] : this.names(shapes),
-      joints: this.around((judgement?.missing?.joints ?? []).flatMap((joint) => joint.shared), (name, [cx, cy]) => [name, 'circle', { class: 'joint', cx, cy, r: 9 }]),
-      faults: this.around(judgement?.failure?.at ?? [], (name, at) => [name, 'path', { class: 'fault', d: ring(at, 13) }]),
+      joints: this.joints(judgement),
+      faults: this.around(judgement?.failure?.at ?? [],
+        (name, at) => [name, 'path', { class: 'fault', d: ring(at, 13) }]),
     };
     for (const [kind, things] of Object.entries(made)) if (things) this.layers[kind].show(things);
     this.drawHand();
     this.node.dataset.drawn = String(Number(this.node.dataset.drawn ?? 0) + 1);
   }
 
-  /** Draws what lies over the drawing: a step of the construction, what the hand is about to draw, and the cross. */
+  /**
+   * Draws what lies over the drawing: a step of the construction, what the hand is about to draw,
+   * and the cross.
+   */
   drawHand() {
-    const [x, y] = this.cross ? this.plane.toScreen(this.cross) : [];
-    const cross = this.cross && svg('path', { class: 'cross', d: `M${x - 14} ${y}h28M${x} ${y - 14}v28` });
-    this.over.replaceChildren(...[this.overlay?.(this.plane), ...this.preview?.(this.plane) ?? [], cross].filter(Boolean));
+    const preview = this.preview?.(this.plane) ?? [];
+    const over = [this.overlay?.(this.plane), ...preview, this.crossMade()];
+    this.over.replaceChildren();
+    for (const each of over) if (each) this.over.append(each);
   }
 
-  /** The grid, and the datum's axes. */
+  /** The cross, where there is one. */
+  crossMade() {
+    if (!this.cross) return null;
+    const [x, y] = this.plane.toScreen(this.cross);
+    return svg('path', { class: 'cross', d: `M${x - 14} ${y}h28M${x} ${y - 14}v28` });
+  }
+
+  /**
+   * The grid, and the datum's axes.
+   * @param {{ width: number, height: number }} size
+   * @returns {Keyed[]}
+   */
   grid({ width, height }) {
-    const step = this.plane.step() * 5;
-    const [left, high] = this.plane.toPlane([0, 0]);
-    const [right, low] = this.plane.toPlane([width, height]);
-    const lines = (from, to, ends) => Array.from({ length: Math.max(0, Math.floor(to / step) - Math.ceil(from / step) + 1) },
-      (_, place) => line(...ends((Math.ceil(from / step) + place) * step).map((each) => this.plane.toScreen(each))));
-    const d = [...lines(left, right, (x) => [[x, low], [x, high]]), ...lines(low, high, (y) => [[left, y], [right, y]])].join('');
-    const axis = (name, path) => [name, 'g', { 'data-name': name },
-      ['path', { class: `axis ${this.selection.names.has(name) ? 'selected' : ''}`, d: path }], ['path', { class: 'hit', d: path }]];
-    return [['lines', 'path', { class: 'gridlines', d }],
-      axis('XAxis', line([0, this.plane.y], [width, this.plane.y])), axis('YAxis', line([this.plane.x, 0], [this.plane.x, height]))];
+    const { plane } = this;
+    const step = plane.step() * 5;
+    const [left, high] = plane.toPlane([0, 0]);
+    const [right, low] = plane.toPlane([width, height]);
+    const across = between(left, right, step).map(
+      (x) => line(plane.toScreen([x, low]), plane.toScreen([x, high])));
+    const along = between(low, high, step).map(
+      (y) => line(plane.toScreen([left, y]), plane.toScreen([right, y])));
+    return [['lines', 'path', { class: 'gridlines', d: [...across, ...along].join('') }],
+      this.axis('XAxis', line([0, plane.y], [width, plane.y])),
+      this.axis('YAxis', line([plane.x, 0], [plane.x, height]))];
   }
 
-  /** Whether all shapes and points are shown as they were: of what is placed it doesn't count where it is drawn. */
+  /**
+   * An axis of the datum along a path.
+   * @param {string} name
+   * @param {string} d
+   * @returns {Keyed}
+   */
+  axis(name, d) {
+    const kind = `axis ${this.selection.names.has(name) ? 'selected' : ''}`;
+    return [name, 'g', { 'data-name': name },
+      ['path', { class: kind, d }], ['path', { class: 'hit', d }]];
+  }
+
+  /**
+   * Whether all shapes and points are shown as they were: of what is placed it doesn't count where
+   * it is drawn.
+   * @param {Shape[]} shapes
+   * @param {Judgement | null | undefined} judgement
+   */
   isStill(shapes, judgement) {
-    const { selection: { names }, plane: { scale, x, y } } = this;
-    const what = judgement?.placed ? shapes.map((shape) => `${shape.name} ${kindOf(shape)} ${shape.shares}`) : shapes;
-    return this.isSame('shapes', [scale, x, y, names, this.overlay, judgement?.colours, ...this.shown.views, ...what]);
+    const { selection: { names }, plane: { scale, x, y }, shown: { views } } = this;
+    const told = (/** @type {Shape} */ shape) => `${shape.name} ${kindOf(shape)} ${shape.shares}`;
+    const what = judgement?.placed ? shapes.map(told) : shapes;
+    const colours = judgement?.colours;
+    return this.isSame('shapes', [scale, x, y, names, this.overlay, colours, ...views, ...what]);
   }
 
-  /** Whether something is made of the same as last time. */
+  /**
+   * Whether something is made of the same as last time.
+   * @param {string} made
+   * @param {unknown[]} from
+   */
   isSame(made, from) {
     const old = this.from[made];
     this.from[made] = from;
     return from.length === old?.length && from.every((each, place) => each === old[place]);
   }
 
-  /** A shape as it is shown. */
+  /**
+   * A shape as it is shown.
+   * @param {Shape} shape
+   */
   edge(shape) {
-    return shapeMade(shape, pathOf(shape, this.shown.viewOf(shape), this.plane), this.selection.names.has(shape.name), this.shown.colourOf(shape));
+    const path = pathOf(shape, this.shown.viewOf(shape), this.plane);
+    const isSelected = this.selection.names.has(shape.name);
+    return shapeMade(shape, path, isSelected, this.shown.colourOf(shape));
   }
 
-  /** The points as they are shown, the origin's first. */
+  /**
+   * The points as they are shown, the origin's first.
+   * @param {Shape[]} shapes
+   */
   dots(shapes) {
-    const names = shapes.flatMap((shape) => Object.keys(shape.points).filter((name) => !shape.shares.includes(name)));
-    return ['Origin', ...names].map((name) => pointMade(name, this.plane.toScreen(this.shown.at(name)), this.selection.names.has(name), this.shown.partColourOf(name)));
+    const names = shapes.flatMap(
+      (shape) => Object.keys(shape.points).filter((name) => !shape.shares.includes(name)));
+    return this.around(['Origin', ...names], (name, at) => pointMade(
+      name, at, this.selection.names.has(name), this.shown.partColourOf(name)));
   }
 
-  /** The names of single points and of what is selected. */
+  /**
+   * The names of single points and of what is selected.
+   * @param {Shape[]} shapes
+   */
   names(shapes) {
     const points = shapes.filter((shape) => shape.kind === 'point').map((shape) => shape.name);
-    return this.around([...this.selection.names, ...points], (name, [x, y]) => [name, 'text', { class: 'name', x: x - 12, y: y + 14 }, name]);
+    return this.around([...this.selection.names, ...points], (name, [x, y]) => [
+      name, 'text', { class: 'name', x: x - 12, y: y + 14 }, name]);
   }
 
-  /** Some things, each once, as what is made of them at their places in pixels. */
+  /**
+   * Rings where pieces hang together.
+   * @param {Judgement | null | undefined} judgement
+   */
+  joints(judgement) {
+    const names = (judgement?.missing?.joints ?? []).flatMap((joint) => joint.shared);
+    return this.around(names, (name, [cx, cy]) => [
+      name, 'circle', { class: 'joint', cx, cy, r: 9 }]);
+  }
+
+  /**
+   * Some things, each once, as what is made of them at their places in pixels.
+   * @param {string[]} names
+   * @param {(name: string, at: Place) => Keyed} made
+   * @returns {Keyed[]}
+   */
   around(names, made) {
-    return [...new Set(names)].map((name) => [name, this.placeOf(name)]).filter(([, at]) => at).map(([name, at]) => made(name, at));
+    return [...new Set(names)].flatMap((name) => {
+      const at = this.placeOf(name);
+      return at ? [made(name, at)] : [];
+    });
   }
 
-  /** The marks of constraints; what may go, is to blame or is selected stands out. Null where all are shown so already. */
+  /**
+   * The marks of constraints; what may go, is to blame or is selected stands out. Null where all
+   * are shown so already.
+   * @param {Mark[]} marks
+   * @param {Judgement | null | undefined} judgement
+   */
   marks(marks, judgement) {
-    const { numbers } = this.selection;
-    const spare = new Set((judgement?.spare ?? []).map((each) => each.number));
-    const blamed = new Set(judgement?.failure?.dimensions ?? []);
-    const unmet = new Set((judgement?.why_not ?? []).map((each) => each.constraint));
-    const excess = new Map((judgement?.excess ?? []).map((each) => [each.number, each]));
+    const kinds = this.kindsOfMarks(judgement);
+    const told = new Map((judgement?.excess ?? []).map((each) => [each.number, each.told]));
     const { scale, x, y } = this.plane;
     const from = [scale, x, y, marks];
     if (!this.isSame('places', from)) this.placed = new Marks(this.plane).all(marks);
-    if (this.isSame('marks', [...from, numbers, [...spare].join(), [...blamed].join(), [...unmet].join(), JSON.stringify(judgement?.excess ?? [])])) return null;
-    const kinds = this.answer.drawing.constraints.map(({ number, called }) => `markgroup ${spare.has(number) || excess.has(number) ? 'spare' : ''} ${excess.has(number) ? 'excess' : ''} ${blamed.has(called) || unmet.has(number) ? 'blamed' : ''} ${numbers.has(number) ? 'selectedmark' : ''}`);
-    return this.placed.map((mark, place) => markMade(mark, place, kinds[mark.number - 1], excess.get(mark.number)?.told));
+    if (this.isSame('marks', [...from, kinds.join(), JSON.stringify([...told])])) return null;
+    return this.placed.map((mark, place) => markMade(
+      mark, place, kinds[mark.number - 1], told.get(mark.number)));
   }
 
-  /** Shows what is proposed, beside the marks of what is asked. */
+  /**
+   * The classes of the marks of each constraint.
+   * @param {Judgement | null | undefined} judgement
+   */
+  kindsOfMarks(judgement) {
+    const excess = new Set((judgement?.excess ?? []).map((each) => each.number));
+    const spare = new Set([...(judgement?.spare ?? []).map((each) => each.number), ...excess]);
+    const blamed = new Set(judgement?.failure?.dimensions ?? []);
+    const unmet = new Set((judgement?.why_not ?? []).map((each) => each.constraint));
+    const { numbers } = this.selection;
+    return this.answer.drawing.constraints.map(({ number, called }) => [
+      'markgroup', spare.has(number) && 'spare', excess.has(number) && 'excess',
+      (blamed.has(called) || unmet.has(number)) && 'blamed',
+      numbers.has(number) && 'selectedmark'].filter(Boolean).join(' '));
+  }
+
+  /**
+   * Shows what is proposed, beside the marks of what is asked.
+   * @param {import('./protocol').Proposed[]} proposals
+   */
   propose(proposals) {
-    this.proposed = proposals.flatMap(({ marks, line }) => marks.map((mark) => ({ ...mark, line })));
+    this.proposed = proposals.flatMap(
+      ({ marks, line: said }) => marks.map((mark) => ({ ...mark, line: said })));
     this.draw();
   }
 
-  /** The marks of what is proposed, where no others stand. Null where all are shown so already. */
+  /**
+   * The marks of what is proposed, where no others stand. Null where all are shown so already.
+   * @param {Mark[]} marks
+   */
   proposedMarks(marks) {
     const { scale, x, y } = this.plane;
     if (this.isSame('proposed', [scale, x, y, marks, this.proposed])) return null;
@@ -172,44 +328,79 @@ export class Board {
     return this.proposedAt.map(proposedMade);
   }
 
-  /** Where the first mark of what is proposed under a number stands, in pixels. */
+  /**
+   * Where the first mark of what is proposed under a number stands, in pixels.
+   * @param {number} number
+   */
   proposedPlace(number) {
     return this.proposedAt.find((each) => each.number === number)?.at;
   }
 
-  /** Where the first mark of a constraint stands, in pixels. */
+  /**
+   * Where the first mark of a constraint stands, in pixels.
+   * @param {number | undefined} number
+   */
   markPlace(number) {
     return this.placed.find((each) => each.number === number)?.at;
   }
 
-  /** Where a point or the middle of a shape is shown, in pixels. */
+  /**
+   * Where a point or the middle of a shape is shown, in pixels.
+   * @param {string} name
+   * @returns {Place | null}
+   */
   placeOf(name) {
-    const shape = this.answer.drawing.shapes.find((each) => each.name === name);
-    const names = this.shown.at(name) ? [name] : Object.keys(shape?.points ?? {}).filter((each) => shape.kind === 'circle' || !each.endsWith('.centre'));
-    return names.length ? middleOf(names.map((each) => this.plane.toScreen(this.shown.at(each)))) : null;
+    const places = this.pointsOf(name).flatMap((each) => {
+      const at = this.shown.at(each);
+      return at ? [this.plane.toScreen(at)] : [];
+    });
+    return places.length ? middleOf(places) : null;
   }
 
-  /** The point that is shown next to a place in pixels, if one is near: its name, its place, and how far it is away. */
+  /**
+   * The points in the middle of which a thing is named: itself, or the ends of a shape.
+   * @param {string} name
+   */
+  pointsOf(name) {
+    if (this.shown.at(name)) return [name];
+    const shape = this.answer.drawing.shapes.find((each) => each.name === name);
+    return Object.keys(shape?.points ?? {}).filter(
+      (each) => shape?.kind === 'circle' || !each.endsWith('.centre'));
+  }
+
+  /**
+   * The point that is shown next to a place in pixels, if one is near: its name, its place in
+   * millimetres, and how far it is away in pixels.
+   * @param {Place} place
+   */
   nearPoint([x, y]) {
-    const near = { away: 10 };
+    /** @type {{ name: string, at: Place, away: number } | null} */
+    let near = null;
     for (const [name, at] of Object.entries(this.shown.between.points)) {
       const [u, v] = this.plane.toScreen(at);
       const away = Math.hypot(u - x, v - y);
-      if (away < near.away - 0.01) Object.assign(near, { name, at, away });
+      if (away < (near?.away ?? NEAR_POINT) - 0.01) near = { name, at, away };
     }
-    return near.name ? near : null;
+    return near;
   }
 
-  /** The shape of which the edge itself lies at a place in pixels, if one does. */
-  edgeAt(place) {
-    return this.answer.drawing.shapes.find((shape) => awayFrom(shape, this.shown.viewOf(shape), this.plane, place) < NEAR)?.name;
+  /**
+   * The shape of which the edge itself lies at a place in pixels, if one does.
+   * @param {Place} place
+   * @param {number} [near]
+   */
+  edgeAt(place, near = NEAR) {
+    return this.answer.drawing.shapes.find(
+      (shape) => awayFrom(shape, this.shown.viewOf(shape), this.plane, place) < near)?.name;
   }
 
   /** Shows all that is drawn and placed, and the other shape where that is shown. */
   fit() {
     this.drawNow();
-    const corners = this.boxes().flatMap(([left, low, right, high]) => [[left, low], [right, high]].map((corner) => this.plane.toPlane(corner)));
-    const points = [this.shown.between, this.shown.drawn].flatMap((view) => Object.values(view.points));
+    const corners = this.boxes().flatMap(([left, low, right, high]) => [
+      this.plane.toPlane([left, low]), this.plane.toPlane([right, high])]);
+    const { between: shown, drawn } = this.shown;
+    const points = [...Object.values(shown.points), ...Object.values(drawn.points)];
     this.plane.fit(corners.length ? [...points, ...corners] : points.slice(1), this.size());
     this.draw();
   }
@@ -218,16 +409,24 @@ export class Board {
   reveal() {
     this.drawNow();
     const { width, height } = this.size();
-    if (this.boxes().some(([left, low, right, high]) => left < 0 || low < 0 || right > width || high > height)) this.fit();
+    const isBeside = (/** @type {number[]} */ [left, low, right, high]) => left < 0 || low < 0
+      || right > width || high > height;
+    if (this.boxes().some(isBeside)) this.fit();
   }
 
   /** The boxes of all edges, and of the other shape, in pixels: left, low, right, high. */
   boxes() {
-    const nodes = [this.layers.edges.node, this.layers.other.node].filter((node) => node.childElementCount);
-    return nodes.map((node) => node.getBBox()).map(({ x, y, width, height }) => [x, y, x + width, y + height]);
+    const nodes = [this.layers.edges.node, this.layers.other.node];
+    return nodes.filter((node) => node.childElementCount).map((node) => {
+      const { x, y, width, height } = /** @type {SVGGElement} */ (node).getBBox();
+      return [x, y, x + width, y + height];
+    });
   }
 
-  /** Zooms by a factor about the middle. */
+  /**
+   * Zooms by a factor about the middle.
+   * @param {number} factor
+   */
   zoomBy(factor) {
     const { width, height } = this.size();
     this.plane.zoom(factor, [width / 2, height / 2]);
@@ -239,4 +438,16 @@ export class Board {
     const { width, height } = this.node.getBoundingClientRect();
     return { width: Math.max(width, 50), height: Math.max(height, 50) };
   }
+}
+
+/**
+ * The multiples of a step from one number to another.
+ * @param {number} from
+ * @param {number} to
+ * @param {number} step
+ */
+function between(from, to, step) {
+  const first = Math.ceil(from / step);
+  const count = Math.max(0, Math.floor(to / step) - first + 1);
+  return Array.from({ length: count }, (_, place) => (first + place) * step);
 }

@@ -1,63 +1,106 @@
+// @ts-check
 /** Files: opened, saved, exported; and the gallery. */
-import { html, byId } from './nodes.js';
+import { html, nodeOf } from './nodes.js';
 import { told } from './dialogs.js';
+
+/** @typedef {'dxf' | 'svg' | 'sketch' | 'claim' | 'program-dxf'} Kind */
+/** @typedef {import('./protocol').FileSketch} FileSketch */
+/** @typedef {import('./protocol').Answer} Answer */
 
 /** So many bytes at most a file may have: with what they are sent in, a call holds no more. */
 const MOST_BYTES = 750 * 1024;
-const ENDINGS = { dxf: '.dxf', 'program-dxf': '-program.dxf', svg: '.svg', sketch: '.sketch', claim: '.claim' };
+/** @type {Record<Kind, string>} */
+const ENDINGS = {
+  dxf: '.dxf', 'program-dxf': '-program.dxf', svg: '.svg', sketch: '.sketch', claim: '.claim',
+};
+/** The version of DXF that is written. */
+const RELEASE = 'R2010';
 
 /** What goes in and out of the page. */
 export class Files {
-  input = byId('file');
+  input = nodeOf('file', HTMLInputElement);
 
-  /** `shown`: what is done once another drawing is shown. */
+  /**
+   * `shown`: what is done once another drawing is shown.
+   * @param {import('./paper.js').Paper} paper
+   * @param {import('./keeping.js').Keeping} keeping
+   * @param {() => void} shown
+   */
   constructor(paper, keeping, shown) {
-    Object.assign(this, { paper, keeping, shown });
-    this.input.addEventListener('change', () => this.open(this.input.files[0]));
-    for (const what of ['dragover', 'drop']) document.addEventListener(what, (event) => this.drop(event));
+    this.paper = paper;
+    this.keeping = keeping;
+    this.shown = shown;
+    this.input.addEventListener('change', () => this.open(this.input.files?.[0]));
+    document.addEventListener('dragover', (event) => this.drop(event));
+    document.addEventListener('drop', (event) => this.drop(event));
   }
 
-  /** A file is dropped on the page, or about to be; behind a dialog it is passed over. */
+  /**
+   * A file is dropped on the page, or about to be; behind a dialog it is passed over.
+   * @param {DragEvent} event
+   */
   drop(event) {
-    if (!event.dataTransfer.types.includes('Files')) return;
+    if (!event.dataTransfer?.types.includes('Files')) return;
     event.preventDefault();
-    if (event.type === 'drop' && !document.querySelector('dialog[open]')) this.open(event.dataTransfer.files[0]);
+    const isFree = event.type === 'drop' && !document.querySelector('dialog[open]');
+    if (isFree) this.open(event.dataTransfer.files[0]);
   }
 
-  /** Begins with a text, once what isn't saved is kept aside; of a file something may be left out. */
+  /**
+   * Begins with a text, once what isn't saved is kept aside; of a file something may be left out.
+   * @param {string} text
+   * @param {string} name
+   * @param {string[]} [leftOut]
+   */
   async begin(text, name, leftOut = []) {
     this.paper.settle();
     this.keeping.put(this.paper);
-    byId('name').value = name;
+    nodeOf('name', HTMLInputElement).value = name;
     await this.paper.begin(text, name, text, leftOut);
     this.shown();
   }
 
-  /** Opens a file of the designer's, and lets one of several sketches in it be chosen. */
+  /**
+   * Opens a file of the designer's, and lets one of several sketches in it be chosen.
+   * @param {File | undefined} file
+   */
   async open(file) {
     this.input.value = '';
     if (!file) return;
     const data = file.size > MOST_BYTES ? null : await base64(file);
-    const why = data === null ? 'has over 750 KB: judge it by ./pertxogai judge' : data === undefined ? 'can’t be read' : null;
-    const found = why ? { trouble: { message: `${file.name} ${why}` } } : await this.paper.ask('open', { name: file.name, data });
-    if (found.sketches) {
-      const sketch = found.sketches.length === 1 ? found.sketches[0] : await chosen(file.name, found.sketches);
+    if (typeof data !== 'string') {
+      const large = 'has over 750 KB: judge it by ./pertxogai judge';
+      const why = data === null ? large : 'can’t be read';
+      this.paper.tell('trouble', `${file.name} ${why}`);
+      return;
+    }
+    const found = await this.paper.ask('open', { name: file.name, data });
+    if (found?.sketches) {
+      const { sketches } = found;
+      const sketch = sketches.length === 1 ? sketches[0] : await chosen(file.name, sketches);
       if (sketch) await this.take(sketch);
-    } else if (found) this.paper.tell('trouble', found.trouble?.message ?? `${file.name}, ${found.refused.message}`);
+    } else if (found) this.paper.tell('trouble', whyNot(found, file.name));
   }
 
-  /** Takes a sketch of a file, and tells what of it couldn't be said. */
+  /**
+   * Takes a sketch of a file, and tells what of it couldn't be said.
+   * @param {FileSketch} sketch
+   */
   async take({ text, name, left_out: out, aside }) {
     await this.begin(text, name, out);
-    const lines = [...out.map((each) => `left out: ${each}`), ...aside.map((each) => `not asked for: ${each}`)];
-    if (lines.length) told('What the drawing can’t say of the file', html('ul', {}, ...lines.map((each) => html('li', {}, each))));
+    const lines = [...out.map((each) => `left out: ${each}`),
+      ...aside.map((each) => `not asked for: ${each}`)];
+    if (!lines.length) return;
+    const list = html('ul', {}, ...lines.map((each) => html('li', {}, each)));
+    told('What the drawing can’t say of the file', list);
   }
 
   /** Lets a drawing be chosen to begin from. */
   async gallery() {
     const drawings = await this.paper.queue(() => this.paper.server.gallery());
-    const all = [...this.keeping.unsaved(), ...(drawings || [])];
-    const drawing = all.length && await chosen('Begin from', all);
+    /** @type {import('./keeping.js').Kept[]} */
+    const all = [...this.keeping.unsaved(), ...drawings ?? []];
+    const drawing = all.length ? await chosen('Begin from', all) : undefined;
     if (drawing) this.begin(drawing.text, drawing.name, drawing.leftOut);
   }
 
@@ -68,44 +111,107 @@ export class Files {
     download(`${this.paper.name}.drawing`, text);
   }
 
-  /** Exports what is shown. */
+  /**
+   * Exports what is shown.
+   * @param {Kind} kind
+   */
   async export(kind) {
-    byId('export').open = false;
+    nodeOf('export', HTMLDetailsElement).open = false;
     const text = this.paper.settle();
     const { name } = this.paper;
-    const call = { claim: 'verify' }[kind] ?? kind;
-    const found = kind === 'sketch' ? await this.language(text) : await this.paper.ask(call, { text, name, release: 'R2010' });
-    const content = found[{ 'program-dxf': 'dxf' }[kind] ?? kind];
-    if (content) download(name + ENDINGS[kind], content);
-    else if (found) this.paper.tell('trouble', (found.trouble ?? found.refused)?.message ?? 'there is nothing to export yet');
+    const found = await this.content(kind, text, name);
+    if (found?.content) download(name + ENDINGS[kind], found.content);
+    else if (found) this.paper.tell('trouble', whyNot(found));
   }
 
-  /** The sketch of a text, once it is judged. */
+  /**
+   * The content of a file of a kind, or why there is none; null where the server is stopped.
+   * @param {Kind} kind
+   * @param {string} text
+   * @param {string} name
+   * @returns {Promise<(Answer & { content?: string | null }) | null>}
+   */
+  async content(kind, text, name) {
+    const { paper } = this;
+    switch (kind) {
+      case 'sketch': return this.language(text);
+      case 'claim': return paper.ask('verify', { text })
+        .then((each) => withContent(each, each?.claim));
+      case 'svg': return paper.ask('svg', { text, name })
+        .then((each) => withContent(each, each?.svg));
+      case 'dxf': return paper.ask('dxf', { text, name, release: RELEASE })
+        .then((each) => withContent(each, each?.dxf));
+      default: return paper.ask('program-dxf', { text })
+        .then((each) => withContent(each, each?.dxf));
+    }
+  }
+
+  /**
+   * The sketch of a text, once it is judged.
+   * @param {string} text
+   */
   language(text) {
-    return this.paper.queue(() => {
+    return this.paper.queue(async () => {
       const { answer, refused } = this.paper;
-      return { sketch: answer?.text === text && !refused && answer.judgement?.language, refused };
+      if (refused) return { refused };
+      return { content: answer?.text === text ? answer.judgement?.language : null };
     });
   }
 }
 
-/** The one of several drawings that is chosen by its name; undefined where none is. */
-async function chosen(title, drawings) {
-  const buttons = drawings.map((each, place) => html('button', { value: place, autofocus: place ? null : '' }, each.name.replaceAll('-', ' ')));
-  return drawings[await told(title, html('div', { class: 'gallery' }, ...buttons)) || -1];
+/**
+ * An answer with the content of a file.
+ * @param {Answer | null} answer
+ * @param {string | undefined} content
+ */
+function withContent(answer, content) {
+  return answer && { ...answer, content };
 }
 
-/** The bytes of a file in base 64; undefined where it can't be read. */
+/**
+ * Why a file isn't opened or written, in a line.
+ * @param {Answer} answer
+ * @param {string} [name]
+ */
+function whyNot({ trouble, refused }, name) {
+  if (trouble) return trouble.message;
+  if (!refused) return 'there is nothing to export yet';
+  return name ? `${name}, ${refused.message}` : refused.message;
+}
+
+/**
+ * The one of several drawings that is chosen by its name; undefined where none is.
+ * @template {{ name: string }} T
+ * @param {string} title
+ * @param {T[]} drawings
+ * @returns {Promise<T | undefined>}
+ */
+async function chosen(title, drawings) {
+  const buttons = drawings.map((each, place) => html('button', {
+    value: place, autofocus: place ? null : '' }, each.name.replaceAll('-', ' ')));
+  const place = await told(title, html('div', { class: 'gallery' }, ...buttons));
+  return place ? drawings[Number(place)] : undefined;
+}
+
+/**
+ * The bytes of a file in base 64; undefined where it can't be read.
+ * @param {File} file
+ */
 async function base64(file) {
   const reader = new FileReader();
   await new Promise((done) => {
     reader.onloadend = done;
     reader.readAsDataURL(file);
   });
-  return reader.result?.slice(reader.result.indexOf(',') + 1);
+  const { result } = reader;
+  return typeof result === 'string' ? result.slice(result.indexOf(',') + 1) : undefined;
 }
 
-/** Hands a text to the browser as a file. */
+/**
+ * Hands a text to the browser as a file.
+ * @param {string} name
+ * @param {string} text
+ */
 function download(name, text) {
   const href = URL.createObjectURL(new Blob([text], { type: 'application/octet-stream' }));
   html('a', { href, download: name }).click();

@@ -1,31 +1,52 @@
+// @ts-check
 /** The keyboard: a key that a button has is that button; what else a key does is told here. */
 import { byId } from './nodes.js';
 
+/** @typedef {import('./main.js').Page} Page */
+
+/** @type {Record<string, [number, number]>} */
 const ARROWS = { ArrowLeft: [-1, 0], ArrowRight: [1, 0], ArrowUp: [0, 1], ArrowDown: [0, -1] };
-/** Many keyboards have these by AltGr or by Option alone, or by Shift. */
+/**
+ * Many keyboards have these by AltGr or by Option alone, or by Shift.
+ * @type {Record<string, -1 | 1>}
+ */
 const BRACKETS = { '[': -1, '{': -1, ']': 1, '}': 1 };
+/** @type {Record<string, number>} */
 const ZOOMS = { '+': 1.25, '=': 1.25, '-': 0.8 };
 
 /** Listens to keys, and does what they say by the page's parts. */
 export class Keys {
+  /** @param {Page} page */
   constructor(page) {
     this.page = page;
-    document.addEventListener('keydown', (event) => { if (this.does(event)) event.preventDefault(); });
+    document.addEventListener('keydown', (event) => {
+      if (this.does(event)) event.preventDefault();
+    });
   }
 
-  /** Does what a key says; false where it says nothing. */
+  /**
+   * Does what a key says; false where it says nothing.
+   * @param {KeyboardEvent} event
+   */
   does(event) {
     const { key, shiftKey: shift } = event;
     const chord = (event.ctrlKey || event.metaKey) && !BRACKETS[key];
-    const dialog = document.querySelector('dialog[open]');
-    const proposed = Number(event.target.closest('[data-proposed]')?.dataset.proposed);
-    const isTyping = dialog || event.target.matches('input:not([type="range"]), textarea');
-    if (isTyping) return chord && (dialog ? 's' : 'so').includes(key.toLowerCase()) && pressed(`Control+${key}`);
+    if (isTyping(event)) return chord && savesOrOpens(key) && pressed(`Control+${key}`);
+    if (ARROWS[key]) return this.arrow(event, chord);
+    if (chord) return pressed(`Control+${shift ? 'Shift+' : ''}${key}`);
+    return this.plain(event);
+  }
+
+  /**
+   * Does what a key says without Ctrl.
+   * @param {KeyboardEvent} event
+   */
+  plain(event) {
+    const { key, shiftKey: shift } = event;
+    const proposed = proposedAt(event);
     if (proposed && key === 'Enter') this.page.proposals.change(proposed);
     else if (proposed && key === ' ') this.page.proposals.take(proposed);
     else if (BRACKETS[key]) this.page.gestures.next(BRACKETS[key], shift || '{}'.includes(key));
-    else if (ARROWS[key]) return this.arrow(event, chord);
-    else if (chord) return pressed(`Control+${shift ? 'Shift+' : ''}${key}`);
     else if (event.altKey) return pressed(`Alt+${key}`);
     else if (ZOOMS[key]) this.page.board.zoomBy(ZOOMS[key]);
     else if (key === 'Escape') this.page.escape();
@@ -34,7 +55,11 @@ export class Keys {
     return true;
   }
 
-  /** An arrow: with Alt it moves what is selected, with Ctrl it pans, else it moves the cross. */
+  /**
+   * An arrow: with Alt it moves what is selected, with Ctrl it pans, else it moves the cross.
+   * @param {KeyboardEvent} event
+   * @param {boolean} chord
+   */
   arrow(event, chord) {
     const { gestures } = this.page;
     const [dx, dy] = ARROWS[event.key];
@@ -46,22 +71,64 @@ export class Keys {
     return true;
   }
 
-  /** Changes the value of the dimension that is selected, unless a tool draws; else clicks at the cross. */
+  /**
+   * Changes the value of the dimension that is selected, unless a tool draws; else clicks at the
+   * cross.
+   * @param {boolean} shift
+   */
   enter(shift) {
-    const { gestures, hand, offers, selection: { numbers: [number] } } = this.page;
+    const { gestures, hand, offers, selection: { numbers } } = this.page;
+    const [number] = numbers;
     if (number && !hand.draws) offers.change(number);
     else gestures.enter(shift);
   }
 }
 
-/** Presses the button that has a key; false where none has it now. */
-function pressed(key) {
-  const button = document.querySelector(`[aria-keyshortcuts~="${CSS.escape(key)}" i]:not([hidden])`);
-  button?.click();
-  return Boolean(button);
+/**
+ * The number of what is proposed that has the focus; 0 of none.
+ * @param {KeyboardEvent} event
+ */
+function proposedAt({ target }) {
+  const mark = target instanceof Element ? target.closest('[data-proposed]') : null;
+  return Number(mark?.getAttribute('data-proposed'));
 }
 
-/** Whether a key is pressed on the board, or on nothing that takes keys. */
-function onBoard(event) {
-  return event.target.closest('#board') || [document.body, byId('verdict')].includes(event.target);
+/**
+ * Whether a text is being typed, or a dialog is open.
+ * @param {KeyboardEvent} event
+ */
+function isTyping({ target }) {
+  const fields = 'input:not([type="range"]), textarea';
+  const isField = target instanceof Element && target.matches(fields);
+  return isField || document.querySelector('dialog[open]') !== null;
+}
+
+/**
+ * Whether a key saves or, where no dialog is open, opens.
+ * @param {string} key
+ */
+function savesOrOpens(key) {
+  return (document.querySelector('dialog[open]') ? 's' : 'so').includes(key.toLowerCase());
+}
+
+/**
+ * Presses the button that has a key; false where none has it now.
+ * @param {string} key
+ */
+function pressed(key) {
+  const selector = `[aria-keyshortcuts~="${CSS.escape(key)}" i]:not([hidden])`;
+  const button = document.querySelector(selector);
+  if (!(button instanceof HTMLElement)) return false;
+  button.click();
+  return true;
+}
+
+/**
+ * Whether a key is pressed on the board, or on nothing that takes keys.
+ * @param {KeyboardEvent} event
+ */
+function onBoard({ target }) {
+  if (!(target instanceof Element)) return false;
+  const isElsewhere = target === document.body || target === byId('verdict');
+  return isElsewhere || target.closest('#board') !== null;
 }

@@ -1,13 +1,26 @@
+// @ts-check
 /** A group whose nodes are kept while what they show stays the same. */
+
+/** @typedef {import('./page').Made} Made */
+
 export class Layer {
+  /** @type {Map<string | number, { state: string, node: Element }>} */
   kept = new Map();
 
-  /** `make` makes a node, as `svg` does. */
+  /**
+   * `make` makes a node, as `svg` does.
+   * @param {Element} node
+   * @param {(...made: Made) => Element} make
+   */
   constructor(node, make) {
-    Object.assign(this, { node, make });
+    this.node = node;
+    this.make = make;
   }
 
-  /** Shows things, each a key and what its node is made of. */
+  /**
+   * Shows things, each a key and what its node is made of.
+   * @param {import('./page').Keyed[]} things
+   */
   show(things) {
     const kept = new Map();
     for (const [key, ...made] of things) {
@@ -19,7 +32,7 @@ export class Layer {
     this.kept = kept;
     let next = this.node.firstChild;
     for (const { node } of kept.values()) {
-      if (node === next) next = next.nextSibling;
+      if (node === next) next = node.nextSibling;
       else this.node.insertBefore(node, next);
     }
   }

@@ -1,12 +1,13 @@
+// @ts-check
 /** The page: its parts, and what goes from one to the other. */
-import { byId } from './nodes.js';
+import { byId, buttonOf, nodeOf } from './nodes.js';
 import { closed } from './dialogs.js';
 import { Server } from './calls.js';
 import { Paper } from './paper.js';
 import { Selection } from './selection.js';
 import { Board, NOTHING } from './board.js';
 import { Gestures } from './gestures.js';
-import { Hand } from './tools.js';
+import { Hand, isTool } from './tools.js';
 import { Offers } from './offers.js';
 import { Verdict } from './verdict.js';
 import { Proposals } from './proposals.js';
@@ -18,79 +19,125 @@ import { Files } from './files.js';
 import { Keeping } from './keeping.js';
 import { Keys } from './keys.js';
 
+/** @typedef {import('./protocol').Judged} Judged */
+/** @typedef {import('./tools.js').Tool} Tool */
+
+/** So many milliseconds pass before a server that is stopped is tried again. */
 const RETRY = 1500;
 
 /** All parts of the page. */
-class Page {
+export class Page {
+  /**
+   * What tries a server that is stopped.
+   * @type {number | null}
+   */
   stopped = null;
   selection = new Selection();
   hand = new Hand();
+  name = nodeOf('name', HTMLInputElement);
+  menu = nodeOf('export', HTMLDetailsElement);
 
   constructor() {
     this.server = new Server((why) => this.reach(why));
-    const paper = this.paper = new Paper(this.server);
-    this.board = new Board(byId('board'), this.selection);
-    this.gestures = new Gestures(this.board, paper, this.selection, this.hand, hint);
-    this.offers = new Offers(paper, this.board, this.selection);
-    this.verdict = new Verdict(byId('verdict'), paper, this.selection);
+    this.paper = new Paper(this.server);
+    const { paper, selection, hand } = this;
+    this.board = new Board(nodeOf('board', SVGSVGElement), selection);
+    this.gestures = new Gestures(this.board, paper, selection, hand, hint);
+    this.offers = new Offers(paper, this.board, selection);
+    this.verdict = new Verdict(byId('verdict'), paper, selection);
     this.proposals = new Proposals(paper, this.board);
     this.texts = new Texts(paper);
-    this.asked = new Asked(paper, this.selection, this.offers);
+    this.asked = new Asked(paper, selection, this.offers);
     this.steps = new Steps(paper, this.board);
     this.keeping = new Keeping(paper, banner);
     this.files = new Files(paper, this.keeping, () => this.board.fit());
     this.keys = new Keys(this);
     this.tabs = new Tabs();
-    this.acts = this.buttons(this);
+    this.acts = this.buttons();
   }
 
-  /** What each button of the page does, by its id. */
-  buttons({ paper, board, files, offers, steps, proposals, gestures: { sequence } }) {
+  /**
+   * What each button of the page does, by its id.
+   * @returns {Record<string, (button: HTMLElement) => void>}
+   */
+  buttons() {
+    const { paper, board, files, offers, steps, proposals, gestures: { sequence } } = this;
     return {
-      new: () => files.begin('', 'drawing'), gallery: () => files.gallery(), open: () => files.input.click(), save: () => files.save(),
-      undo: () => sequence.do(() => paper.go(-1)), redo: () => sequence.do(() => paper.go(1)), help: () => closed(byId('keys')),
-      construction: (button) => sequence.do(() => this.construct(button)), fit: () => board.fit(), complete: () => proposals.takeAll(), 'redraw-all': () => paper.redraw([]),
-      revalue: () => this.keys.enter(false), construct: () => offers.construct(), rename: () => offers.rename(), erase: () => offers.erase(),
-      back: () => steps.go(-1), on: () => steps.go(1), play: () => steps.play(), flip: () => steps.flip(), redraw: () => steps.redraw(), verify: () => steps.verify(),
+      new: () => files.begin('', 'drawing'),
+      gallery: () => files.gallery(),
+      open: () => files.input.click(),
+      save: () => files.save(),
+      undo: () => sequence.do(() => paper.go(-1)),
+      redo: () => sequence.do(() => paper.go(1)),
+      help: () => closed(nodeOf('keys', HTMLDialogElement)),
+      construction: (button) => sequence.do(() => this.construct(button)),
+      fit: () => board.fit(),
+      complete: () => proposals.takeAll(),
+      'redraw-all': () => paper.redraw([]),
+      revalue: () => this.keys.enter(false),
+      construct: () => offers.construct(),
+      rename: () => offers.rename(),
+      erase: () => offers.erase(),
+      back: () => steps.go(-1),
+      on: () => steps.go(1),
+      play: () => steps.play(),
+      flip: () => steps.flip(),
+      redraw: () => steps.redraw(),
+      verify: () => steps.verify(),
     };
   }
 
   /** Listens to the parts, and shows what was kept. */
   begin() {
     const { paper, keeping } = this;
-    paper.addEventListener('begin', () => this.leave());
-    paper.addEventListener('answer', (event) => this.show(event.detail));
-    paper.addEventListener('trouble', (event) => hint(event.detail, 'trouble'));
+    paper.when('begin', () => this.leave());
+    paper.when('answer', (answer) => this.show(answer));
+    paper.when('trouble', (text) => hint(text, 'trouble'));
     document.addEventListener('click', ({ target }) => {
-      if (!target.closest('#export')) byId('export').open = false;
+      if (!(target instanceof Element)) return;
+      if (!target.closest('#export')) this.menu.open = false;
       this.click(target.closest('button'));
     });
-    paper.addEventListener('settle', () => this.call());
-    byId('name').addEventListener('change', () => { this.call(); keeping.keep(); });
-    byId('board').addEventListener('mouseup', (event) => this.pressed(event.detail));
+    paper.when('settle', () => this.call());
+    this.name.addEventListener('change', () => {
+      this.call();
+      keeping.keep();
+    });
+    this.board.node.addEventListener('mouseup', (event) => this.pressed(event.detail));
     this.take('select');
-    const { text = '', name = 'drawing', saved = '', leftOut = [] } = keeping.kept() ?? {};
-    byId('name').value = name;
+    /** @type {Partial<import('./keeping.js').Kept>} */
+    const kept = keeping.kept() ?? {};
+    const { text = '', name = 'drawing', saved = '', leftOut = [] } = kept;
+    this.name.value = name;
     paper.begin(text, name, saved, leftOut).then(() => this.board.fit());
   }
 
   /** The drawing is called as its field says. */
   call() {
-    this.paper.name = byId('name').value.trim() || 'drawing';
+    this.paper.name = this.name.value.trim() || 'drawing';
   }
 
-  /** A button is clicked. */
+  /**
+   * A button is clicked.
+   * @param {HTMLButtonElement | null} button
+   */
   click(button) {
     if (!button) return;
     const { tool, export: kind } = button.dataset;
-    if (tool) this.gestures.sequence.do(() => this.take(tool));
-    else if (kind) this.files.export(kind);
+    if (isTool(tool)) this.gestures.sequence.do(() => this.take(tool));
+    else if (kind) this.files.export(/** @type {import('./files.js').Kind} */ (kind));
     else this.acts[button.id]?.(button);
   }
 
-  /** The mouse was pressed so many times: twice on a dimension changes its value, once the clicks are through. Of a mark that is drawn anew between two presses the browser tells no double click. */
+  /**
+   * The mouse was pressed so many times: twice on a dimension changes its value, once the clicks
+   * are through. Of a mark that is drawn anew between two presses the browser tells no double
+   * click.
+   * @param {number} times
+   */
   pressed(times) {
-    if (times === 2 && !this.hand.draws) setTimeout(() => this.offers.change(this.gestures.clicked));
+    if (times !== 2 || this.hand.draws) return;
+    setTimeout(() => this.offers.change(Number(this.gestures.clicked)));
   }
 
   /** Another drawing begins: nothing of the last is shown, held or selected. */
@@ -102,11 +149,15 @@ class Page {
     this.take(this.hand.tool);
   }
 
-  /** Hears why the server isn't there, if it isn't; once it is again, the drawing is judged. */
+  /**
+   * Hears why the server isn't there, if it isn't; once it is again, the drawing is judged.
+   * @param {string} why
+   */
   reach(why) {
     document.body.dataset.server = why ? 'stopped' : 'there';
     banner('server', why);
-    if (why) this.stopped ??= setInterval(() => this.server.reached('gallery').catch(() => {}), RETRY);
+    const retry = () => this.server.reached('gallery').catch(() => {});
+    if (why) this.stopped ??= window.setInterval(retry, RETRY);
     else if (this.stopped) {
       clearInterval(this.stopped);
       this.stopped = null;
@@ -114,17 +165,25 @@ class Page {
     }
   }
 
-  /** Takes a tool. */
+  /**
+   * Takes a tool.
+   * @param {Tool} tool
+   */
   take(tool) {
     this.hand.take(tool);
     this.board.preview = null;
     this.board.node.classList.toggle('draws', this.hand.draws);
-    for (const button of document.querySelectorAll('[data-tool]')) button.ariaPressed = String(button.dataset.tool === tool);
+    for (const button of document.querySelectorAll('[data-tool]')) {
+      button.ariaPressed = String(button.getAttribute('data-tool') === tool);
+    }
     hint(this.hand.hint);
     this.board.draw();
   }
 
-  /** Draws lines of help from now on, or edges again. */
+  /**
+   * Draws lines of help from now on, or edges again.
+   * @param {HTMLElement} button
+   */
   construct(button) {
     this.hand.construction = !this.hand.construction;
     button.ariaPressed = String(this.hand.construction);
@@ -132,9 +191,10 @@ class Page {
 
   /** Gives up: the menu, or else what the hand is about, in its turn. */
   escape() {
-    const menu = byId('export');
+    const { menu } = this;
+    const { firstElementChild: title } = menu;
     if (!menu.open) this.gestures.sequence.do(() => this.drop());
-    else if (menu.contains(document.activeElement)) menu.firstElementChild.focus();
+    else if (menu.contains(document.activeElement) && title instanceof HTMLElement) title.focus();
     menu.open = false;
   }
 
@@ -148,28 +208,41 @@ class Page {
     board.draw();
   }
 
-  /** Shows an answer everywhere. */
+  /**
+   * Shows an answer everywhere.
+   * @param {Judged} answer
+   */
   show(answer) {
     const { paper } = this;
-    if (answer.drawing) {
-      this.selection.keep(answer.drawing);
-      this.board.show(answer.refused ? paper.answer : answer);
+    const { drawing } = answer;
+    if (drawing) {
+      this.selection.keep(drawing);
+      this.board.show({ drawing, judgement: answer.refused ? paper.answer?.judgement
+        : answer.judgement });
     }
     this.verdict.show(answer);
     this.texts.show(answer);
-    byId('undo').ariaDisabled = String(!paper.history.can(-1));
-    byId('redo').ariaDisabled = String(!paper.history.can(1));
-    byId('redraw-all').disabled = !answer.judgement?.placed;
+    buttonOf('undo').ariaDisabled = String(!paper.history.can(-1));
+    buttonOf('redo').ariaDisabled = String(!paper.history.can(1));
+    buttonOf('redraw-all').disabled = !answer.judgement?.placed;
     document.title = `${paper.name}, a drawing board`;
   }
 }
 
-/** Shows a line at the foot of the board: what to do next, or of a kind. */
+/**
+ * Shows a line at the foot of the board: what to do next, or of a kind.
+ * @param {string} text
+ * @param {string} [kind]
+ */
 function hint(text, kind = '') {
   Object.assign(byId('hint'), { textContent: text, title: text, className: kind });
 }
 
-/** Shows a line of the server's, the tabs' or the keeping's over the whole page, or none. */
+/**
+ * Shows a line of the server's, the tabs' or the keeping's over the whole page, or none.
+ * @param {string} whose
+ * @param {string} text
+ */
 function banner(whose, text) {
   byId(`told-${whose}`).textContent = text;
 }

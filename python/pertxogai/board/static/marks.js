@@ -1,109 +1,250 @@
+// @ts-check
 /** The dimensions and signs of constraints, as what SVG nodes are made of. */
 import { middleOf } from './shapes.js';
 
-/** How far in pixels a bar may stand beside what it measures, and a text or sign from its place. */
+/** @typedef {import('./page').Place} Place */
+/** @typedef {import('./page').PlacedMark} PlacedMark */
+/** @typedef {import('./protocol').Mark} Mark */
+
+/** How far in pixels a bar may stand beside what it measures. */
 const AWAYS = [24, 43, 62, 81, 100, 119, 138];
+/**
+ * How far in pixels a text may stand from its place.
+ * @type {Place[]}
+ */
 const TEXT_STEPS = [[0, -18], [0, 18], [34, 0], [-34, 0], [0, -36], [0, 36]];
-const SIGN_STEPS = [[11, -12], [-11, -12], [11, 12], [-11, 12], [24, -12], [24, 12], [37, -12], [50, -12]];
-/** How far a sign stands along an edge and beside it, so that it takes no click of the edge. */
-const BESIDE_STEPS = [[0, -17], [0, 17], [18, -17], [-18, -17], [18, 17], [-18, 17], [36, -17], [36, 17]];
+/**
+ * How far a sign may stand from its place.
+ * @type {Place[]}
+ */
+const SIGN_STEPS = [[11, -12], [-11, -12], [11, 12], [-11, 12], [24, -12], [24, 12], [37, -12],
+  [50, -12]];
+/**
+ * How far a sign stands along an edge and beside it, so that it takes no click of the edge.
+ * @type {Place[]}
+ */
+const BESIDE_STEPS = [[0, -17], [0, 17], [18, -17], [-18, -17], [18, 17], [-18, 17], [36, -17],
+  [36, 17]];
 /** The height of a line of text in pixels. */
 const ROW = 15;
+/** So near in pixels two bars that run one way lie over each other. */
+const ASIDE = 9;
 
 /** Finds places for the marks of an answer; those that are taken make the next one step aside. */
 export class Marks {
+  /**
+   * The texts that stand, by the rows in which they do: each its place, and half its width.
+   * @type {Map<number, [number, number, number][]>}
+   */
+  rows = new Map();
+  /**
+   * The bars that stand, by their ends.
+   * @type {[Place, Place][]}
+   */
+  bars = [];
+
+  /** @param {import('./view.js').View} plane */
   constructor(plane) {
     this.plane = plane;
-    this.rows = new Map();
-    this.bars = [];
   }
 
-  /** All marks with their places, bars first. */
+  /**
+   * All marks with their places, bars first.
+   * @param {(Mark & { line?: string })[]} marks
+   * @returns {PlacedMark[]}
+   */
   all(marks) {
-    return [...marks].sort((one, other) => Boolean(other.bar) - Boolean(one.bar)).map((mark) => {
-      const placed = mark.bar ? this.bar(mark) : this.tag(mark);
+    const bars = marks.filter((mark) => mark.bar);
+    return [...bars, ...marks.filter((mark) => !mark.bar)].map((mark) => {
+      const placed = mark.bar ? this.bar(mark, mark.bar) : this.tag(mark);
       this.take(placed.at, placed.text);
       return { number: mark.number, sign: mark.sign, line: mark.line, ...placed };
     });
   }
 
-  /** A bar between two places, beside what it measures, with its text. */
-  bar(mark) {
-    const [start, end] = mark.bar.map((place) => this.plane.toScreen(place));
+  /**
+   * A bar between two places, beside what it measures, with its text.
+   * @param {Mark} mark
+   * @param {[Place, Place]} bar
+   */
+  bar({ text = '' }, bar) {
+    const [start, end] = [this.plane.toScreen(bar[0]), this.plane.toScreen(bar[1])];
     const length = Math.hypot(end[0] - start[0], end[1] - start[1]) || 1;
+    /** @type {Place} */
     const way = [(end[0] - start[0]) / length, (end[1] - start[1]) / length];
-    const beside = (away) => [start, end].map(([x, y]) => [x - way[1] * away, y + way[0] * away]);
-    const ends = AWAYS.map(beside).find((each) => this.isOpen(...each, way, length, mark.text)) ?? beside(AWAYS[0]);
-    this.bars.push(ends);
-    const [a, b] = ends;
-    return { path: `M${start}L${a}M${end}L${b}M${a}L${b}${tip(a, way)}${tip(b, [-way[0], -way[1]])}`, text: mark.text, at: middleOf([a, b]) };
+    const beside = ends(start, end, way);
+    const free = AWAYS.map(beside).find(([a, b]) => this.isOpen(a, b, way, length, text));
+    const [a, b] = free ?? beside(AWAYS[0]);
+    this.bars.push([a, b]);
+    const path = `M${start}L${a}M${end}L${b}M${a}L${b}${tip(a, way)}${tip(b, [-way[0], -way[1]])}`;
+    return { path, text, at: middleOf([a, b]) };
   }
 
-  /** Whether a bar between two places, and its text, lie over no other. */
-  isOpen(a, b, [ux, uy], length, text) {
-    if (!this.isFree(middleOf([a, b]), text)) return false;
-    const [left, right, low, high] = box(a, b, 9);
-    return this.bars.every(([p, q]) => {
-      if (Math.max(p[0], q[0]) < left || Math.min(p[0], q[0]) > right || Math.max(p[1], q[1]) < low || Math.min(p[1], q[1]) > high) return true;
-      const [[along, aside], [far, other]] = [p, q].map(([x, y]) => [(x - a[0]) * ux + (y - a[1]) * uy, (y - a[1]) * ux - (x - a[0]) * uy]);
-      const isApart = Math.min(Math.abs(aside), Math.abs(other)) > 9 || aside * other < 0;
-      return isApart || Math.max(along, far) < 1 || Math.min(along, far) > length - 1;
-    });
+  /**
+   * Whether a bar between two places, and its text, lie over no other.
+   * @param {Place} a
+   * @param {Place} b
+   * @param {Place} way
+   * @param {number} length
+   * @param {string} text
+   */
+  isOpen(a, b, way, length, text) {
+    const within = box(a, b, ASIDE);
+    return this.isFree(middleOf([a, b]), text)
+      && this.bars.every((bar) => isBeside(bar, within) || isAcross(bar, a, way, length));
   }
 
-  /** A text or a sign near a place. */
+  /**
+   * A text or a sign near a place.
+   * @param {Mark} mark
+   */
   tag(mark) {
     const radius = (mark.radius ?? 0) * this.plane.scale;
-    const text = mark.text ?? mark.sign;
-    let at = this.plane.toScreen(mark.at);
-    if (radius) at = [at[0] + radius * 0.7071 + 18, at[1] - radius * 0.7071 - 12];
-    const steps = mark.way ? beside(mark.way) : mark.sign ? SIGN_STEPS : radius ? [[0, 0], ...TEXT_STEPS] : TEXT_STEPS;
-    const free = steps.map((step) => [at[0] + step[0], at[1] + step[1]]).find((each) => this.isFree(each, text));
-    return { path: null, text, at: free ?? [at[0], at[1] - 24] };
+    const text = mark.text ?? mark.sign ?? '';
+    const [x, y] = this.plane.toScreen(mark.at ?? [0, 0]);
+    const [u, v] = radius ? [x + radius * 0.7071 + 18, y - radius * 0.7071 - 12] : [x, y];
+    /** @type {Place[]} */
+    const places = stepsOf(mark, radius).map(([dx, dy]) => [u + dx, v + dy]);
+    /** @type {Place} */
+    const at = places.find((each) => this.isFree(each, text)) ?? [u, v - 24];
+    return { path: null, text, at };
   }
 
-  /** A text stands at a place from now on. */
+  /**
+   * A text stands at a place from now on.
+   * @param {Place} place
+   * @param {string} text
+   */
   take([x, y], text) {
     const row = Math.floor(y / ROW);
-    if (!this.rows.has(row)) this.rows.set(row, []);
-    this.rows.get(row).push([x, y, width(text)]);
+    this.rows.set(row, [...this.rows.get(row) ?? [], [x, y, width(text)]]);
   }
 
-  /** Whether no text stands where another of this length would. */
+  /**
+   * Whether no text stands where another of this length would.
+   * @param {Place} place
+   * @param {string} text
+   */
   isFree([x, y], text) {
     const half = width(text);
     const row = Math.floor(y / ROW);
-    return [row - 1, row, row + 1].every((near) => (this.rows.get(near) ?? []).every(([u, v, other]) => Math.abs(u - x) > half + other || Math.abs(v - y) > ROW));
+    const near = [row - 1, row, row + 1].flatMap((each) => this.rows.get(each) ?? []);
+    return near.every(([u, v, other]) => Math.abs(u - x) > half + other || Math.abs(v - y) > ROW);
   }
 }
 
-/** The steps beside an edge that runs a way, in pixels: those to its left first, since bars stand to its right. */
+/**
+ * The steps by which a text or a sign may go aside.
+ * @param {Mark} mark
+ * @param {number} radius
+ * @returns {Place[]}
+ */
+function stepsOf(mark, radius) {
+  if (mark.way) return beside(mark.way);
+  if (mark.sign) return SIGN_STEPS;
+  return radius ? [[0, 0], ...TEXT_STEPS] : TEXT_STEPS;
+}
+
+/**
+ * The ends of a bar that stands beside two places, by how far it does.
+ * @param {Place} start
+ * @param {Place} end
+ * @param {Place} way
+ * @returns {(away: number) => [Place, Place]}
+ */
+function ends([x, y], [u, v], way) {
+  return (away) => {
+    const [dx, dy] = [-way[1] * away, way[0] * away];
+    return [[x + dx, y + dy], [u + dx, v + dy]];
+  };
+}
+
+/**
+ * Whether a bar lies beside a box.
+ * @param {[Place, Place]} bar
+ * @param {number[]} box
+ */
+function isBeside([p, q], [left, right, low, high]) {
+  return Math.max(p[0], q[0]) < left || Math.min(p[0], q[0]) > right
+    || Math.max(p[1], q[1]) < low || Math.min(p[1], q[1]) > high;
+}
+
+/**
+ * Whether a bar runs past one that begins at a place and runs a way, or crosses it.
+ * @param {[Place, Place]} bar
+ * @param {Place} a
+ * @param {Place} way
+ * @param {number} length
+ */
+function isAcross(bar, a, [ux, uy], length) {
+  const [[along, aside], [far, other]] = bar.map(([x, y]) => [
+    (x - a[0]) * ux + (y - a[1]) * uy, (y - a[1]) * ux - (x - a[0]) * uy]);
+  const isApart = Math.min(Math.abs(aside), Math.abs(other)) > ASIDE || aside * other < 0;
+  return isApart || Math.max(along, far) < 1 || Math.min(along, far) > length - 1;
+}
+
+/**
+ * The steps beside an edge that runs a way, in pixels: those to its left first, since bars stand to
+ * its right.
+ * @param {Place} way
+ * @returns {Place[]}
+ */
 function beside([dx, dy]) {
   return BESIDE_STEPS.map(([along, aside]) => [dx * along + dy * aside, dx * aside - dy * along]);
 }
 
-/** A placed mark, in classes, with what is told of it where a hand rests on it. */
+/**
+ * A placed mark, in classes, with what is told of it where a hand rests on it.
+ * @param {PlacedMark} mark
+ * @param {number} key
+ * @param {string} kind
+ * @param {string} [told]
+ * @returns {import('./page').Keyed}
+ */
 export function markMade({ number, sign, path, text, at: [x, y] }, key, kind, told) {
-  return [key, 'g', { class: kind, 'data-constraint': number }, told && ['title', {}, told], path && ['path', { class: 'mark', d: path }], ['text', { x, y, class: sign ? 'sign' : 'value' }, text]];
+  return [key, 'g', { class: kind, 'data-constraint': number }, told && ['title', {}, told],
+    path && ['path', { class: 'mark', d: path }],
+    ['text', { x, y, class: sign ? 'sign' : 'value' }, text]];
 }
 
-/** A placed mark of what is proposed: a button, with its line where a hand rests on it. */
+/**
+ * A placed mark of what is proposed: a button, with its line where a hand rests on it.
+ * @param {PlacedMark} mark
+ * @param {number} key
+ * @returns {import('./page').Keyed}
+ */
 export function proposedMade({ number, sign, path, text, line, at: [x, y] }, key) {
-  return [key, 'g', { class: 'proposedmark', 'data-proposed': number, role: 'button', tabindex: 0, 'aria-label': `add ${line}` }, ['title', {}, `${line}: click adds it, Enter asks for another value`],
-    path && ['path', { class: 'mark', d: path }], ['text', { x, y, class: sign ? 'sign' : 'value' }, text]];
+  return [key, 'g', { class: 'proposedmark', 'data-proposed': number, role: 'button', tabindex: 0,
+    'aria-label': `add ${line}` },
+  ['title', {}, `${line}: click adds it, Enter asks for another value`],
+  path && ['path', { class: 'mark', d: path }],
+  ['text', { x, y, class: sign ? 'sign' : 'value' }, text]];
 }
 
-/** The box of two places, with so much around: left, right, low, high. */
+/**
+ * The box of two places, with so much around: left, right, low, high.
+ * @param {Place} one
+ * @param {Place} other
+ * @param {number} around
+ */
 function box([x, y], [u, v], around) {
-  return [Math.min(x, u) - around, Math.max(x, u) + around, Math.min(y, v) - around, Math.max(y, v) + around];
+  return [Math.min(x, u) - around, Math.max(x, u) + around,
+    Math.min(y, v) - around, Math.max(y, v) + around];
 }
 
-/** Half the width of a text in pixels, nearly. */
+/**
+ * Half the width of a text in pixels, nearly.
+ * @param {string} text
+ */
 function width(text) {
-  return 4 + 3.6 * String(text).length;
+  return 4 + 3.6 * text.length;
 }
 
-/** An arrow's tip at a place, pointing outwards. */
+/**
+ * An arrow's tip at a place, pointing outwards.
+ * @param {Place} place
+ * @param {Place} way
+ */
 function tip([x, y], [dx, dy]) {
   return `M${x} ${y}l${dx * 8 - dy * 2.6} ${dy * 8 + dx * 2.6}l${dy * 5.2} ${-dx * 5.2}Z`;
 }

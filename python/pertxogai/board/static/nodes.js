@@ -1,30 +1,86 @@
+// @ts-check
 /** Nodes of the page and of the board's SVG, made in a word. */
 
-/** The node of the page that has this id. */
-export const byId = (id) => document.getElementById(id);
+/** @typedef {import('./page').Attributes} Attributes */
+/** @typedef {import('./page').Child} Child */
 
-/** An SVG node with attributes and children; a child may be a list of what makes one. */
-export function svg(tag, attributes = {}, ...children) {
-  return filled(svg, document.createElementNS('http://www.w3.org/2000/svg', tag), attributes, children);
+/** Attributes that are set as style. */
+const STYLES = ['--colour', 'stroke', 'fill'];
+
+/**
+ * The node of the page that has this id, of a kind. Throws TypeError where there is none.
+ * @template {Element} T
+ * @param {string} id
+ * @param {new () => T} kind
+ * @returns {T}
+ */
+export function nodeOf(id, kind) {
+  const node = document.getElementById(id);
+  if (!(node instanceof kind)) throw new TypeError(`#${id} is no ${kind.name}`);
+  return node;
 }
 
-/** An HTML node with attributes and children; `on..` attributes are listeners. */
+/**
+ * The node of the page that has this id.
+ * @param {string} id
+ */
+export const byId = (id) => nodeOf(id, HTMLElement);
+
+/**
+ * The button of the page that has this id.
+ * @param {string} id
+ */
+export const buttonOf = (id) => nodeOf(id, HTMLButtonElement);
+
+/**
+ * An SVG node with attributes and children; a child may be a list of what makes one.
+ * @param {string} tag
+ * @param {Attributes} [attributes]
+ * @param {...Child} children
+ * @returns {SVGElement}
+ */
+export function svg(tag, attributes = {}, ...children) {
+  const node = document.createElementNS('http://www.w3.org/2000/svg', tag);
+  return filled(svg, node, attributes, children);
+}
+
+/**
+ * An HTML node with attributes and children; `on..` attributes are listeners.
+ * @param {string} tag
+ * @param {Attributes} [attributes]
+ * @param {...Child} children
+ * @returns {HTMLElement}
+ */
 export function html(tag, attributes = {}, ...children) {
   return filled(html, document.createElement(tag), attributes, children);
 }
 
-/** A node with its attributes set and its children added; null stands for none. */
+/**
+ * A node with its attributes set and its children added; null stands for none.
+ * @template {HTMLElement | SVGElement} T
+ * @param {(...made: import('./page').Made) => Node} made
+ * @param {T} node
+ * @param {Attributes} attributes
+ * @param {Child[]} children
+ * @returns {T}
+ */
 function filled(made, node, attributes, children) {
   for (const [name, value] of Object.entries(attributes)) {
-    if (name.startsWith('on')) node.addEventListener(name.slice(2), value);
-    else if (['--colour', 'stroke', 'fill'].includes(name)) node.style.setProperty(name, value);
-    else if (value !== null && value !== undefined) node.setAttribute(name, value);
+    if (value === null || value === undefined) continue;
+    if (typeof value === 'function') node.addEventListener(name.slice(2), value);
+    else if (STYLES.includes(name)) node.style.setProperty(name, String(value));
+    else node.setAttribute(name, String(value));
   }
-  node.append(...children.filter(Boolean).map((child) => (Array.isArray(child) ? made(...child) : child)));
+  for (const child of children) {
+    if (child) node.append(Array.isArray(child) ? made(...child) : child);
+  }
   return node;
 }
 
-/** The colour of a part, by its number from 1. */
+/**
+ * The colour of a part, by its number from 1.
+ * @param {number | null | undefined} part
+ */
 export function colourOf(part) {
   return part ? `var(--part${((part - 1) % 8) + 1})` : 'var(--edge)';
 }

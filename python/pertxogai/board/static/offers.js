@@ -1,7 +1,11 @@
+// @ts-check
 /** The bar of what can be done with the selection. Which constraints fit it, the server says. */
 import { html, byId } from './nodes.js';
 import { middleOf } from './shapes.js';
 import { typed } from './dialogs.js';
+
+/** @typedef {import('./page').Place} Place */
+/** @typedef {import('./protocol').Offer} Offer */
 
 const LETTERS = 'qwertyuiopasdfgh';
 
@@ -9,14 +13,26 @@ const LETTERS = 'qwertyuiopasdfgh';
 export class Offers {
   node = byId('offers');
   turn = 0;
+  /** The names that were selected last, and the offers that are shown. */
+  fitted = '';
+  shown = '';
 
+  /**
+   * @param {import('./paper.js').Paper} paper
+   * @param {import('./board.js').Board} board
+   * @param {import('./selection.js').Selection} selection
+   */
   constructor(paper, board, selection) {
-    Object.assign(this, { paper, board, selection });
+    this.paper = paper;
+    this.board = board;
+    this.selection = selection;
     selection.addEventListener('change', () => this.show());
-    paper.addEventListener('answer', () => { if (!selection.isEmpty) this.show(); });
+    paper.when('answer', () => { if (!selection.isEmpty) this.show(); });
   }
 
-  /** Shows what fits; what fitted another selection goes at once, before the server has answered. */
+  /**
+   * Shows what fits; what fitted another selection goes at once, before the server has answered.
+   */
   async show() {
     const turn = this.turn += 1;
     const { paper, selection } = this;
@@ -27,60 +43,91 @@ export class Offers {
     this.fitted = String(names);
     await shown();
     if (turn !== this.turn) return;
-    const found = names.length && !paper.refused ? await paper.ask('offers', { text: paper.text, names }) : null;
+    const asks = names.length && !paper.refused;
+    const found = asks ? await paper.ask('offers', { text: paper.text, names }) : null;
     if (turn !== this.turn) return;
     this.fill(found?.offers ?? []);
-    if (had && !this.node.querySelector(':focus:not([hidden])')) (this.node.querySelector('button:not([hidden])') ?? this.board.node).focus();
+    if (had) this.focus();
   }
 
-  /** Shows offers as buttons; where they are the same, the buttons stay. */
+  /** The focus goes to the first button that is shown, where none has it. */
+  focus() {
+    if (this.node.querySelector(':focus:not([hidden])')) return;
+    const button = this.node.querySelector('button:not([hidden])');
+    if (button instanceof HTMLElement) button.focus();
+    else this.board.node.focus();
+  }
+
+  /**
+   * Shows offers as buttons; where they are the same, the buttons stay.
+   * @param {Offer[]} offers
+   */
   fill(offers) {
     const shown = JSON.stringify(offers);
-    if (shown !== this.shown) byId('fitting').replaceChildren(...offers.map((offer, place) => this.button(offer, LETTERS[place])));
+    if (shown === this.shown) return;
     this.shown = shown;
+    byId('fitting').replaceChildren(
+      ...offers.map((offer, place) => this.button(offer, LETTERS[place])));
   }
 
   /** Shows the buttons that are there for what is selected: value, construction, name, delete. */
   bar() {
     const { shapes, numbers } = this.selected();
+    const isHelp = shapes.every((shape) => shape.construction);
     byId('revalue').hidden = numbers.length !== 1 || !this.constraint(numbers[0])?.value;
     byId('construct').hidden = !shapes.length;
-    byId('construct').textContent = shapes.every((shape) => shape.construction) ? 'Edge' : 'Construction';
+    byId('construct').textContent = isHelp ? 'Edge' : 'Construction';
     byId('rename').hidden = shapes.length + numbers.length !== 1;
     byId('erase').hidden = shapes.length + numbers.length === 0;
-    this.node.lastElementChild.hidden = !this.selection.isEmpty;
+    byId('nothing-selected').hidden = !this.selection.isEmpty;
   }
 
-  /** A button that asks for a constraint; Alt and a letter is its key. */
+  /**
+   * A button that asks for a constraint; Alt and a letter is its key.
+   * @param {Offer} offer
+   * @param {string} letter
+   */
   button(offer, letter) {
     const [word] = offer.words;
-    const title = `${offer.words.join(' ')}${offer.value === null ? '' : ' ..'} (Alt+${letter})`;
-    return html('button', { 'data-word': word, 'data-letter': letter, 'aria-keyshortcuts': `Alt+${letter}`, title, onclick: () => this.ask(offer) },
-      `${offer.sign} ${word}`.trim(), html('kbd', { 'aria-hidden': 'true' }, letter));
+    const value = offer.value === null ? '' : ' ..';
+    return html('button', {
+      'data-word': word, 'data-letter': letter, 'aria-keyshortcuts': `Alt+${letter}`,
+      title: `${offer.words.join(' ')}${value} (Alt+${letter})`, onclick: () => this.ask(offer),
+    }, `${offer.sign} ${word}`.trim(), html('kbd', { 'aria-hidden': 'true' }, letter));
   }
 
   /** The shapes and the numbers of the constraints that are selected. */
   selected() {
+    const { names, numbers } = this.selection;
     const shapes = this.paper.answer?.drawing?.shapes ?? [];
-    return { shapes: shapes.filter((shape) => this.selection.names.has(shape.name)), numbers: [...this.selection.numbers] };
+    return { shapes: shapes.filter((shape) => names.has(shape.name)), numbers: [...numbers] };
   }
 
-  /** The constraint of a number. */
+  /**
+   * The constraint of a number.
+   * @param {number} number
+   */
   constraint(number) {
     return this.paper.answer?.drawing?.constraints[number - 1];
   }
 
-  /** Asks for a constraint, with the value that is typed. */
-  async ask(offer) {
-    const value = offer.value === null ? '' : await typed(offer.words.join(' '), offer.value, this.place());
-    if (value !== null) await this.paper.edit({ do: 'ask', words: offer.words, ...(value && { value }) });
+  /**
+   * Asks for a constraint, with the value that is typed.
+   * @param {Offer} offer
+   */
+  async ask({ words, value: drawn }) {
+    const value = drawn === null ? '' : await typed(words.join(' '), drawn, this.place());
+    if (value !== null) await this.paper.edit({ do: 'ask', words, ...(value && { value }) });
   }
 
-  /** Gives a constraint another value. */
+  /**
+   * Gives a constraint another value.
+   * @param {number} number
+   */
   async change(number) {
     const constraint = this.constraint(number);
     if (!constraint?.value) return;
-    const { text } = this.paper.answer;
+    const text = this.paper.answer?.text;
     const value = await typed(constraint.called, constraint.value, this.place(number));
     if (value !== null) await this.paper.edit({ do: 'value', number, value }, text);
   }
@@ -88,36 +135,62 @@ export class Offers {
   /** Gives what is selected another name. */
   async rename() {
     const { shapes: [shape], numbers: [number] } = this.selected();
-    const old = number ? this.constraint(number)?.name ?? '' : shape.name;
-    const { text } = this.paper.answer;
-    const name = await typed(number ? 'name of the constraint' : 'name', old, this.place(number));
-    if (name === null) return;
-    if (number) await this.paper.edit({ do: 'call', number, name }, text);
-    else if (await this.paper.edit({ do: 'rename', old, new: name })) this.selection.set([name]);
+    if (number) await this.call(number);
+    else if (shape) {
+      const { name: old } = shape;
+      const name = await typed('name', old, this.place());
+      if (name === null) return;
+      if (await this.paper.edit({ do: 'rename', old, new: name })) this.selection.set([name]);
+    }
+  }
+
+  /**
+   * Gives a constraint a name.
+   * @param {number} number
+   */
+  async call(number) {
+    const text = this.paper.answer?.text;
+    const old = this.constraint(number)?.name ?? '';
+    const name = await typed('name of the constraint', old, this.place(number));
+    if (name !== null) await this.paper.edit({ do: 'call', number, name }, text);
   }
 
   /** Makes lines of help of the shapes that are selected, or edges again. */
   construct() {
     const { shapes } = this.selected();
-    this.paper.edit({ do: 'construction', shapes: shapes.map((shape) => shape.name), construction: !shapes.every((shape) => shape.construction) });
+    const construction = !shapes.every((shape) => shape.construction);
+    const names = shapes.map((shape) => shape.name);
+    this.paper.edit({ do: 'construction', shapes: names, construction });
   }
 
   /** Takes away what is selected: shapes, single points, constraints. */
   erase() {
     const { shapes, numbers } = this.selected();
     this.selection.set([]);
-    this.paper.edit({ do: 'erase', shapes: shapes.map((shape) => shape.name), constraints: numbers });
+    const names = shapes.map((shape) => shape.name);
+    this.paper.edit({ do: 'erase', shapes: names, constraints: numbers });
   }
 
-  /** Where a constraint is marked, else the middle of what is selected, in pixels. */
+  /**
+   * Where a constraint is marked, else the middle of what is selected, in pixels.
+   * @param {number} [number]
+   * @returns {Place}
+   */
   place(number) {
-    const places = [...this.selection.names].map((name) => this.board.placeOf(name)).filter(Boolean);
+    const places = [...this.selection.names].flatMap((name) => {
+      const at = this.board.placeOf(name);
+      return at ? [at] : [];
+    });
     const { width, height } = this.board.size();
-    return this.board.markPlace(number) ?? middleOf(places.length ? places : [[width / 2, height / 2]]);
+    return this.board.markPlace(number)
+      ?? middleOf(places.length ? places : [[width / 2, height / 2]]);
   }
 }
 
-/** Waits until the next frame is shown: the drawing goes before. */
+/**
+ * Waits until the next frame is shown: the drawing goes before.
+ * @returns {Promise<void>}
+ */
 function shown() {
   return new Promise((done) => { requestAnimationFrame(() => setTimeout(done)); });
 }

@@ -1,28 +1,67 @@
+// @ts-check
 /** The document: the drawing's text, its history, and what the server says of it. */
 import { History } from './history.js';
 import { Stopped } from './calls.js';
 
-const CHANGED = { message: 'the drawing has changed: choose again' };
+/** @typedef {import('./page').Heard} Heard */
+/** @typedef {import('./protocol').Calls} Calls */
+/** @typedef {import('./protocol').ChangedDrawing} ChangedDrawing */
+/** @typedef {import('./protocol').Drawing} Drawing */
+/** @typedef {import('./protocol').Edit} Edit */
+/** @typedef {import('./protocol').Edited} Edited */
+/** @typedef {import('./protocol').Judged} Judged */
 
-/** A drawing that is worked on. Listeners hear 'begin', 'answer', 'trouble', 'text', and 'settle' where what is being typed is to count. */
+/** @type {import('./protocol').Trouble} */
+const CHANGED = { kind: 'page', message: 'the drawing has changed: choose again' };
+
+/**
+ * A drawing that is worked on. Listeners hear 'begin', 'answer', 'trouble', 'text', and 'settle'
+ * where what is being typed is to count.
+ */
 export class Paper extends EventTarget {
   history = new History('');
   name = 'drawing';
   saved = '';
-  /** What its file has and the drawing can't say, as long as that isn't done. */
+  /**
+   * What its file has and the drawing can't say, as long as that isn't done.
+   * @type {string[]}
+   */
   leftOut = [];
-  /** What is said of the last text that could be read, and the line of this one that can't. */
+  /**
+   * What is said of the last text that could be read.
+   * @type {Judged | null}
+   */
   answer = null;
+  /**
+   * The line of this text that can't be read.
+   * @type {import('./protocol').Refused | null}
+   */
   refused = null;
-  /** What was told of the text that stands. */
+  /**
+   * What was told of the text that stands.
+   * @type {Judged | null}
+   */
   said = null;
-  /** What is being done; the edit that a hand makes while it moves, and the last that was shown, of which text. */
+  /**
+   * What is being done.
+   * @type {Promise<unknown>}
+   */
   waiting = Promise.resolve();
+  /** @type {Promise<unknown>} */
   weighed = Promise.resolve();
+  /**
+   * The edit that a hand makes while it moves.
+   * @type {Edit | null}
+   */
   live = null;
+  /**
+   * The last edit that was shown, of which text, and how.
+   * @type {{ edit: Edit, text: string, answer: Judged } | null}
+   */
   seen = null;
   asked = 0;
 
+  /** @param {import('./calls.js').Server} server */
   constructor(server) {
     super();
     this.server = server;
@@ -33,46 +72,70 @@ export class Paper extends EventTarget {
     return this.history.text;
   }
 
-  /** Begins with a text, under a name, of a file from which something is left out. */
+  /**
+   * Begins with a text, under a name, of a file from which something is left out.
+   * @param {string} text
+   * @param {string} name
+   * @param {string} [saved]
+   * @param {string[]} [leftOut]
+   */
   begin(text, name, saved = text, leftOut = []) {
-    Object.assign(this, { history: new History(text), name, saved, leftOut, answer: null, refused: null, said: null, live: null, seen: null });
-    this.tell('begin');
+    this.history = new History(text);
+    Object.assign(this, { name, saved, leftOut });
+    Object.assign(this, { answer: null, refused: null, said: null, live: null, seen: null });
+    this.tell('begin', null);
     return this.turned();
   }
 
   /** The text as it stands, with all that was typed. */
   settle() {
-    this.tell('settle');
+    this.tell('settle', null);
     return this.text;
   }
 
-  /** Something that was left out of the file is done, or isn't wanted. */
+  /**
+   * Something that was left out of the file is done, or isn't wanted.
+   * @param {string} what
+   */
   forget(what) {
     this.leftOut = this.leftOut.filter((each) => each !== what);
     return this.turned();
   }
 
-  /** What the server answers to a call about a text. */
-  about(text, call, more = {}) {
-    return this.server.call(call, { text, left_out: this.leftOut, ...more });
+  /**
+   * What the server answers to a call about a text.
+   * @template {keyof Calls} K
+   * @param {K} call
+   * @param {Omit<Calls[K]['given'], 'left_out'>} given
+   */
+  about(call, given) {
+    const whole = /** @type {Calls[K]['given']} */ ({ left_out: this.leftOut, ...given });
+    return this.server.call(call, whole);
   }
 
-  /** Takes a text that was typed. */
+  /**
+   * Takes a text that was typed.
+   * @param {string} text
+   * @returns {Promise<unknown>}
+   */
   type(text) {
     if (text === this.text) return Promise.resolve();
     this.history.push(text);
     return this.turned();
   }
 
-  /** Undoes (-1) or redoes (1), behind all that was asked before. */
+  /**
+   * Undoes (-1) or redoes (1), behind all that was asked before.
+   * @param {-1 | 1} step
+   */
   go(step) {
     const { history } = this;
-    return this.queue(() => { if (history.go(step)) this.turned(); });
+    return this.queue(async () => { if (history.go(step)) this.turned(); });
   }
 
   /** Another text stands, and is judged. */
   turned() {
-    this.tell('text');
+    this.tell('text', null);
     return this.judge();
   }
 
@@ -82,36 +145,72 @@ export class Paper extends EventTarget {
     return this.queue(async () => {
       if (turn !== this.asked) return;
       const { text } = this;
-      const answer = await this.about(text, 'judge');
+      const answer = await this.about('judge', { text });
       if (turn === this.asked) this.take(text, answer);
     });
   }
 
-  /** What the server answers to a call, behind all that was asked before; false where it is stopped. */
-  ask(call, { text, ...more }) {
-    return this.queue(() => this.about(text, call, more));
+  /**
+   * What the server answers to a call, behind all that was asked before; null where it is stopped.
+   * @template {keyof Calls} K
+   * @param {K} call
+   * @param {Omit<Calls[K]['given'], 'left_out'>} given
+   */
+  ask(call, given) {
+    return this.queue(() => this.about(call, given));
   }
 
-  /** Edits the text that stands by one edit of the server's; by numbers of constraints only the text in which they were seen. Gives whether it was taken. */
+  /**
+   * Edits the text that stands by one edit of the server's; by numbers of constraints only the text
+   * in which they were seen. Gives whether it was taken.
+   * @param {Edit} edit
+   * @param {string} [seen]
+   */
   edit(edit, seen = this.answer?.text) {
-    const isNumbered = edit.number || edit.constraints?.length;
-    return this.change((text) => (isNumbered && text !== seen ? { trouble: this.refused ?? CHANGED } : this.edited(text, edit)));
-  }
-
-  /** Draws a figure, and asks for a constraint of its last shape if a word for it is given: one change. Gives whether it was taken. */
-  draw(edit, word) {
     return this.change(async (text) => {
-      const answer = await this.edited(text, edit);
-      return word && answer.text ? this.edited(answer.text, { do: 'ask', words: [word, answer.drawing.shapes.at(-1).name] }) : answer;
+      if (isNumbered(edit) && text !== seen) return { trouble: this.changed() };
+      return this.edited(text, edit);
     });
   }
 
-  /** The text is drawn as it is placed, or as it is with the choices of some steps turned over; by steps only the text whose steps they are. */
-  redraw(steps, seen) {
-    return this.change((text) => (steps.length && text !== seen ? { trouble: this.refused ?? CHANGED } : this.about(text, 'redraw', { steps })));
+  /** Why an edit of what was seen isn't made of what stands now. */
+  changed() {
+    return this.refused ? { ...CHANGED, message: this.refused.message } : CHANGED;
   }
 
-  /** Changes the text that stands by a call; where another was typed meanwhile, that one; where another drawing has begun, none. Gives whether it was taken. */
+  /**
+   * Draws a figure, and asks for a constraint of its last shape if a word for it is given: one
+   * change. Gives whether it was taken.
+   * @param {Edit} edit
+   * @param {string | false | null} [word]
+   */
+  draw(edit, word) {
+    return this.change(async (text) => {
+      const answer = await this.edited(text, edit);
+      const name = answer.drawing?.shapes.at(-1)?.name;
+      if (!word || !answer.text || !name) return answer;
+      return this.edited(answer.text, { do: 'ask', words: [word, name] });
+    });
+  }
+
+  /**
+   * The text is drawn as it is placed, or as it is with the choices of some steps turned over; by
+   * steps only the text whose steps they are.
+   * @param {number[]} steps
+   * @param {string | null} [seen]
+   */
+  redraw(steps, seen) {
+    return this.change(async (text) => {
+      if (steps.length && text !== seen) return { trouble: this.changed() };
+      return whole(await this.about('redraw', { text, steps }));
+    });
+  }
+
+  /**
+   * Changes the text that stands by a call; where another was typed meanwhile, that one; where
+   * another drawing has begun, none. Gives whether it was taken.
+   * @param {(text: string) => Promise<Judged>} call
+   */
   change(call) {
     const { history } = this;
     return this.queue(async () => {
@@ -124,14 +223,23 @@ export class Paper extends EventTarget {
     });
   }
 
-  /** What an edit makes of a text; of one that is known, what stays as it was isn't told again. */
+  /**
+   * What an edit makes of a text; of one that is known, what stays as it was isn't told again.
+   * @param {string} text
+   * @param {Edit} edit
+   * @returns {Promise<Judged>}
+   */
   async edited(text, edit) {
-    const known = this.answer?.drawing && !this.answer.trouble && this.answer.text === text ? this.answer : null;
-    const answer = await this.about(text, 'edit', { edit, knows: known !== null });
-    return known ? completed(answer, known) : answer;
+    const { answer: last } = this;
+    const known = last?.drawing && !last.trouble && last.text === text ? last : null;
+    const answer = await this.about('edit', { text, edit, knows: known !== null });
+    return known ? completed(answer, known) : whole(answer);
   }
 
-  /** Shows what an edit would make, while a hand moves; of several that wait, the last counts. */
+  /**
+   * Shows what an edit would make, while a hand moves; of several that wait, the last counts.
+   * @param {Edit} edit
+   */
   preview(edit) {
     this.live = edit;
     return this.queue(async () => {
@@ -143,33 +251,48 @@ export class Paper extends EventTarget {
     });
   }
 
-  /** The hand lets go, and its edit counts. What was shown isn't asked for again. */
+  /**
+   * The hand lets go, and its edit counts. What was shown isn't asked for again.
+   * @param {Edit} edit
+   */
   land(edit) {
     this.live = null;
-    return this.change((text) => (this.seen?.edit === edit && this.seen.text === text ? this.seen.answer : this.edited(text, edit)));
+    return this.change(async (text) => {
+      const { seen } = this;
+      const isSeen = seen && seen.edit === edit && seen.text === text;
+      return isSeen ? seen.answer : this.edited(text, edit);
+    });
   }
 
   /** The hand gives up: what is said of the text that stands is shown again. */
   drop() {
     this.live = null;
-    this.queue(() => { if (this.said) this.tell('answer', this.said); });
+    this.queue(async () => { if (this.said) this.tell('answer', this.said); });
   }
 
-  /** Takes the answer of a call that changes the text; gives whether it does. */
+  /**
+   * Takes the answer of a call that changes the text; gives whether it does.
+   * @param {Judged} answer
+   */
   takeChange(answer) {
-    if (answer.trouble || answer.refused) this.tell('trouble', (answer.trouble ?? answer.refused).message);
+    const why = answer.trouble ?? answer.refused;
+    if (why) this.tell('trouble', why.message);
     if (!answer.text) {
       if (this.said) this.tell('answer', this.said);
       return false;
     }
     this.history.push(answer.text);
     this.asked += 1;
-    this.tell('text');
+    this.tell('text', null);
     this.take(answer.text, answer);
     return true;
   }
 
-  /** Takes what the server says of a text. */
+  /**
+   * Takes what the server says of a text.
+   * @param {string} text
+   * @param {Judged} answer
+   */
   take(text, answer) {
     if (text !== this.text) return;
     this.refused = answer.refused ?? null;
@@ -180,44 +303,118 @@ export class Paper extends EventTarget {
     if (verdict === 'over' || (verdict === 'well' && !good)) this.weighLater(text, answer);
   }
 
-  /** What is over, or isn't met, is weighed one after the other, so that there is room for all else. */
+  /**
+   * What is over, or isn't met, is weighed one after the other, so that there is room for all else.
+   * @param {string} text
+   * @param {Judged} answer
+   */
   weighLater(text, answer) {
     const weigh = () => this.weigh(text, answer);
     this.weighed = this.weighed.then(weigh, weigh);
   }
 
-  /** Has told and measured, beside all else, what is left out of a drawing that is over, and what may go; of one that isn't met, what comes of other choices. */
+  /**
+   * Has told and measured, beside all else, what is left out of a drawing that is over, and what
+   * may go; of one that isn't met, what comes of other choices.
+   * @param {string} text
+   * @param {Judged} answer
+   */
   async weigh(text, answer) {
     const stands = () => this.answer === answer && !this.refused;
-    const found = stands() && await this.about(text, 'weigh').catch(ended);
+    const found = stands() ? await this.about('weigh', { text }).catch(ended) : null;
     if (!found?.spare || !stands()) return;
-    Object.assign(answer.judgement, found);
+    Object.assign(answer.judgement ?? {}, found);
     if (!this.live) this.tell('answer', answer);
   }
 
-  /** Does one thing after the other; gives false of what the stopped server kept from being done. */
+  /**
+   * Does one thing after the other; gives null of what the stopped server kept from being done.
+   * @template T
+   * @param {() => Promise<T>} act
+   * @returns {Promise<T | null>}
+   */
   queue(act) {
     const done = this.waiting.then(act).catch(ended);
     this.waiting = done.catch(() => {});
     return done;
   }
 
-  /** Tells the listeners. */
-  tell(what, detail = null) {
+  /**
+   * Tells the listeners.
+   * @template {keyof Heard} K
+   * @param {K} what
+   * @param {Heard[K]} detail
+   */
+  tell(what, detail) {
     this.dispatchEvent(new CustomEvent(what, { detail }));
+  }
+
+  /**
+   * Has something done whenever something is told.
+   * @template {keyof Heard} K
+   * @param {K} what
+   * @param {(detail: Heard[K]) => void} act
+   */
+  when(what, act) {
+    this.addEventListener(what, (event) => {
+      if (event instanceof CustomEvent) act(event.detail);
+    });
   }
 }
 
-/** Passes over that the server is stopped, which the page tells by itself. */
-function ended(error) {
-  if (!(error instanceof Stopped)) throw error;
-  return false;
+/**
+ * Whether an edit speaks of constraints by their numbers.
+ * @param {Edit} edit
+ */
+function isNumbered(edit) {
+  return 'number' in edit || ('constraints' in edit && Boolean(edit.constraints?.length));
 }
 
-/** An answer with all that it leaves out since it is as it was: what is long of the judgement, lists, and things of a list. */
+/**
+ * Passes over that the server is stopped, which the page tells by itself.
+ * @param {unknown} error
+ * @returns {null}
+ */
+function ended(error) {
+  if (!(error instanceof Stopped)) throw error;
+  return null;
+}
+
+/**
+ * An answer in which nothing is left out, since the page wasn't said to know anything.
+ * @param {Edited} answer
+ */
+function whole(answer) {
+  return /** @type {Judged} */ (answer);
+}
+
+/**
+ * An answer with all that it leaves out since it is as it was: what is long of the judgement,
+ * lists, and things of a list.
+ * @param {Edited} answer
+ * @param {Judged} known
+ * @returns {Judged}
+ */
 function completed(answer, known) {
   const { drawing, judgement } = answer;
-  if (judgement) answer.judgement = { ...known.judgement, ...judgement };
-  for (const [what, old] of Object.entries(drawing ? known.drawing : {})) drawing[what] = drawing[what]?.map((each, place) => each ?? old[place]) ?? old;
-  return answer;
+  const old = known.drawing;
+  return whole(Object.assign(answer, {
+    ...judgement && { judgement: { ...known.judgement, ...judgement } },
+    ...drawing && old && { drawing: completedDrawing(drawing, old) },
+  }));
+}
+
+/**
+ * A drawing with the lists, and the things of a list, that are as they were.
+ * @param {ChangedDrawing} drawing
+ * @param {Drawing} old
+ * @returns {Drawing}
+ */
+function completedDrawing(drawing, old) {
+  return {
+    shapes: drawing.shapes?.map((each, place) => each ?? old.shapes[place]) ?? old.shapes,
+    constraints: drawing.constraints?.map((each, place) => each ?? old.constraints[place])
+      ?? old.constraints,
+    marks: drawing.marks?.map((each, place) => each ?? old.marks[place]) ?? old.marks,
+  };
 }

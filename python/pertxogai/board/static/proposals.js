@@ -1,12 +1,23 @@
-/** What is proposed of a drawing that lacks dimensions: faint at its places on the board, and in a list. */
+// @ts-check
+/**
+ * What is proposed of a drawing that lacks dimensions: faint at its places on the board, and in a
+ * list.
+ */
 import { html, byId } from './nodes.js';
 import { Layer } from './layer.js';
 import { Stopped } from './calls.js';
-import { middleOf } from './shapes.js';
 import { typed } from './dialogs.js';
+
+/** @typedef {import('./protocol').Judged} Judged */
+/** @typedef {import('./protocol').Proposed} Proposed */
+/**
+ * What was found of a text; why, where nothing is proposed.
+ * @typedef {{ text: string | null, proposals: Proposed[], why: string }} Found
+ */
 
 /** So many milliseconds nothing may change before it is asked what is missing. */
 const REST = 300;
+/** @type {Found} */
 const NONE = { text: null, proposals: [], why: '' };
 
 /** Asks what completes the drawing that stands, shows it, and adds what is taken. */
@@ -14,47 +25,80 @@ export class Proposals {
   found = NONE;
   node = byId('proposed');
   layer = new Layer(byId('proposals'), html);
+  /**
+   * What waits until nothing has changed for a while.
+   * @type {number | undefined}
+   */
+  timer = undefined;
 
+  /**
+   * @param {import('./paper.js').Paper} paper
+   * @param {import('./board.js').Board} board
+   */
   constructor(paper, board) {
-    Object.assign(this, { paper, board });
-    paper.addEventListener('answer', ({ detail }) => this.later(detail));
-    paper.addEventListener('begin', () => this.show(NONE));
-    board.node.addEventListener('proposed', ({ detail }) => this.take(detail));
-    this.layer.node.addEventListener('click', ({ target }) => this.take(Number(target.closest('[data-proposed]')?.dataset.proposed)));
+    this.paper = paper;
+    this.board = board;
+    paper.when('answer', (answer) => this.later(answer));
+    paper.when('begin', () => this.show(NONE));
+    board.node.addEventListener('proposed', (event) => {
+      if (event instanceof CustomEvent) this.take(event.detail);
+    });
+    byId('proposals').addEventListener('click', ({ target }) => {
+      const button = target instanceof Element ? target.closest('[data-proposed]') : null;
+      this.take(Number(button?.getAttribute('data-proposed')));
+    });
   }
 
-  /** Asks once nothing has changed for a while; what was proposed of another text goes at once. */
+  /**
+   * Asks once nothing has changed for a while; what was proposed of another text goes at once.
+   * @param {Judged} answer
+   */
   later({ judgement, refused }) {
     const { text, live } = this.paper;
-    if (this.found.text !== text || live) this.show(NONE);
+    const isKnown = this.found.text === text;
+    if (!isKnown || live) this.show(NONE);
     clearTimeout(this.timer);
-    const lacks = judgement?.verdict === 'open' || (judgement?.verdict === 'well' && !judgement.good);
-    if (lacks && !refused && !live && this.found.text !== text) this.timer = setTimeout(() => this.ask(text), REST);
+    if (lacks(judgement) && !refused && !live && !isKnown) {
+      this.timer = window.setTimeout(() => this.ask(text), REST);
+    }
   }
 
-  /** Asks what completes a text, and shows it if that still stands. */
+  /**
+   * Asks what completes a text, and shows it if that still stands.
+   * @param {string} text
+   */
   async ask(text) {
-    const found = await this.paper.about(text, 'complete').catch(ended);
-    if (found?.proposals && this.paper.text === text && !this.paper.live) this.show({ text, ...found });
+    const found = await this.paper.about('complete', { text }).catch(ended);
+    if (!found?.proposals || this.paper.text !== text || this.paper.live) return;
+    this.show({ text, proposals: found.proposals, why: found.why ?? '' });
   }
 
-  /** Shows what was found. */
+  /**
+   * Shows what was found.
+   * @param {Found} found
+   */
   show(found) {
-    this.found = found;
-    this.board.propose(found.proposals);
-    this.node.hidden = !found.proposals.length && !found.why;
-    byId('complete').hidden = !found.proposals.length;
-    byId('why').textContent = found.why && `Nothing is proposed: ${found.why}.`;
-    this.layer.show(found.proposals.map(({ number, line, fixes, ties }) => [number, 'li', { class: ties ? 'ties' : '' },
-      ['button', { 'data-proposed': number, title: `fixes ${fixes.join(', ')}; click adds it, Enter asks for another value` }, line]]));
+    const { proposals, why } = this.found = found;
+    this.board.propose(proposals);
+    this.node.hidden = !proposals.length && !why;
+    byId('complete').hidden = !proposals.length;
+    byId('why').textContent = why && `Nothing is proposed: ${why}.`;
+    this.layer.show(proposals.map(row));
   }
 
-  /** What is proposed under a number. */
+  /**
+   * What is proposed under a number.
+   * @param {number} number
+   * @returns {Proposed | undefined}
+   */
   of(number) {
     return this.found.proposals[number - 1];
   }
 
-  /** Adds one of them. */
+  /**
+   * Adds one of them.
+   * @param {number} number
+   */
   take(number) {
     const proposal = this.of(number);
     if (proposal) this.paper.edit({ do: 'lines', lines: [proposal.line] });
@@ -66,20 +110,49 @@ export class Proposals {
     if (lines.length) this.paper.edit({ do: 'lines', lines });
   }
 
-  /** Adds one of them with the value that is typed; one that has none as it is. */
+  /**
+   * Adds one of them with the value that is typed; one that has none as it is.
+   * @param {number} number
+   */
   async change(number) {
-    const { words, value } = this.of(number);
-    if (value === null) {
+    const proposal = this.of(number);
+    if (!proposal || proposal.value === null) {
       this.take(number);
       return;
     }
+    const { words, value } = proposal;
     const { width, height } = this.board.size();
-    const taken = await typed(words.join(' '), value, this.board.proposedPlace(number) ?? middleOf([[width / 2, height / 2]]));
+    const place = this.board.proposedPlace(number) ?? [width / 2, height / 2];
+    const taken = await typed(words.join(' '), value, place);
     if (taken !== null) await this.paper.edit({ do: 'ask', words, value: taken });
   }
 }
 
-/** Passes over that the server is stopped, which the page tells by itself. */
+/**
+ * Whether a drawing may lack dimensions.
+ * @param {Judged['judgement']} judgement
+ */
+function lacks(judgement) {
+  const { verdict, good } = judgement ?? {};
+  return verdict === 'open' || (verdict === 'well' && !good);
+}
+
+/**
+ * A row of the list: a button that adds what is proposed.
+ * @param {Proposed} proposed
+ * @returns {import('./page').Keyed}
+ */
+function row({ number, line, fixes, ties }) {
+  const title = `fixes ${fixes.join(', ')}; click adds it, Enter asks for another value`;
+  return [number, 'li', { class: ties ? 'ties' : '' },
+    ['button', { 'data-proposed': number, title }, line]];
+}
+
+/**
+ * Passes over that the server is stopped, which the page tells by itself.
+ * @param {unknown} error
+ * @returns {null}
+ */
 function ended(error) {
   if (!(error instanceof Stopped)) throw error;
   return null;

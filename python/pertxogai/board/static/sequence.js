@@ -1,9 +1,19 @@
-/** What a hand does, one thing after the other: each is done once those before it are, however late the server answers. */
+// @ts-check
+/**
+ * What a hand does, one thing after the other: each is done once those before it are, however
+ * late the server answers.
+ */
+
 export class Sequence {
+  /** @type {(() => unknown)[]} */
   acts = [];
   isBusy = false;
 
-  /** Does something: now, or once all before it is done. What gives a promise is done once that is kept. */
+  /**
+   * Does something: now, or once all before it is done. What gives a promise is done once that is
+   * kept.
+   * @param {() => unknown} act
+   */
   do(act) {
     this.acts.push(act);
     if (!this.isBusy) this.run();
@@ -17,9 +27,9 @@ export class Sequence {
   /** Does all that there is to do; at once, as far as nothing has to be waited for. */
   async run() {
     this.isBusy = true;
-    while (this.acts.length) {
+    for (let act = this.acts.shift(); act; act = this.acts.shift()) {
       try {
-        const done = this.acts.shift()();
+        const done = act();
         if (done) await done;
       } catch (error) {
         reportError(error);

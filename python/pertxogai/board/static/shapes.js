@@ -1,8 +1,21 @@
+// @ts-check
 /** Shapes and points as what SVG nodes are made of, by where their points lie. */
 
-/** The path of a shape in pixels; null for a point. */
+/** @typedef {import('./page').Keyed} Keyed */
+/** @typedef {import('./page').Made} Made */
+/** @typedef {import('./page').Place} Place */
+/** @typedef {import('./protocol').Places} Places */
+/** @typedef {import('./protocol').Shape} Shape */
+/** @typedef {import('./view.js').View} View */
+
+/**
+ * The path of a shape in pixels; null for a point.
+ * @param {Shape} shape
+ * @param {Places} view
+ * @param {View} plane
+ */
 export function pathOf(shape, view, plane) {
-  const at = (which) => plane.toScreen(view.points[`${shape.name}.${which}`]);
+  const at = placesOf(shape, view, plane);
   const radius = (view.radii[shape.name] ?? shape.radius ?? 0) * plane.scale;
   switch (shape.kind) {
     case 'segment': return line(at('start'), at('end'));
@@ -12,75 +25,164 @@ export function pathOf(shape, view, plane) {
   }
 }
 
-/** How far in pixels a place lies from the edge of a shape; a point has none. */
+/**
+ * Where the points of a shape lie in pixels, each by the last word of its name.
+ * @param {Shape} shape
+ * @param {Places} view
+ * @param {View} plane
+ */
+function placesOf(shape, view, plane) {
+  return (/** @type {string} */ which) => plane.toScreen(view.points[`${shape.name}.${which}`]);
+}
+
+/**
+ * How far in pixels a place lies from the edge of a shape; a point has none.
+ * @param {Shape} shape
+ * @param {Places} view
+ * @param {View} plane
+ * @param {Place} place
+ */
 export function awayFrom(shape, view, plane, place) {
-  const at = (which) => plane.toScreen(view.points[`${shape.name}.${which}`]);
+  const at = placesOf(shape, view, plane);
   if (shape.kind === 'segment') return awayFromLine(place, at('start'), at('end'));
   if (shape.kind === 'point') return Infinity;
   const centre = at('centre');
-  const radius = (view.radii[shape.name] ?? shape.radius) * plane.scale;
-  const isBeside = shape.kind === 'circle' || swept(centre, at('start'), place) <= swept(centre, at('start'), at('end'));
-  return isBeside ? Math.abs(Math.hypot(place[0] - centre[0], place[1] - centre[1]) - radius) : Infinity;
+  const radius = (view.radii[shape.name] ?? shape.radius ?? 0) * plane.scale;
+  const isBeside = shape.kind === 'circle'
+    || swept(centre, at('start'), place) <= swept(centre, at('start'), at('end'));
+  return isBeside ? Math.abs(apart(centre, place) - radius) : Infinity;
 }
 
-/** How far a place lies from a line between two others. */
+/**
+ * How far a place lies from a line between two others.
+ * @param {Place} place
+ * @param {Place} start
+ * @param {Place} end
+ */
 function awayFromLine([x, y], [a, b], [c, d]) {
   const [u, v] = [c - a, d - b];
   const share = Math.max(0, Math.min(1, ((x - a) * u + (y - b) * v) / (u * u + v * v || 1)));
   return Math.hypot(x - a - share * u, y - b - share * v);
 }
 
-/** The turn about a centre from one place to another, counter-clockwise as seen, so against the turn of pixels. */
+/**
+ * The turn about a centre from one place to another, counter-clockwise as seen, so against the turn
+ * of pixels.
+ * @param {Place} centre
+ * @param {Place} start
+ * @param {Place} end
+ */
 function swept(centre, start, end) {
-  const turn = (place) => Math.atan2(centre[1] - place[1], place[0] - centre[0]);
+  const turn = (/** @type {Place} */ [x, y]) => Math.atan2(centre[1] - y, x - centre[0]);
   return (turn(end) - turn(start) + 4 * Math.PI) % (2 * Math.PI);
 }
 
-/** A straight path. */
+/**
+ * How far two places are apart.
+ * @param {Place} one
+ * @param {Place} other
+ */
+export function apart([x, y], [u, v]) {
+  return Math.hypot(u - x, v - y);
+}
+
+/**
+ * A straight path.
+ * @param {Place} start
+ * @param {Place} end
+ */
 export function line([x, y], [u, v]) {
   return `M${x} ${y}L${u} ${v}`;
 }
 
-/** A path round a circle. */
+/**
+ * A path round a circle.
+ * @param {Place} centre
+ * @param {number} r
+ */
 export function ring([x, y], r) {
   return `M${x - r} ${y}a${r} ${r} 0 1 0 ${2 * r} 0a${r} ${r} 0 1 0 ${-2 * r} 0Z`;
 }
 
-/** A path along an arc, counter-clockwise as seen. */
+/**
+ * A path along an arc, counter-clockwise as seen.
+ * @param {Place} centre
+ * @param {Place} start
+ * @param {Place} end
+ * @param {number} [radius]
+ */
 export function bow(centre, start, end, radius) {
-  const sweep = swept(centre, start, end);
-  const r = radius || Math.hypot(start[0] - centre[0], start[1] - centre[1]);
-  return `M${start[0]} ${start[1]}A${r} ${r} 0 ${sweep > Math.PI ? 1 : 0} 0 ${end[0]} ${end[1]}`;
+  const isLarge = swept(centre, start, end) > Math.PI;
+  const r = radius || apart(centre, start);
+  return `M${start[0]} ${start[1]}A${r} ${r} 0 ${isLarge ? 1 : 0} 0 ${end[0]} ${end[1]}`;
 }
 
-/** The middle of some places. */
+/**
+ * The middle of some places.
+ * @param {Place[]} places
+ * @returns {Place}
+ */
 export function middleOf(places) {
-  return [0, 1].map((axis) => places.reduce((sum, place) => sum + place[axis], 0) / places.length);
+  const sum = places.reduce(([x, y], [u, v]) => [x + u, y + v], [0, 0]);
+  return [sum[0] / places.length, sum[1] / places.length];
 }
 
-/** A shape: its stroke, and a wide one to be hit. */
+/**
+ * A shape: its stroke, and a wide one to be hit.
+ * @param {Shape} shape
+ * @param {string | null} path
+ * @param {boolean} isSelected
+ * @param {string} colour
+ * @returns {Keyed}
+ */
 export function shapeMade(shape, path, isSelected, colour) {
   const stroke = isSelected ? null : colour;
-  const paths = [['path', { class: `${kindOf(shape)} ${isSelected ? 'selected' : ''}`, d: path, stroke }], ['path', { class: 'hit', d: path }]];
+  const kind = `${kindOf(shape)} ${isSelected ? 'selected' : ''}`;
+  /** @type {Made[]} */
+  const paths = [['path', { class: kind, d: path, stroke }], ['path', { class: 'hit', d: path }]];
   return [shape.name, 'g', { 'data-name': shape.name }, ...(path ? paths : [])];
 }
 
-/** A point: a small circle, and a larger one to be hit. */
+/**
+ * A point: a small circle, and a larger one to be hit.
+ * @param {string} name
+ * @param {Place} place
+ * @param {boolean} isSelected
+ * @param {string} colour
+ * @returns {Keyed}
+ */
 export function pointMade(name, [cx, cy], isSelected, colour) {
   const r = name === 'Origin' ? 4.5 : name.endsWith('.centre') ? 2.2 : 3.2;
-  return [name, 'g', { 'data-name': name, 'data-point': name }, ['circle', { class: `dot ${isSelected ? 'selected' : ''}`, cx, cy, r, stroke: isSelected ? null : colour }], ['circle', { class: 'dothit', cx, cy, r: 8 }]];
+  const kind = `dot ${isSelected ? 'selected' : ''}`;
+  return [name, 'g', { 'data-name': name, 'data-point': name },
+    ['circle', { class: kind, cx, cy, r, stroke: isSelected ? null : colour }],
+    ['circle', { class: 'dothit', cx, cy, r: 8 }]];
 }
 
-/** Shapes that are only looked at, and their points: all of a kind as one path. */
+/**
+ * Shapes that are only looked at, and their points: all of a kind as one path.
+ * @param {Shape[]} shapes
+ * @param {Places} view
+ * @param {View} plane
+ * @returns {Keyed[]}
+ */
 export function stillMade(shapes, view, plane) {
+  /** @type {Record<string, string>} */
   const paths = {};
-  const add = (kind, path) => { if (path) paths[kind] = (paths[kind] ?? '') + path; };
+  const add = (/** @type {string} */ kind, /** @type {string | null} */ path) => {
+    if (path) paths[kind] = (paths[kind] ?? '') + path;
+  };
   for (const shape of shapes) add(kindOf(shape), pathOf(shape, view, plane));
-  for (const shape of shapes) for (const name of Object.keys(shape.points)) add('dot', ring(plane.toScreen(view.points[name]), 2.2));
+  for (const name of shapes.flatMap((shape) => Object.keys(shape.points))) {
+    add('dot', ring(plane.toScreen(view.points[name]), 2.2));
+  }
   return Object.entries(paths).map(([kind, d]) => [kind, 'path', { class: kind, d }]);
 }
 
-/** The classes of a shape. */
+/**
+ * The classes of a shape.
+ * @param {Shape} shape
+ */
 export function kindOf(shape) {
   return `shape ${shape.construction ? 'construction' : ''} ${shape.outer ? 'outer' : ''}`;
 }

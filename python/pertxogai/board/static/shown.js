@@ -1,39 +1,74 @@
-/** Where all of an answer is shown: as placed, else as a part is laid on the drawing, else as drawn. */
+// @ts-check
+/**
+ * Where all of an answer is shown: as placed, else as a part is laid on the drawing, else as drawn.
+ */
 import { colourOf } from './nodes.js';
 
+/** @typedef {import('./page').Place} Place */
+/** @typedef {import('./protocol').Places} Places */
+/** @typedef {import('./protocol').Shape} Shape */
+
 export class Shown {
+  /** @param {import('./page').Read} answer */
   constructor({ drawing, judgement }) {
     this.views = judgement?.placed ? [judgement.placed] : judgement?.laid ?? [];
     this.parts = new Map(Object.entries(judgement?.colours ?? {}));
     this.drawn = drawnOf(drawing.shapes);
-    const points = { Origin: [0, 0], ...this.drawn.points, ...Object.assign({}, ...this.views.map((view) => view.points).reverse()) };
+    const laid = this.views.map((view) => view.points).reverse();
+    /** @type {Record<string, Place>} */
+    const points = Object.assign({ Origin: [0, 0] }, this.drawn.points, ...laid);
+    /** @type {Places} */
     this.between = { part: null, points, radii: {} };
   }
 
-  /** The place of a point in millimetres; undefined of what is none. */
+  /**
+   * The place of a point in millimetres; undefined of what is none.
+   * @param {string} name
+   * @returns {Place | undefined}
+   */
   at(name) {
     return Object.hasOwn(this.between.points, name) ? this.between.points[name] : undefined;
   }
 
-  /** The view in which a shape is shown: that of its own part, else the first that has all its points, else one between them. */
+  /**
+   * The view in which a shape is shown: that of its own part, else the first that has all its
+   * points, else one between them.
+   * @param {Shape} shape
+   */
   viewOf({ name, points }) {
-    const mine = this.views.filter((view) => Object.keys(points).every((each) => view.points[each]));
-    return mine.find((view) => view.part === null || view.part === this.parts.get(name)) ?? mine[0] ?? this.between;
+    const names = Object.keys(points);
+    const mine = this.views.filter((view) => names.every((each) => view.points[each]));
+    const own = this.parts.get(name);
+    return mine.find((view) => view.part === null || view.part === own) ?? mine[0] ?? this.between;
   }
 
-  /** The colour of a shape, by its part. */
+  /**
+   * The colour of a shape, by its part.
+   * @param {Shape} shape
+   */
   colourOf(shape) {
     return colourOf(this.parts.get(shape.name) ?? this.viewOf(shape).part);
   }
 
-  /** The colour of a point, by the one part that has it. */
+  /**
+   * The colour of a point, by the one part that has it.
+   * @param {string} name
+   */
   partColourOf(name) {
     return colourOf(this.parts.get(name));
   }
 }
 
-/** The view in which shapes are shown where they are drawn. */
+/**
+ * The view in which shapes are shown where they are drawn.
+ * @param {Shape[]} shapes
+ * @returns {Places}
+ */
 function drawnOf(shapes) {
-  const radii = Object.fromEntries(shapes.filter((shape) => shape.radius !== undefined).map((shape) => [shape.name, shape.radius]));
-  return { part: null, points: Object.assign({}, ...shapes.map((shape) => shape.points)), radii };
+  const rims = shapes.filter((shape) => shape.radius !== undefined);
+  return {
+    part: null,
+    points: Object.assign({}, ...shapes.map((shape) => shape.points)),
+    radii: Object.fromEntries(rims.map((shape) => [shape.name, shape.radius ?? 0])),
+  };
 }

@@ -1,31 +1,75 @@
+// @ts-check
 /** The construction, step by step: the slider, the tree of merges, the other shapes, the claim. */
-import { html, byId } from './nodes.js';
+import { html, byId, nodeOf } from './nodes.js';
+import { whenOpened } from './tabs.js';
 import { Step } from './step.js';
+
+/** @typedef {import('./protocol').Construction} Construction */
+/** @typedef {import('./protocol').Step} PlanStep */
+
+/** @type {Record<string, number>} */
+const KEYS = { ArrowLeft: -1, ArrowDown: -1, ArrowRight: 1, ArrowUp: 1 };
+const NO_PLAN = 'A drawing that is well is constructed here, step by step.';
 
 /** Shows the plan of what is well while its tab is open. */
 export class Steps {
   node = byId('steps');
+  isOpen = false;
+  /**
+   * The text whose plan is shown.
+   * @type {string | null}
+   */
   text = null;
+  /** @type {Construction | null} */
   plan = null;
+  /**
+   * The step that is told.
+   * @type {PlanStep | null}
+   */
+  told = null;
   place = 0;
+  /** @type {Set<number>} */
   flipped = new Set();
 
+  /**
+   * @param {import('./paper.js').Paper} paper
+   * @param {import('./board.js').Board} board
+   */
   constructor(paper, board) {
-    Object.assign(this, { paper, board });
-    document.addEventListener('tab', (event) => this.turn(event.detail === 'tab-steps'));
-    paper.addEventListener('answer', () => { if (this.isOpen) this.load(); });
-    this.node.addEventListener('click', (event) => {
-      const { step } = event.target.dataset;
+    this.paper = paper;
+    this.board = board;
+    whenOpened((id) => this.turn(id === 'tab-steps'));
+    paper.when('answer', () => { if (this.isOpen) this.load(); });
+    this.node.addEventListener('click', ({ target }) => {
+      const step = target instanceof HTMLElement && target.dataset.step;
       if (step) this.slide(Number(step));
     });
   }
 
-  /** What stands in the tab by this selector. */
-  find(selector) {
-    return this.node.querySelector(selector);
+  /**
+   * What stands in the tab by this selector.
+   * @param {string} selector
+   * @returns {HTMLElement[]}
+   */
+  all(selector) {
+    return [...this.node.querySelectorAll(selector)].map(
+      (each) => /** @type {HTMLElement} */ (each));
   }
 
-  /** Opens or closes. */
+  /** The slider, while there is one. */
+  get range() {
+    return this.node.querySelector('input');
+  }
+
+  /** The steps of the plan. */
+  get steps() {
+    return this.plan?.steps ?? [];
+  }
+
+  /**
+   * Opens or closes.
+   * @param {boolean} open
+   */
   turn(open) {
     this.isOpen = open;
     if (open) this.load();
@@ -39,9 +83,14 @@ export class Steps {
     this.show(null, null);
   }
 
-  /** Shows a step over the board, or the other shape beneath it. */
+  /**
+   * Shows a step over the board, or the other shape beneath it.
+   * @param {import('./board.js').Board['overlay']} overlay
+   * @param {import('./board.js').Board['other']} other
+   */
   show(overlay, other) {
-    Object.assign(this.board, { overlay, other });
+    this.board.overlay = overlay;
+    this.board.other = other;
     this.board.draw();
   }
 
@@ -53,48 +102,66 @@ export class Steps {
     if (answer?.text !== text && !refused) return;
     this.text = text;
     const isPlaced = answer?.judgement?.placed && !refused;
+    /** @type {import('./protocol').Planned | null} */
     const found = isPlaced ? await this.paper.ask('plan', { text }) : {};
     if (!found) this.text = null;
     if (this.text !== text) return;
     this.flipped.clear();
-    this.plan = found.construction ?? null;
-    if (this.plan) this.build(this.plan.steps);
-    else this.node.replaceChildren(html('p', { class: 'quiet' }, found.trouble?.message ?? 'A drawing that is well is constructed here, step by step.'));
+    this.plan = found?.construction ?? null;
+    if (this.plan) this.build();
+    else {
+      const why = found?.trouble?.message ?? NO_PLAN;
+      this.node.replaceChildren(html('p', { class: 'quiet' }, why));
+    }
   }
 
   /** Builds the controls and the tree. */
-  build(steps) {
-    this.node.replaceChildren(byId('watching').content.cloneNode(true));
-    this.range = this.find('input');
-    this.range.max = steps.length;
-    this.range.addEventListener('input', () => this.slide(Number(this.range.value)));
-    this.range.addEventListener('keydown', (event) => this.key(event));
-    for (const each of this.node.querySelectorAll('.controls, dl')) each.hidden = !steps.length;
-    if (steps.length) this.find('.tree').append(this.branch(steps.length));
-    else this.find('.told').textContent = 'One dimension: nothing is joined.';
-    this.slide(steps.length);
+  build() {
+    const { steps: { length } } = this;
+    this.node.replaceChildren(nodeOf('watching', HTMLTemplateElement).content.cloneNode(true));
+    if (this.range) this.slides(this.range);
+    for (const each of this.all('.controls, dl')) each.hidden = !length;
+    if (length) this.all('.tree')[0].append(this.branch(length));
+    else this.all('.told')[0].textContent = 'One dimension: nothing is joined.';
+    this.slide(length);
   }
 
-  /** Keys of the slider go by whole steps. */
+  /**
+   * Listens to the slider.
+   * @param {HTMLInputElement} range
+   */
+  slides(range) {
+    range.max = String(this.steps.length);
+    range.addEventListener('input', () => this.slide(Number(range.value)));
+    range.addEventListener('keydown', (event) => this.key(event));
+  }
+
+  /**
+   * Keys of the slider go by whole steps.
+   * @param {KeyboardEvent} event
+   */
   key(event) {
-    const step = { ArrowLeft: -1, ArrowDown: -1, ArrowRight: 1, ArrowUp: 1 }[event.key];
+    const step = KEYS[event.key];
     if (!step) return;
     event.preventDefault();
     this.go(step);
   }
 
-  /** Goes some whole steps. */
+  /**
+   * Goes some whole steps.
+   * @param {number} step
+   */
   go(step) {
     const place = (step > 0 ? Math.floor(this.place) : Math.ceil(this.place)) + step;
-    this.slide(Math.max(0, Math.min(this.plan.steps.length, place)));
+    this.slide(Math.max(0, Math.min(this.steps.length, place)));
   }
 
   /** Plays all steps from the first. */
   play() {
-    const { plan, plan: { steps: { length } } } = this;
+    const { plan, steps: { length } } = this;
     const began = performance.now();
     const each = Math.max(250, Math.min(1200, 12000 / length));
-    const frame = (now) => {
+    const frame = (/** @type {number} */ now) => {
       if (this.plan !== plan || !this.isOpen) return;
       this.slide(Math.min(length, (now - began) / each));
       if (this.place < length) requestAnimationFrame(frame);
@@ -102,52 +169,97 @@ export class Steps {
     requestAnimationFrame(frame);
   }
 
-  /** Shows a place of the construction: step k comes together from k - 1 to k. */
+  /**
+   * Shows a place of the construction: step k comes together from k - 1 to k.
+   * @param {number} place
+   */
   slide(place) {
+    if (!this.range) return;
     this.place = place;
-    this.range.value = place;
+    this.range.value = String(place);
     const number = Math.max(1, Math.ceil(place));
-    const step = this.plan.steps[number - 1];
+    const step = this.steps[number - 1];
     if (!step) return;
     const share = place === 0 ? 0 : place - number + 1;
     this.tell(step, share);
-    const isDone = place >= this.plan.steps.length;
-    this.show(isDone ? null : (plane) => new Step(this.plan, step, this.paper.answer).drawn(plane, share, this.board.size()), this.board.other);
+    const isDone = place >= this.steps.length;
+    this.show(isDone ? null : this.drawn(step, share), this.board.other);
   }
 
-  /** Says what a step does. */
+  /**
+   * How a step is drawn over the board at a share of it; null of what is no longer placed.
+   * @param {PlanStep} step
+   * @param {number} share
+   * @returns {import('./board.js').Board['overlay']}
+   */
+  drawn(step, share) {
+    const { plan, paper: { answer } } = this;
+    const placed = answer?.judgement?.placed;
+    if (!plan || !answer?.drawing || !placed) return null;
+    const shown = new Step(plan, step, answer.drawing, placed);
+    return (plane) => shown.drawn(plane, share, this.board.size());
+  }
+
+  /**
+   * Says what a step does.
+   * @param {PlanStep} step
+   * @param {number} share
+   */
   tell(step, share) {
     this.told = step;
-    this.find('.told').textContent = `Step ${step.number} of ${this.plan.steps.length}${share < 1 ? ', coming together' : ''}`;
-    const joins = step.joins.map((each, place) => [html('i', { class: 'chip', '--colour': `var(--join${place})` }), each.kept ? ' stays' : ' joins', each.called]);
-    const rows = [...joins, ['constructs', this.made(step)], ['at', step.at.join(', ')], ['choice', step.choice]];
-    this.find('dl').replaceChildren(...rows.flatMap((row) => [html('dt', {}, ...row.slice(0, -1)), html('dd', {}, row.at(-1))]));
-    for (const button of this.node.querySelectorAll('[data-step]')) button.ariaCurrent = String(Number(button.dataset.step) === step.number);
-    byId('flip').hidden = step.choice === 'none';
-    byId('flip').ariaPressed = String(this.flipped.has(step.number));
+    const { number, choice } = step;
+    const way = share < 1 ? ', coming together' : '';
+    this.all('.told')[0].textContent = `Step ${number} of ${this.steps.length}${way}`;
+    this.all('dl')[0].replaceChildren(...this.rows(step).flatMap(
+      ([first, second]) => [html('dt', {}, ...first), html('dd', {}, second)]));
+    for (const button of this.all('[data-step]')) {
+      button.ariaCurrent = String(Number(button.dataset.step) === number);
+    }
+    byId('flip').hidden = choice === 'none';
+    byId('flip').ariaPressed = String(this.flipped.has(number));
     byId('redraw').hidden = !this.flipped.size;
   }
 
-  /** What a step constructs. */
+  /**
+   * What is told of a step: what, and how.
+   * @param {PlanStep} step
+   * @returns {[(Node | string)[], string][]}
+   */
+  rows(step) {
+    /** @type {[(Node | string)[], string][]} */
+    const joins = step.joins.map((each, place) => [
+      [html('i', { class: 'chip', '--colour': `var(--join${place})` }),
+        each.kept ? ' stays' : ' joins'], each.called]);
+    return [...joins, [['constructs'], this.made(step)], [['at'], step.at.join(', ')],
+      [['choice'], step.choice]];
+  }
+
+  /**
+   * What a step constructs.
+   * @param {PlanStep} step
+   */
   made(step) {
-    return this.plan.elements[step.made].called;
+    return this.plan?.elements[step.made].called ?? '';
   }
 
   /** Turns the choice of the step over that is told. */
   async flip() {
-    const { text, told, told: { number } } = this;
+    const { text, told } = this;
+    if (!told || text === null) return;
+    const { number } = told;
     if (!this.flipped.delete(number)) this.flipped.add(number);
     const steps = [...this.flipped];
+    /** @type {import('./protocol').OtherShape | null} */
     const found = steps.length ? await this.paper.ask('flips', { text, steps }) : {};
     if (this.text !== text) return;
-    if (found.trouble) {
+    if (found?.trouble) {
       this.flipped.delete(number);
       this.paper.tell('trouble', found.trouble.message);
     }
-    this.slide(this.plan.steps.length);
+    this.slide(this.steps.length);
     this.tell(told, 1);
-    this.show(null, found.placed ?? null);
-    if (found.placed) this.board.reveal();
+    this.show(null, found?.placed ?? null);
+    if (found?.placed) this.board.reveal();
   }
 
   /** The drawing is drawn anew as the other shape lies. */
@@ -158,15 +270,23 @@ export class Steps {
   /** Has what is shown verified as a claim, and tells what is said of it. */
   async verify() {
     const told = byId('verified');
-    const found = await this.paper.ask('verify', { text: this.text });
-    told.textContent = found.said ?? found.trouble?.message ?? '';
+    const found = await this.paper.ask('verify', { text: this.text ?? '' });
+    told.textContent = found?.said ?? found?.trouble?.message ?? '';
   }
 
-  /** A step of the tree of merges, with all that it joins below it. */
+  /**
+   * A step of the tree of merges, with all that it joins below it.
+   * @param {number} number
+   * @returns {HTMLElement}
+   */
   branch(number) {
-    const step = this.plan.steps[number - 1];
-    const joined = ({ name, called, kept }) => (name.startsWith('s') ? this.branch(Number(name.slice(1))) : html('span', { class: 'leaf' }, `${called}${kept ? ' (stays)' : ''}`));
-    const title = `step ${number}: ${this.made(step)}${step.choice === 'none' ? '' : `, ${step.choice}`}`;
-    return html('div', {}, ['button', { 'data-step': number }, title], ['ul', {}, ...step.joins.map((each) => html('li', {}, joined(each)))]);
+    const step = this.steps[number - 1];
+    const joined = step.joins.map(({ name, called, kept }) => (name.startsWith('s')
+      ? this.branch(Number(name.slice(1)))
+      : html('span', { class: 'leaf' }, `${called}${kept ? ' (stays)' : ''}`)));
+    const choice = step.choice === 'none' ? '' : `, ${step.choice}`;
+    const title = `step ${number}: ${this.made(step)}${choice}`;
+    return html('div', {}, ['button', { 'data-step': number }, title],
+      ['ul', {}, ...joined.map((each) => html('li', {}, each))]);
   }
 }

@@ -1,22 +1,51 @@
-/** The tools: what a few clicks on the board draw. A spot is `{x, y}`, or `{point}` that is shared. */
+// @ts-check
+/** The tools: what a few clicks on the board draw. */
+import { apart } from './shapes.js';
 
-/** What to do at each click of a tool. */
+/** @typedef {import('./page').Place} Place */
+/** @typedef {import('./protocol').DrawEdit} DrawEdit */
+/** @typedef {import('./protocol').FreeSpot} FreeSpot */
+/** @typedef {import('./protocol').PointSpot} PointSpot */
+/** @typedef {DrawEdit['spots'][number]} Spot */
+/** @typedef {DrawEdit['figure'] | 'select'} Tool */
+/** @typedef {{ spot: Spot, at: Place }} Click */
+
+/**
+ * What to do at each click of a tool.
+ * @type {Record<Tool, string[]>}
+ */
 const HINTS = {
-  select: ['Click selects, Shift adds, dragging moves. Drag the empty board to pan, the wheel zooms.'],
+  select: ['Click selects, Shift adds, dragging moves. Drag the empty board to pan, the wheel '
+    + 'zooms.'],
   point: ['Point: click where it lies.'],
-  segment: ['Segment: click its start. A point that stands is shared.', 'Click its end; with Shift it is kept level or upright. Escape ends the chain.'],
+  segment: ['Segment: click its start. A point that stands is shared.',
+    'Click its end; with Shift it is kept level or upright. Escape ends the chain.'],
   rectangle: ['Rectangle: click a corner.', 'Click the opposite corner.'],
   circle: ['Circle: click its centre.', 'Click a place on it.'],
   arc: ['Arc: click one end.', 'Click the other end.', 'Click a place on it.'],
 };
 
+/**
+ * Whether a word is that of a tool.
+ * @param {string | undefined} word
+ * @returns {word is Tool}
+ */
+export function isTool(word) {
+  return word !== undefined && word in HINTS;
+}
+
 /** The tool that is held, and its clicks so far. */
 export class Hand {
+  /** @type {Tool} */
   tool = 'select';
+  /** @type {Click[]} */
   clicks = [];
   construction = false;
 
-  /** Takes another tool. */
+  /**
+   * Takes another tool.
+   * @param {Tool} tool
+   */
   take(tool) {
     this.tool = tool;
     this.clicks = [];
@@ -32,30 +61,62 @@ export class Hand {
     return HINTS[this.tool][this.clicks.length];
   }
 
-  /** Takes a click; gives the edit that is drawn by it, or null where more are needed, or they make no figure. */
+  /**
+   * Takes a click; gives the edit that is drawn by it, or null where more are needed, or they make
+   * no figure.
+   * @param {Spot} spot
+   * @param {Place} at
+   */
   click(spot, at) {
-    this.clicks.push({ spot, at });
-    if (this.clicks.length < HINTS[this.tool].length) return null;
-    const edit = this.edit(this.clicks.map((each) => each.spot), ...this.clicks.map((each) => each.at));
-    this.clicks = [];
-    return edit;
+    const clicks = [...this.clicks, { spot, at }];
+    const isDone = clicks.length === HINTS[this.tool].length;
+    this.clicks = isDone ? [] : clicks;
+    return isDone ? this.edit(clicks) : null;
   }
 
-  /** The edit by which a figure is drawn through spots that lie at places; null where they make none. */
-  edit(spots, first, second, third) {
-    const made = { do: 'draw', figure: this.tool, construction: this.construction, spots };
-    const away = second ? apart(first, second) : 1;
+  /**
+   * The edit by which a figure is drawn through clicks; null where they make none.
+   * @param {Click[]} clicks
+   * @returns {DrawEdit | null}
+   */
+  edit(clicks) {
+    const { tool, construction } = this;
+    if (tool === 'select') return null;
+    const [first, second] = clicks;
+    const spots = clicks.map((each) => each.spot);
+    /** @type {DrawEdit} */
+    const made = { do: 'draw', figure: tool, construction, spots };
+    const away = second ? apart(first.at, second.at) : 1;
     if (away === 0) return null;
-    if (this.tool === 'circle') return { ...made, spots: [spots[0]], radius: Math.max(rounded(away, 100), 0.01) };
-    if (this.tool !== 'arc') return made;
-    const arc = arcThrough(first, second, third);
-    if (!arc) return null;
-    const [x, y] = arc.centre.map((each) => rounded(each, 1000));
-    return { ...made, spots: [{ x, y }, ...(arc.swapped ? [spots[1], spots[0]] : spots.slice(0, 2))] };
+    if (tool === 'circle') {
+      return { ...made, spots: [first.spot], radius: Math.max(rounded(away, 100), 0.01) };
+    }
+    return tool === 'arc' ? arcEdit(made, clicks) : made;
   }
 }
 
-/** The circle through three places: its centre, and whether it runs from the second to the first; null where they lie on a line. */
+/**
+ * The edit of an arc through clicks on its ends and on it; null where they lie on one line.
+ * @param {DrawEdit} made
+ * @param {Click[]} clicks
+ * @returns {DrawEdit | null}
+ */
+function arcEdit(made, [first, second, third]) {
+  const arc = arcThrough(first.at, second.at, third.at);
+  if (!arc) return null;
+  const centre = { x: rounded(arc.centre[0], 1000), y: rounded(arc.centre[1], 1000) };
+  const [start, end] = arc.swapped ? [second, first] : [first, second];
+  return { ...made, spots: [centre, start.spot, end.spot] };
+}
+
+/**
+ * The circle through three places: its centre, and whether it runs from the second to the first;
+ * null where they lie on a line.
+ * @param {Place} first
+ * @param {Place} second
+ * @param {Place} third
+ * @returns {{ centre: Place, swapped: boolean } | null}
+ */
 export function arcThrough([ax, ay], [bx, by], [cx, cy]) {
   const cross = (bx - ax) * (cy - ay) - (by - ay) * (cx - ax);
   if (Math.abs(cross) < 1e-9) return null;
@@ -65,12 +126,11 @@ export function arcThrough([ax, ay], [bx, by], [cx, cy]) {
   return { centre: [x, y], swapped: cross > 0 };
 }
 
-/** How far two places are apart. */
-export function apart([x, y], [u, v]) {
-  return Math.hypot(u - x, v - y);
-}
-
-/** A number rounded to a part. */
+/**
+ * A number rounded to a part.
+ * @param {number} value
+ * @param {number} parts
+ */
 export function rounded(value, parts) {
   return Math.round(value * parts) / parts;
 }

@@ -1,62 +1,113 @@
+// @ts-check
 /** The verdict, in words: what is judged, and what to do. */
 import { html, colourOf } from './nodes.js';
 
+/** @typedef {import('./protocol').Judged} Judged */
+/** @typedef {import('./protocol').Line} Line */
+
+const EMPTY = 'Draw with the tools above the board, begin from the gallery, or write in the text '
+  + 'below.';
+
 /** Shows the judgement of each answer, line by line as the server tells it. */
 export class Verdict {
+  /**
+   * @param {HTMLElement} node
+   * @param {import('./paper.js').Paper} paper
+   * @param {import('./selection.js').Selection} selection
+   */
   constructor(node, paper, selection) {
-    Object.assign(this, { node, paper, selection });
+    this.node = node;
+    this.paper = paper;
+    this.selection = selection;
   }
 
-  /** Shows an answer. */
+  /**
+   * Shows an answer.
+   * @param {Judged} answer
+   */
   show(answer) {
     const [kind, title, lines] = told(answer);
     this.node.className = kind;
     this.node.dataset.verdict = kind;
     const focused = this.node.contains(document.activeElement) ? document.activeElement : null;
-    const time = answer.ms && html('span', { class: 'time', title: 'the time that the server took' }, `${answer.ms} ms`);
+    const time = { class: 'time', title: 'the time that the server took' };
+    /** @type {Map<string, HTMLElement>} */
     const lists = new Map();
-    const nodes = lines.map((line) => this.line(line, lists));
-    this.node.replaceChildren(...[time, html('h2', {}, title), ...nodes].filter(Boolean));
+    const nodes = [html('h2', {}, title), ...lines.map((line) => this.line(line, lists))];
+    this.node.replaceChildren();
+    if (answer.ms) this.node.append(html('span', time, `${answer.ms} ms`));
+    for (const each of nodes) if (each) this.node.append(each);
     if (focused) this.focus(focused);
   }
 
-  /** The focus stays on the button that does the same as the one that had it, or else here. */
+  /**
+   * The focus stays on the button that does the same as the one that had it, or else here.
+   * @param {Element} old
+   */
   focus(old) {
-    const isSame = (each) => each.ariaLabel === old.ariaLabel && each.textContent === old.textContent;
-    ([...this.node.querySelectorAll('button')].find(isSame) ?? this.node).focus();
+    const buttons = [...this.node.querySelectorAll('button')];
+    const same = buttons.find((each) => each.ariaLabel === old.ariaLabel
+      && each.textContent === old.textContent);
+    (same ?? this.node).focus();
   }
 
-  /** A line, or the list that it begins; null of a line in a list that another has begun. */
+  /**
+   * A line, or the list that it begins; null of a line in a list that another has begun.
+   * @param {Line} line
+   * @param {Map<string, HTMLElement>} lists
+   */
   line(line, lists) {
     if (!line.list) return html('p', { class: line.kind }, this.told(line));
     const list = lists.get(line.list);
-    if (list) list.append(this.item(line));
-    else lists.set(line.list, html('ul', { 'aria-label': line.list }, this.item(line)));
-    return list ? null : lists.get(line.list);
+    list?.append(this.item(line));
+    if (list) return null;
+    const begun = html('ul', { 'aria-label': line.list }, this.item(line));
+    lists.set(line.list, begun);
+    return begun;
   }
 
-  /** A line of a list: with the colour of its part, or the button that takes its constraint away, or has it told no longer. */
-  item(line) {
-    const erase = () => this.paper.edit({ do: 'erase', constraints: [line.takes] });
-    const take = line.takes && html('button', { onclick: erase, 'aria-label': `take away ${line.text.split(': ')[0]}` }, 'Take away');
-    const forget = line.forgets && html('button', { onclick: () => this.paper.forget(line.forgets), title: 'it is drawn, or isn’t wanted', 'aria-label': `done: ${line.text}` }, 'Done');
-    return html('li', { 'data-spare': line.takes }, line.part && html('i', { class: 'chip', '--colour': colourOf(line.part) }), this.told(line), take, forget);
+  /**
+   * A line of a list: with the colour of its part, or the button that takes its constraint away, or
+   * has it told no longer.
+   * @param {Line} line
+   */
+  item({ text, part, takes, forgets, ...line }) {
+    const erase = () => this.paper.edit({ do: 'erase', constraints: [takes ?? 0] });
+    const take = takes && html('button', {
+      onclick: erase, 'aria-label': `take away ${text.split(': ')[0]}` }, 'Take away');
+    const forget = forgets && html('button', {
+      onclick: () => this.paper.forget(forgets), title: 'it is drawn, or isn’t wanted',
+      'aria-label': `done: ${text}` }, 'Done');
+    const chip = part && html('i', { class: 'chip', '--colour': colourOf(part) });
+    return html('li', { 'data-spare': takes }, chip, this.told({ text, ...line }), take, forget);
   }
 
-  /** The text of a line; where it selects something, as a button. */
+  /**
+   * The text of a line; where it selects something, as a button.
+   * @param {Line} line
+   */
   told({ text, selects, constraint }) {
-    if (constraint) return html('button', { onclick: () => this.selection.take(constraint, false) }, text);
-    if (selects) return html('button', { class: 'line', onclick: () => this.selection.set(selects) }, text);
+    if (constraint) {
+      return html('button', { onclick: () => this.selection.take(constraint, false) }, text);
+    }
+    if (selects) {
+      return html('button', { class: 'line', onclick: () => this.selection.set(selects) }, text);
+    }
     return html('span', {}, text);
   }
 }
 
-/** A kind, a title, and the lines below it. */
+/**
+ * A kind, a title, and the lines below it.
+ * @param {Judged} answer
+ * @returns {[string, string, Line[]]}
+ */
 function told({ refused, trouble, judgement }) {
   if (refused) return ['refused', 'not read', [{ text: refused.message }]];
   if (trouble) return ['trouble', 'not judged', [{ text: trouble.message }]];
-  if (!judgement) return ['empty', 'empty', [{ kind: 'quiet', text: 'Draw with the tools above the board, begin from the gallery, or write in the text below.' }]];
-  if (judgement.failure) return ['fault', 'well, and no places', judgement.lines];
-  if (judgement.verdict === 'well' && !judgement.good) return ['unmet', 'well, and not good', judgement.lines];
-  return [judgement.verdict, judgement.verdict, judgement.lines];
+  if (!judgement) return ['empty', 'empty', [{ kind: 'quiet', text: EMPTY }]];
+  const { failure, verdict, good, lines } = judgement;
+  if (failure) return ['fault', 'well, and no places', lines];
+  if (verdict === 'well' && !good) return ['unmet', 'well, and not good', lines];
+  return [verdict, verdict, lines];
 }

@@ -1,7 +1,13 @@
+// @ts-check
 /** What of the plane the board shows: millimetres, x to the right and y up, to pixels. */
+
+/** @typedef {import('./page').Place} Place */
+
 const LEAST = 0.02;
 const MOST = 2000;
-/** The room around all that is shown, for the dimensions, in pixels; of a small board this share. */
+/**
+ * The room around all that is shown, for the dimensions, in pixels; of a small board this share.
+ */
 const ROOM = 84;
 const SHARE = 0.18;
 
@@ -11,17 +17,29 @@ export class View {
   x = 200;
   y = 400;
 
-  /** A place in pixels. */
+  /**
+   * A place in pixels.
+   * @param {Place} place
+   * @returns {Place}
+   */
   toScreen([x, y]) {
     return [this.x + x * this.scale, this.y - y * this.scale];
   }
 
-  /** A place in millimetres. */
+  /**
+   * A place in millimetres.
+   * @param {Place} place
+   * @returns {Place}
+   */
   toPlane([x, y]) {
     return [(x - this.x) / this.scale, (this.y - y) / this.scale];
   }
 
-  /** Zooms by a factor about a place in pixels. */
+  /**
+   * Zooms by a factor about a place in pixels.
+   * @param {number} factor
+   * @param {Place} place
+   */
   zoom(factor, [x, y]) {
     const [u, v] = this.toPlane([x, y]);
     this.scale = Math.min(MOST, Math.max(LEAST, this.scale * factor));
@@ -29,13 +47,21 @@ export class View {
     this.y = y + v * this.scale;
   }
 
-  /** Shifts by pixels. */
+  /**
+   * Shifts by pixels.
+   * @param {number} dx
+   * @param {number} dy
+   */
   pan(dx, dy) {
     this.x += dx;
     this.y += dy;
   }
 
-  /** Shows all of some places in a box of pixels. */
+  /**
+   * Shows all of some places in a box of pixels.
+   * @param {Place[]} places
+   * @param {{ width: number, height: number }} box
+   */
   fit(places, { width, height }) {
     const corners = places.length ? places : [[-10, -10], [110, 70]];
     const [[left, right], [low, high]] = [0, 1].map((axis) => {
@@ -43,7 +69,8 @@ export class View {
       return [Math.min(...all), Math.max(...all)];
     });
     const room = Math.min(ROOM, SHARE * width, SHARE * height);
-    const fitting = Math.min((width - 2 * room) / Math.max(right - left, 1e-3), (height - 2 * room) / Math.max(high - low, 1e-3));
+    const fitting = Math.min((width - 2 * room) / Math.max(right - left, 1e-3),
+      (height - 2 * room) / Math.max(high - low, 1e-3));
     this.scale = Math.min(40, Math.max(LEAST, fitting));
     this.x = width / 2 - (left + right) / 2 * this.scale;
     this.y = height / 2 + (low + high) / 2 * this.scale;
@@ -53,12 +80,19 @@ export class View {
   step() {
     const least = 12 / this.scale;
     const power = 10 ** Math.floor(Math.log10(least));
-    return [1, 2, 5, 10].map((each) => each * power).find((each) => each >= least * 0.999);
+    return [1, 2, 5].map((each) => each * power).find((each) => each >= least * 0.999)
+      ?? 10 * power;
   }
 
-  /** A place in millimetres rounded to the half step of the grid, and to a micrometre. */
-  rounded(place) {
+  /**
+   * A place in millimetres rounded to the half step of the grid, and to a micrometre.
+   * @param {Place} place
+   * @returns {Place}
+   */
+  rounded([x, y]) {
     const step = this.step() / 2;
-    return place.map((each) => Math.round(Math.round(each / step) * step * 1000) / 1000);
+    const near = (/** @type {number} */ each) => Math.round(Math.round(each / step) * step * 1000)
+      / 1000;
+    return [near(x), near(y)];
   }
 }

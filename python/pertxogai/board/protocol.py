@@ -1,0 +1,556 @@
+"""What the page and its server tell each other: the types of their objects of JSON.
+
+The server makes its answers as these types; the page reads them as static/protocol.d.ts says,
+which `tools/pages` makes of them. Places and lengths are millimetres, as floats to look at; an
+amount that was measured is a whole number of the unit that stands beside it."""
+from __future__ import annotations
+
+from collections.abc import Mapping
+from typing import Literal, NotRequired, TypedDict
+
+from pertxogai.judging.good import ReasonJson
+from pertxogai.output.drawing_text import SpareJson
+
+Point = tuple[float, float]
+"""A place or a direction: x and y."""
+
+
+# What a call is given.
+
+class PointSpot(TypedDict):
+    """A place that is a point which stands: it is shared."""
+
+    point: str
+
+
+class FreeSpot(TypedDict):
+    """A place of its own."""
+
+    x: float
+    y: float
+
+
+Spot = PointSpot | FreeSpot
+Kind = Literal["point", "segment", "circle", "arc"]
+FigureName = Literal["point", "segment", "circle", "arc", "rectangle"]
+
+
+class DrawEdit(TypedDict):
+    """Draws a figure through spots."""
+
+    do: Literal["draw"]
+    figure: FigureName
+    spots: list[Spot]
+    radius: NotRequired[float]
+    construction: NotRequired[bool]
+
+
+class PointMove(TypedDict):
+    """A point goes to a place."""
+
+    of: str
+    x: float
+    y: float
+
+
+class RadiusMove(TypedDict):
+    """A circle gets a radius."""
+
+    of: str
+    radius: float
+
+
+class MoveEdit(TypedDict):
+    """Draws points elsewhere, and circles larger or smaller."""
+
+    do: Literal["move"]
+    points: NotRequired[list[PointMove]]
+    radii: NotRequired[list[RadiusMove]]
+
+
+class ShiftEdit(TypedDict):
+    """Draws shapes and points a way further."""
+
+    do: Literal["shift"]
+    shapes: NotRequired[list[str]]
+    points: NotRequired[list[str]]
+    dx: float
+    dy: float
+
+
+class EraseEdit(TypedDict):
+    """Takes shapes away, and constraints by their numbers."""
+
+    do: Literal["erase"]
+    shapes: NotRequired[list[str]]
+    constraints: NotRequired[list[int]]
+
+
+class AskEdit(TypedDict):
+    """Asks for a constraint."""
+
+    do: Literal["ask"]
+    words: list[str]
+    value: NotRequired[str]
+
+
+class LinesEdit(TypedDict):
+    """Asks for what each of some lines says."""
+
+    do: Literal["lines"]
+    lines: list[str]
+
+
+class ValueEdit(TypedDict):
+    """Gives a constraint another value."""
+
+    do: Literal["value"]
+    number: int
+    value: str
+
+
+class CallEdit(TypedDict):
+    """Names a constraint."""
+
+    do: Literal["call"]
+    number: int
+    name: str
+
+
+class RenameEdit(TypedDict):
+    """Gives a shape another name."""
+
+    do: Literal["rename"]
+    old: str
+    new: str
+
+
+class ConstructionEdit(TypedDict):
+    """Makes construction lines of shapes, or edges again."""
+
+    do: Literal["construction"]
+    shapes: list[str]
+    construction: bool
+
+
+Edit = (DrawEdit | MoveEdit | ShiftEdit | EraseEdit | AskEdit | LinesEdit | ValueEdit | CallEdit
+        | RenameEdit | ConstructionEdit)
+
+
+class About(TypedDict):
+    """A call about a text. left_out: what the drawing can't say of its file."""
+
+    text: str
+    left_out: NotRequired[list[str]]
+
+
+class AboutEdit(About):
+    """A call that edits a text. knows: whether the page has what was told of that text."""
+
+    edit: Edit
+    knows: NotRequired[bool]
+
+
+class AboutNames(About):
+    """A call about some points and shapes."""
+
+    names: list[str]
+
+
+class AboutSteps(About):
+    """A call about a shape in which the choices of some steps are turned over."""
+
+    steps: list[int]
+
+
+class AboutFile(About):
+    """A call for a file of the drawing, under its name."""
+
+    name: str
+
+
+class AboutDxf(AboutFile):
+    """A call for DXF of a version, as R2010."""
+
+    release: str
+
+
+class FileBytes(TypedDict):
+    """A file that is opened. data: its bytes in base 64."""
+
+    name: str
+    data: str
+
+
+# What a call gives.
+
+class Trouble(TypedDict):
+    """Why a call has no answer, in a line that says what to do."""
+
+    kind: str
+    message: str
+
+
+class Refused(TypedDict):
+    """Why a text isn't read, and its line, from 1; 0 for the whole text."""
+
+    line: int
+    message: str
+
+
+class Answer(TypedDict, total=False):
+    """What every answer may have. ms: the time that the server took."""
+
+    trouble: Trouble
+    refused: Refused
+    ms: int
+
+
+class Shape(TypedDict):
+    """A shape where it is drawn. shares: which of its points lie in the place of another."""
+
+    name: str
+    kind: Kind
+    construction: bool
+    outer: bool
+    points: dict[str, Point]
+    shares: list[str]
+    radius: NotRequired[float]
+
+
+class Constraint(TypedDict):
+    """A constraint by its place, from 1. words: its line without its name."""
+
+    number: int
+    name: str | None
+    called: str
+    words: str
+    value: str | None
+
+
+class MarkAlone(TypedDict):
+    """What is drawn of a constraint: a bar between two places with a text, or a text or a sign at
+    a place. way: the direction of the edge that a sign stands beside. radius: that of the rim
+    which a text stands beside."""
+
+    text: NotRequired[str]
+    sign: NotRequired[str]
+    bar: NotRequired[tuple[Point, Point]]
+    at: NotRequired[Point]
+    way: NotRequired[Point]
+    radius: NotRequired[float | None]
+
+
+class Mark(MarkAlone):
+    """A mark of the constraint that has a number."""
+
+    number: int
+
+
+class Drawing(TypedDict):
+    """What is drawn."""
+
+    shapes: list[Shape]
+    constraints: list[Constraint]
+    marks: list[Mark]
+
+
+class ChangedDrawing(TypedDict):
+    """What is drawn, to a page that knows the drawing before: null for a list, or a thing of a
+    list, that is as it was."""
+
+    shapes: list[Shape | None] | None
+    constraints: list[Constraint | None] | None
+    marks: list[Mark | None] | None
+
+
+class Places(TypedDict):
+    """Where points lie, and how large rims are; of one part, or of all."""
+
+    part: int | None
+    points: dict[str, Point]
+    radii: dict[str, float]
+
+
+class Line(TypedDict):
+    """A line of the verdict: how it is set, the list that it stands in, what it selects, the
+    constraint that it selects, or that its button takes away, what of the file its button forgets,
+    and the part whose colour it has."""
+
+    text: str
+    kind: NotRequired[str]
+    list: NotRequired[str]
+    selects: NotRequired[tuple[str, ...]]
+    constraint: NotRequired[int]
+    takes: NotRequired[int]
+    forgets: NotRequired[str]
+    part: NotRequired[int]
+
+
+class Excess(TypedDict):
+    """A dimension that is left out of what is over, and what is told of it. conflicts: null where
+    it isn't measured."""
+
+    number: int
+    conflicts: bool | None
+    told: str
+
+
+class Piece(TypedDict):
+    """A part that is rigid by itself."""
+
+    number: int
+    elements: list[str]
+
+
+class Joint(TypedDict):
+    """Two pieces that may be tied, how they hang together, and what to do."""
+
+    first: int
+    second: int
+    tie: str
+    do: str
+    shared: list[str]
+
+
+class Missing(TypedDict):
+    """What is missing of what is open at least, by rank, and between which pieces."""
+
+    lacks_by_rank: int
+    excess_by_rank: list[list[str]]
+    pieces: list[Piece]
+    joints: list[Joint]
+
+
+class Amount(TypedDict):
+    """Between what a fault misses by."""
+
+    low: float
+    high: float
+    unit: str
+
+
+class Failure(TypedDict):
+    """A fault: the program's words, the dimensions beneath it, and where."""
+
+    text: str
+    dimensions: list[str]
+    at: list[str]
+    amount: Amount | None
+
+
+class JudgementWords(TypedDict):
+    """What is judged."""
+
+    verdict: Literal["well", "open", "over"]
+    good: bool
+    why_not: list[ReasonJson]
+    lines: list[Line]
+    spare: list[SpareJson]
+    excess: list[Excess]
+    missing: Missing | None
+    failure: Failure | None
+
+
+class Judgement(JudgementWords):
+    """What is judged, and where it is shown. colours: the parts of points and shapes."""
+
+    placed: Places | None
+    laid: list[Places]
+    colours: dict[str, int]
+    language: str
+
+
+class ChangedJudgement(JudgementWords, total=False):
+    """What is judged, to a page that knows the judgement before: without what is long, and is as
+    it was."""
+
+    placed: Places | None
+    laid: list[Places]
+    colours: dict[str, int]
+    language: str
+
+
+class Judged(Answer, total=False):
+    """A text, the judgement on it, and its drawing. judgement: null where nothing is drawn."""
+
+    text: str
+    judgement: Judgement | None
+    drawing: Drawing
+
+
+class Edited(Answer, total=False):
+    """The text that an edit makes, and what of it isn't as it was."""
+
+    text: str
+    judgement: ChangedJudgement | None
+    drawing: ChangedDrawing
+
+
+class Offer(TypedDict):
+    """A constraint that fits: its words, its sign, and the value that is drawn, null where it
+    takes none."""
+
+    words: list[str]
+    sign: str
+    value: str | None
+
+
+class Offered(Answer, total=False):
+    """Which constraints fit."""
+
+    offers: list[Offer]
+
+
+class Weighed(Answer, total=False):
+    """What may go, what is left out of what is over, and the lines of the verdict with both."""
+
+    spare: list[SpareJson]
+    excess: list[Excess]
+    lines: list[Line]
+
+
+class Proposed(TypedDict):
+    """A line that could be added, by its place, from 1: its words without the value, and the value,
+    null where it has none; what it fixes; whether it only ties the whole to the datum; its
+    marks."""
+
+    number: int
+    line: str
+    words: list[str]
+    value: str | None
+    fixes: list[str]
+    ties: bool
+    marks: list[Mark]
+
+
+class Completed(Answer, total=False):
+    """What completes a drawing, or why nothing is proposed."""
+
+    proposals: list[Proposed]
+    why: str
+
+
+class ElementJson(TypedDict):
+    """An element of the construction: a point at a place, or a line through one, a way."""
+
+    called: str
+    at: NotRequired[Point]
+    through: NotRequired[Point]
+    way: NotRequired[Point]
+
+
+class Cluster(TypedDict):
+    """A cluster that a step joins. motion: cosine, sine and shift from where its elements are
+    placed to where it lies before the step."""
+
+    name: str
+    called: str
+    kept: bool
+    elements: list[str]
+    shapes: list[str]
+    motion: list[float]
+
+
+class Locus(TypedDict):
+    """Where an element may lie by one cluster: on a circle about a place, or on a line."""
+
+    circle: NotRequired[Point]
+    radius: NotRequired[float]
+    line: NotRequired[Point]
+    way: NotRequired[Point]
+
+
+class Step(TypedDict):
+    """A step of the construction: what it joins, where, and what it makes."""
+
+    number: int
+    joins: list[Cluster]
+    at: list[str]
+    choice: str
+    made: str
+    loci: list[Locus]
+
+
+class Construction(TypedDict):
+    """The plan of what is well."""
+
+    elements: dict[str, ElementJson]
+    steps: list[Step]
+
+
+class Planned(Answer, total=False):
+    """The construction."""
+
+    construction: Construction
+
+
+class OtherShape(Answer, total=False):
+    """Where all lies in the other shape."""
+
+    placed: Places
+
+
+class Verified(Answer, total=False):
+    """What the program says of a claim, and the claim."""
+
+    said: str
+    claim: str
+
+
+class Dxf(Answer, total=False):
+    """A file of DXF."""
+
+    dxf: str
+
+
+class Svg(Answer, total=False):
+    """A picture."""
+
+    svg: str
+
+
+class FileSketch(TypedDict):
+    """A sketch of a file. left_out: what of it a drawing can't say; aside: what it says beside."""
+
+    name: str
+    text: str
+    left_out: list[str]
+    aside: list[str]
+
+
+class Opened(Answer, total=False):
+    """The sketches of a file."""
+
+    sketches: list[FileSketch]
+
+
+class GalleryDrawing(TypedDict):
+    """A drawing to begin from."""
+
+    name: str
+    text: str
+
+
+class Gallery(Answer, total=False):
+    """The drawings to begin from."""
+
+    drawings: list[GalleryDrawing]
+
+
+CALLS: Mapping[str, tuple[type, type]] = {
+    "judge": (About, Judged),
+    "edit": (AboutEdit, Edited),
+    "offers": (AboutNames, Offered),
+    "weigh": (About, Weighed),
+    "complete": (About, Completed),
+    "plan": (About, Planned),
+    "flips": (AboutSteps, OtherShape),
+    "redraw": (AboutSteps, Edited),
+    "verify": (About, Verified),
+    "dxf": (AboutDxf, Dxf),
+    "svg": (AboutFile, Svg),
+    "program-dxf": (About, Dxf),
+    "open": (FileBytes, Opened),
+}
+"""What each call is given, and what it gives."""

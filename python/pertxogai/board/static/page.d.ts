@@ -1,0 +1,40 @@
+/** The page's own types: places, what nodes are made of, and what is heard. */
+import { Drawing, Judged, Mark } from './protocol';
+
+/** A place or a direction, in pixels or in millimetres. */
+export type Place = [number, number];
+
+/** Attributes of a node; a function is a listener, by its name without `on`. */
+export type Attributes = Record<
+  string, string | number | boolean | null | undefined | ((event: any) => void)>;
+
+/** What makes a node: its tag, its attributes, and what is in it. */
+export type Made = [tag: string, attributes?: Attributes, ...children: Child[]];
+export type Child = Made | Node | string | null | undefined | false | 0;
+
+/** What makes a node of a layer, behind the key by which it is known again. */
+export type Keyed = [key: string | number, ...made: Made];
+
+/** An answer with a drawing that could be read. */
+export interface Read extends Judged {
+  drawing: Drawing;
+}
+
+/** A mark at its place in pixels; of what is proposed with its line. */
+export interface PlacedMark {
+  number: number;
+  line?: string;
+  sign?: Mark['sign'];
+  path: string | null;
+  text: string;
+  at: Place;
+}
+
+/** What the listeners of a paper hear, and with what. */
+export interface Heard {
+  begin: null;
+  answer: Judged;
+  trouble: string;
+  text: null;
+  settle: null;
+}

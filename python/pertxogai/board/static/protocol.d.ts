@@ -1,0 +1,555 @@
+/**
+ * What the page and its server tell each other. Places and lengths are millimetres.
+ * Made of board/protocol.py by tools/pages: change that.
+ */
+/** A call about a text. left_out: what the drawing can't say of its file. */
+export interface About {
+  text: string;
+  left_out?: string[];
+}
+
+/** Why a call has no answer, in a line that says what to do. */
+export interface Trouble {
+  kind: string;
+  message: string;
+}
+
+/** Why a text isn't read, and its line, from 1; 0 for the whole text. */
+export interface Refused {
+  line: number;
+  message: string;
+}
+
+/** A reason, as JSON. off, unit: how far the constraint is off, of what isn't met. */
+export interface ReasonJson {
+  why: string;
+  text: string;
+  constraint: number | null;
+  off: number | null;
+  unit: string | null;
+}
+
+/**
+ * A line of the verdict: how it is set, the list that it stands in, what it selects, the
+ * constraint that it selects, or that its button takes away, what of the file its button forgets,
+ * and the part whose colour it has.
+ */
+export interface Line {
+  text: string;
+  kind?: string;
+  list?: string;
+  selects?: string[];
+  constraint?: number;
+  takes?: number;
+  forgets?: string;
+  part?: number;
+}
+
+/**
+ * A dimension that may go, as JSON. off, unit: how far it is off without it; rest: what the
+ * others are then; null where that isn't known.
+ */
+export interface SpareJson {
+  number: number;
+  name: string;
+  repeats: boolean | null;
+  off: number | null;
+  unit: string | null;
+  rest: string | null;
+}
+
+/**
+ * A dimension that is left out of what is over, and what is told of it. conflicts: null where
+ * it isn't measured.
+ */
+export interface Excess {
+  number: number;
+  conflicts: boolean | null;
+  told: string;
+}
+
+/** A part that is rigid by itself. */
+export interface Piece {
+  number: number;
+  elements: string[];
+}
+
+/** Two pieces that may be tied, how they hang together, and what to do. */
+export interface Joint {
+  first: number;
+  second: number;
+  tie: string;
+  do: string;
+  shared: string[];
+}
+
+/** What is missing of what is open at least, by rank, and between which pieces. */
+export interface Missing {
+  lacks_by_rank: number;
+  excess_by_rank: string[][];
+  pieces: Piece[];
+  joints: Joint[];
+}
+
+/** Between what a fault misses by. */
+export interface Amount {
+  low: number;
+  high: number;
+  unit: string;
+}
+
+/** A fault: the program's words, the dimensions beneath it, and where. */
+export interface Failure {
+  text: string;
+  dimensions: string[];
+  at: string[];
+  amount: Amount | null;
+}
+
+/** Where points lie, and how large rims are; of one part, or of all. */
+export interface Places {
+  part: number | null;
+  points: Record<string, [number, number]>;
+  radii: Record<string, number>;
+}
+
+/** What is judged, and where it is shown. colours: the parts of points and shapes. */
+export interface Judgement {
+  verdict: 'well' | 'open' | 'over';
+  good: boolean;
+  why_not: ReasonJson[];
+  lines: Line[];
+  spare: SpareJson[];
+  excess: Excess[];
+  missing: Missing | null;
+  failure: Failure | null;
+  placed: Places | null;
+  laid: Places[];
+  colours: Record<string, number>;
+  language: string;
+}
+
+/** A shape where it is drawn. shares: which of its points lie in the place of another. */
+export interface Shape {
+  name: string;
+  kind: 'point' | 'segment' | 'circle' | 'arc';
+  construction: boolean;
+  outer: boolean;
+  points: Record<string, [number, number]>;
+  shares: string[];
+  radius?: number;
+}
+
+/** A constraint by its place, from 1. words: its line without its name. */
+export interface Constraint {
+  number: number;
+  name: string | null;
+  called: string;
+  words: string;
+  value: string | null;
+}
+
+/** A mark of the constraint that has a number. */
+export interface Mark {
+  text?: string;
+  sign?: string;
+  bar?: [[number, number], [number, number]];
+  at?: [number, number];
+  way?: [number, number];
+  radius?: number | null;
+  number: number;
+}
+
+/** What is drawn. */
+export interface Drawing {
+  shapes: Shape[];
+  constraints: Constraint[];
+  marks: Mark[];
+}
+
+/** A text, the judgement on it, and its drawing. judgement: null where nothing is drawn. */
+export interface Judged {
+  trouble?: Trouble;
+  refused?: Refused;
+  ms?: number;
+  text?: string;
+  judgement?: Judgement | null;
+  drawing?: Drawing;
+}
+
+/** A place that is a point which stands: it is shared. */
+export interface PointSpot {
+  point: string;
+}
+
+/** A place of its own. */
+export interface FreeSpot {
+  x: number;
+  y: number;
+}
+
+/** Draws a figure through spots. */
+export interface DrawEdit {
+  do: 'draw';
+  figure: 'point' | 'segment' | 'circle' | 'arc' | 'rectangle';
+  spots: (PointSpot | FreeSpot)[];
+  radius?: number;
+  construction?: boolean;
+}
+
+/** A point goes to a place. */
+export interface PointMove {
+  of: string;
+  x: number;
+  y: number;
+}
+
+/** A circle gets a radius. */
+export interface RadiusMove {
+  of: string;
+  radius: number;
+}
+
+/** Draws points elsewhere, and circles larger or smaller. */
+export interface MoveEdit {
+  do: 'move';
+  points?: PointMove[];
+  radii?: RadiusMove[];
+}
+
+/** Draws shapes and points a way further. */
+export interface ShiftEdit {
+  do: 'shift';
+  shapes?: string[];
+  points?: string[];
+  dx: number;
+  dy: number;
+}
+
+/** Takes shapes away, and constraints by their numbers. */
+export interface EraseEdit {
+  do: 'erase';
+  shapes?: string[];
+  constraints?: number[];
+}
+
+/** Asks for a constraint. */
+export interface AskEdit {
+  do: 'ask';
+  words: string[];
+  value?: string;
+}
+
+/** Asks for what each of some lines says. */
+export interface LinesEdit {
+  do: 'lines';
+  lines: string[];
+}
+
+/** Gives a constraint another value. */
+export interface ValueEdit {
+  do: 'value';
+  number: number;
+  value: string;
+}
+
+/** Names a constraint. */
+export interface CallEdit {
+  do: 'call';
+  number: number;
+  name: string;
+}
+
+/** Gives a shape another name. */
+export interface RenameEdit {
+  do: 'rename';
+  old: string;
+  new: string;
+}
+
+/** Makes construction lines of shapes, or edges again. */
+export interface ConstructionEdit {
+  do: 'construction';
+  shapes: string[];
+  construction: boolean;
+}
+
+/** A call that edits a text. knows: whether the page has what was told of that text. */
+export interface AboutEdit {
+  text: string;
+  left_out?: string[];
+  edit: DrawEdit | MoveEdit | ShiftEdit | EraseEdit | AskEdit | LinesEdit | ValueEdit | CallEdit |
+    RenameEdit | ConstructionEdit;
+  knows?: boolean;
+}
+
+/**
+ * What is judged, to a page that knows the judgement before: without what is long, and is as
+ * it was.
+ */
+export interface ChangedJudgement {
+  verdict: 'well' | 'open' | 'over';
+  good: boolean;
+  why_not: ReasonJson[];
+  lines: Line[];
+  spare: SpareJson[];
+  excess: Excess[];
+  missing: Missing | null;
+  failure: Failure | null;
+  placed?: Places | null;
+  laid?: Places[];
+  colours?: Record<string, number>;
+  language?: string;
+}
+
+/**
+ * What is drawn, to a page that knows the drawing before: null for a list, or a thing of a
+ * list, that is as it was.
+ */
+export interface ChangedDrawing {
+  shapes: (Shape | null)[] | null;
+  constraints: (Constraint | null)[] | null;
+  marks: (Mark | null)[] | null;
+}
+
+/** The text that an edit makes, and what of it isn't as it was. */
+export interface Edited {
+  trouble?: Trouble;
+  refused?: Refused;
+  ms?: number;
+  text?: string;
+  judgement?: ChangedJudgement | null;
+  drawing?: ChangedDrawing;
+}
+
+/** A call about some points and shapes. */
+export interface AboutNames {
+  text: string;
+  left_out?: string[];
+  names: string[];
+}
+
+/**
+ * A constraint that fits: its words, its sign, and the value that is drawn, null where it
+ * takes none.
+ */
+export interface Offer {
+  words: string[];
+  sign: string;
+  value: string | null;
+}
+
+/** Which constraints fit. */
+export interface Offered {
+  trouble?: Trouble;
+  refused?: Refused;
+  ms?: number;
+  offers?: Offer[];
+}
+
+/** What may go, what is left out of what is over, and the lines of the verdict with both. */
+export interface Weighed {
+  trouble?: Trouble;
+  refused?: Refused;
+  ms?: number;
+  spare?: SpareJson[];
+  excess?: Excess[];
+  lines?: Line[];
+}
+
+/**
+ * A line that could be added, by its place, from 1: its words without the value, and the value,
+ * null where it has none; what it fixes; whether it only ties the whole to the datum; its
+ * marks.
+ */
+export interface Proposed {
+  number: number;
+  line: string;
+  words: string[];
+  value: string | null;
+  fixes: string[];
+  ties: boolean;
+  marks: Mark[];
+}
+
+/** What completes a drawing, or why nothing is proposed. */
+export interface Completed {
+  trouble?: Trouble;
+  refused?: Refused;
+  ms?: number;
+  proposals?: Proposed[];
+  why?: string;
+}
+
+/** An element of the construction: a point at a place, or a line through one, a way. */
+export interface ElementJson {
+  called: string;
+  at?: [number, number];
+  through?: [number, number];
+  way?: [number, number];
+}
+
+/**
+ * A cluster that a step joins. motion: cosine, sine and shift from where its elements are
+ * placed to where it lies before the step.
+ */
+export interface Cluster {
+  name: string;
+  called: string;
+  kept: boolean;
+  elements: string[];
+  shapes: string[];
+  motion: number[];
+}
+
+/** Where an element may lie by one cluster: on a circle about a place, or on a line. */
+export interface Locus {
+  circle?: [number, number];
+  radius?: number;
+  line?: [number, number];
+  way?: [number, number];
+}
+
+/** A step of the construction: what it joins, where, and what it makes. */
+export interface Step {
+  number: number;
+  joins: Cluster[];
+  at: string[];
+  choice: string;
+  made: string;
+  loci: Locus[];
+}
+
+/** The plan of what is well. */
+export interface Construction {
+  elements: Record<string, ElementJson>;
+  steps: Step[];
+}
+
+/** The construction. */
+export interface Planned {
+  trouble?: Trouble;
+  refused?: Refused;
+  ms?: number;
+  construction?: Construction;
+}
+
+/** A call about a shape in which the choices of some steps are turned over. */
+export interface AboutSteps {
+  text: string;
+  left_out?: string[];
+  steps: number[];
+}
+
+/** Where all lies in the other shape. */
+export interface OtherShape {
+  trouble?: Trouble;
+  refused?: Refused;
+  ms?: number;
+  placed?: Places;
+}
+
+/** What the program says of a claim, and the claim. */
+export interface Verified {
+  trouble?: Trouble;
+  refused?: Refused;
+  ms?: number;
+  said?: string;
+  claim?: string;
+}
+
+/** A call for DXF of a version, as R2010. */
+export interface AboutDxf {
+  text: string;
+  left_out?: string[];
+  name: string;
+  release: string;
+}
+
+/** A file of DXF. */
+export interface Dxf {
+  trouble?: Trouble;
+  refused?: Refused;
+  ms?: number;
+  dxf?: string;
+}
+
+/** A call for a file of the drawing, under its name. */
+export interface AboutFile {
+  text: string;
+  left_out?: string[];
+  name: string;
+}
+
+/** A picture. */
+export interface Svg {
+  trouble?: Trouble;
+  refused?: Refused;
+  ms?: number;
+  svg?: string;
+}
+
+/** A file that is opened. data: its bytes in base 64. */
+export interface FileBytes {
+  name: string;
+  data: string;
+}
+
+/** A sketch of a file. left_out: what of it a drawing can't say; aside: what it says beside. */
+export interface FileSketch {
+  name: string;
+  text: string;
+  left_out: string[];
+  aside: string[];
+}
+
+/** The sketches of a file. */
+export interface Opened {
+  trouble?: Trouble;
+  refused?: Refused;
+  ms?: number;
+  sketches?: FileSketch[];
+}
+
+/** A drawing to begin from. */
+export interface GalleryDrawing {
+  name: string;
+  text: string;
+}
+
+/** The drawings to begin from. */
+export interface Gallery {
+  trouble?: Trouble;
+  refused?: Refused;
+  ms?: number;
+  drawings?: GalleryDrawing[];
+}
+
+/** What every answer may have. ms: the time that the server took. */
+export interface Answer {
+  trouble?: Trouble;
+  refused?: Refused;
+  ms?: number;
+}
+
+export type Spot = PointSpot | FreeSpot;
+
+export type Edit = DrawEdit | MoveEdit | ShiftEdit | EraseEdit | AskEdit | LinesEdit | ValueEdit |
+    CallEdit | RenameEdit | ConstructionEdit;
+
+/** Each call: what it is given, and what it gives. */
+export interface Calls {
+  'judge': { given: About; gives: Judged };
+  'edit': { given: AboutEdit; gives: Edited };
+  'offers': { given: AboutNames; gives: Offered };
+  'weigh': { given: About; gives: Weighed };
+  'complete': { given: About; gives: Completed };
+  'plan': { given: About; gives: Planned };
+  'flips': { given: AboutSteps; gives: OtherShape };
+  'redraw': { given: AboutSteps; gives: Edited };
+  'verify': { given: About; gives: Verified };
+  'dxf': { given: AboutDxf; gives: Dxf };
+  'svg': { given: AboutFile; gives: Svg };
+  'program-dxf': { given: About; gives: Dxf };
+  'open': { given: FileBytes; gives: Opened };
+}
