@@ -46,11 +46,11 @@ def _draw(drawing: Drawing, given: Fields) -> Draw:
         raise FieldRefused(f"{given.text('figure')!r} is no figure that is drawn") from None
     spots = tuple(spot_of(drawing.scene, each) for each in given.objects("spots"))
     radius = given.um("radius") if given.has("radius") else None
-    return Draw(figure, spots, radius, given.flag("construction"))
+    return Draw(figure, spots, radius, given.flag("construction"), given.lines("asks"))
 
 
 def _move(drawing: Drawing, given: Fields) -> Move:
     moves = tuple((point_of(drawing.scene, each.text("of")), Place(each.um("x"), each.um("y")))
                   for each in given.objects("points"))
     radii = tuple((each.text("of"), each.um("radius")) for each in given.objects("radii"))
-    return Move(moves, radii)
+    return Move(moves, radii, given.lines("asks"))

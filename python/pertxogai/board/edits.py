@@ -2,7 +2,7 @@
 where the drawing's words don't allow it."""
 from __future__ import annotations
 
-from collections.abc import Iterator
+from collections.abc import Iterable, Iterator, Sequence
 from contextlib import contextmanager
 from dataclasses import dataclass, replace
 from fractions import Fraction
@@ -23,12 +23,14 @@ from pertxogai.drawing.numbers import mm_text
 class Draw:
     """Draws a figure through spots, under a free name: a segment or a rectangle from corner to
     corner, a circle from its centre with a radius, an arc from its centre, counter-clockwise
-    from start to end."""
+    from start to end. asks: what is asked for with it, each by the words of a line in which `*`
+    stands for that name."""
 
     figure: Figure
     spots: tuple[Anchor, ...]
     radius_um: Fraction | None = None
     construction: bool = False
+    asks: tuple[tuple[str, ...], ...] = ()
 
     def on(self, drawing: Drawing) -> Drawing:
         """The drawing with it."""
@@ -41,16 +43,19 @@ class Draw:
         count = len(drawing.geometry)
         notes = tuple(replace(note, before=note.before + len(shapes))
                       if note.before >= count > 0 else note for note in drawing.notes)
-        return Drawing((*drawing.geometry, *shapes),
-                       (*drawing.constraints, *said.constraints), notes)
+        whole = Drawing((*drawing.geometry, *shapes),
+                        (*drawing.constraints, *said.constraints), notes)
+        return _asking(whole, ([word.replace("*", name) for word in each] for each in self.asks))
 
 
 @dataclass(frozen=True)
 class Move:
-    """Draws points elsewhere: each, and all that share its place."""
+    """Draws points elsewhere: each, and all that share its place. asks: what is asked for with it,
+    each by the words of a line."""
 
     moves: tuple[tuple[PointRef, Place], ...]
     radii: tuple[tuple[str, Fraction], ...] = ()
+    asks: tuple[tuple[str, ...], ...] = ()
 
     def on(self, drawing: Drawing) -> Drawing:
         """The drawing with its points there."""
@@ -63,7 +68,7 @@ class Move:
             rim = shapes.get(name)
             if isinstance(rim, Circle):
                 shapes[name] = replace(rim, radius_um=radius)
-        return replace(drawing, geometry=tuple(shapes.values()))
+        return _asking(replace(drawing, geometry=tuple(shapes.values())), self.asks)
 
 
 @dataclass(frozen=True)
@@ -202,6 +207,13 @@ def faults_of(where: str) -> Iterator[None]:
 
 
 Edit = (Draw | Move | Shift | Erase | Ask | Lines | Value | Call | Rename | Construction)
+
+
+def _asking(drawing: Drawing, asks: Iterable[Sequence[str]]) -> Drawing:
+    """A drawing in which some lines are asked for besides, one after the other."""
+    for words in asks:
+        drawing = Ask(tuple(words)).on(drawing)
+    return drawing
 
 
 def _words(spot: Anchor) -> str:

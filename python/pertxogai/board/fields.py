@@ -70,6 +70,10 @@ class Fields:
         """Several whole numbers. Raises FieldRefused."""
         return tuple(_whole(name, each) for each in self._items(name))
 
+    def lines(self, name: str) -> tuple[tuple[str, ...], ...]:
+        """Several lists of texts; none where the field isn't there. Raises FieldRefused."""
+        return tuple(Fields({name: each}).texts(name) for each in self._items(name))
+
     def objects(self, name: str) -> tuple[Fields, ...]:
         """Several objects. Raises FieldRefused."""
         return tuple(Fields.of(each) for each in self._items(name))

@@ -35,6 +35,7 @@ def judgement_shown(judged: JudgedDrawing, parts: Iterable[LaidPart], placed: Pl
         "lines": lines_shown(judged, Asides(short=short)),
         "spare": [spare_json(each) for each in judgement.surplus],
         "excess": [],
+        "repeats": list(judgement.repeats),
         "placed": placed,
         "laid": [_laid(part) for part in parts],
         "colours": _colours(judgement),

@@ -36,13 +36,15 @@ FigureName = Literal["point", "segment", "circle", "arc", "rectangle"]
 
 
 class DrawEdit(TypedDict):
-    """Draws a figure through spots."""
+    """Draws a figure through spots. asks: what is asked for with it, each by the words of a line in
+    which `*` stands for the name of the figure."""
 
     do: Literal["draw"]
     figure: FigureName
     spots: list[Spot]
     radius: NotRequired[float]
     construction: NotRequired[bool]
+    asks: NotRequired[list[list[str]]]
 
 
 class PointMove(TypedDict):
@@ -61,11 +63,13 @@ class RadiusMove(TypedDict):
 
 
 class MoveEdit(TypedDict):
-    """Draws points elsewhere, and circles larger or smaller."""
+    """Draws points elsewhere, and circles larger or smaller. asks: what is asked for with it, each
+    by the words of a line."""
 
     do: Literal["move"]
     points: NotRequired[list[PointMove]]
     radii: NotRequired[list[RadiusMove]]
+    asks: NotRequired[list[list[str]]]
 
 
 class ShiftEdit(TypedDict):
@@ -340,7 +344,7 @@ class Failure(TypedDict):
 
 
 class JudgementWords(TypedDict):
-    """What is judged."""
+    """What is judged. repeats: the constraints that only say again what others say."""
 
     verdict: Literal["well", "open", "over"]
     good: bool
@@ -348,6 +352,7 @@ class JudgementWords(TypedDict):
     lines: list[Line]
     spare: list[SpareJson]
     excess: list[Excess]
+    repeats: list[str]
     missing: Missing | None
     failure: Failure | None
 

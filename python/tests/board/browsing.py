@@ -95,15 +95,25 @@ class Page:
         """Clicks a button."""
         self.driver.find_element(By.CSS_SELECTOR, selector).click()
 
-    def press(self, x: float, y: float, shift: bool = False, to: tuple[float, float] | None = None,
-              lets_go: bool = True) -> None:
-        """Presses the mouse on the board at a place in pixels, or drags it to another, and lets
-        go there or doesn't."""
+    def hover(self, x: float, y: float, held: str = "") -> None:
+        """Moves the mouse to a place on the board in pixels; keys that are held stay held."""
         board = self.driver.find_element(By.ID, "board")
         half = board.size["width"] / 2, board.size["height"] / 2
         chain = ActionChains(self.driver, duration=30)
-        if shift:
-            chain.key_down(Keys.SHIFT)
+        for key in held:
+            chain.key_down(key)
+        chain.move_to_element_with_offset(board, round(x - half[0]), round(y - half[1])).perform()
+
+    def press(self, x: float, y: float, shift: bool = False, to: tuple[float, float] | None = None,
+              lets_go: bool = True, held: str = "") -> None:
+        """Presses the mouse on the board at a place in pixels, or drags it to another, and lets
+        go there or doesn't; with Shift, or with the keys that are held."""
+        board = self.driver.find_element(By.ID, "board")
+        half = board.size["width"] / 2, board.size["height"] / 2
+        chain = ActionChains(self.driver, duration=30)
+        keys = held + Keys.SHIFT * shift
+        for key in keys:
+            chain.key_down(key)
         chain.move_to_element_with_offset(board, round(x - half[0]), round(y - half[1]))
         if to is None:
             chain.click()
@@ -115,8 +125,8 @@ class Page:
                     round(y + (to[1] - y) * share - half[1]))
             if lets_go:
                 chain.release()
-        if shift:
-            chain.key_up(Keys.SHIFT)
+        for key in keys:
+            chain.key_up(key)
         chain.perform()
 
     def let_go(self) -> None:

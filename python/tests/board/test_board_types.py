@@ -117,10 +117,10 @@ def test_answers_to_other_texts_are_of_their_types(text: str, program: Program) 
 
 EDITS: list[dict[str, object]] = [
     {"do": "draw", "figure": "circle", "spots": [{"point": "A.end"}], "radius": 4,
-     "construction": True},
+     "construction": True, "asks": [["equal", "*", "C"]]},
     {"do": "draw", "figure": "segment", "spots": [{"x": 1, "y": 2.5}, {"point": "A.end"}]},
     {"do": "move", "points": [{"of": "A.end", "x": 41, "y": 1}],
-     "radii": [{"of": "C", "radius": 3}]},
+     "radii": [{"of": "C", "radius": 3}], "asks": [["horizontal", "A"]]},
     {"do": "shift", "shapes": ["A"], "points": ["C.centre"], "dx": 1, "dy": -2},
     {"do": "erase", "shapes": ["C"], "constraints": [1]},
     {"do": "ask", "words": ["length", "A"], "value": "40"},
@@ -157,6 +157,10 @@ class Read(Fields):
     def whole(self, name: str) -> int:
         self.names.add(name)
         return super().whole(name)
+
+    def lines(self, name: str) -> tuple[tuple[str, ...], ...]:
+        self.names.add(name)
+        return super().lines(name)
 
     def _items(self, name: str) -> Iterator[object]:
         self.names.add(name)

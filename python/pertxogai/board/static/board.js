@@ -370,16 +370,18 @@ export class Board {
 
   /**
    * The point that is shown next to a place in pixels, if one is near: its name, its place in
-   * millimetres, and how far it is away in pixels.
+   * millimetres, and how far it is away in pixels. `except` are names that don't count.
    * @param {Place} place
+   * @param {Set<string>} [except]
    */
-  nearPoint([x, y]) {
+  nearPoint([x, y], except = new Set()) {
     /** @type {{ name: string, at: Place, away: number } | null} */
     let near = null;
     for (const [name, at] of Object.entries(this.shown.between.points)) {
       const [u, v] = this.plane.toScreen(at);
       const away = Math.hypot(u - x, v - y);
-      if (away < (near?.away ?? NEAR_POINT) - 0.01) near = { name, at, away };
+      const isNearer = away < (near?.away ?? NEAR_POINT) - 0.01;
+      if (isNearer && !except.has(name)) near = { name, at, away };
     }
     return near;
   }

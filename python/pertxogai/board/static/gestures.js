@@ -5,31 +5,33 @@ import { arcThrough, rounded } from './tools.js';
 import { apart, line, ring, bow } from './shapes.js';
 import { namesOf } from './selection.js';
 import { Sequence } from './sequence.js';
+import { Guesses, signOf } from './guesses.js';
 
 /** @typedef {import('./page').Place} Place */
 /** @typedef {import('./protocol').Edit} Edit */
 
 /**
  * What was pressed, where it was first and last, whether it pans, whether it was moved, and the
- * edit that it makes.
+ * edit that it makes, with what is guessed of it.
  * @typedef {{ at: Place, last: Place, thing: Thing, pans: boolean, moved: boolean,
- *   edit: Edit | null }} Pressed
+ *   edit: Edit | null, guesses: import('./guesses.js').Guess[] }} Pressed
  */
+/** @typedef {import('./guesses.js').Aim} Aim */
 /**
  * What lies under a hand: a point or shape by its name, a constraint by its number, what is
  * proposed by its own, or nothing.
  * @typedef {string | number | { proposed: number } | null} Thing
  */
 /**
- * A spot at a place in millimetres, the point that it is, and the word of a segment that ends
- * there.
- * @typedef {{ spot: import('./tools.js').Spot, at: Place, isPoint: boolean,
- *   level: 'horizontal' | 'vertical' | null }} Aim
+ * The keys that are held: Shift keeps level, or adds; Ctrl leaves out what is guessed.
+ * @typedef {{ shiftKey: boolean, ctrlKey: boolean }} Held
  */
 
 const SLACK = 4;
 const NOTHING_DRAWN = 'Nothing is drawn: its places are one, or lie on one line. Choose others.';
 const DATUM = ['Origin', 'XAxis', 'YAxis'];
+/** @type {Held} */
+const NONE_HELD = { shiftKey: false, ctrlKey: false };
 
 /** Turns what a hand does on the board into selections and edits. */
 export class Gestures {
@@ -56,6 +58,7 @@ export class Gestures {
     this.selection = selection;
     this.hand = hand;
     this.tell = tell;
+    this.guesses = new Guesses(board);
     this.hears('pointerdown', (event, at) => this.down(event, at));
     this.hears('pointermove', (event, at) => this.move(event, at));
     this.hears('pointerup', (event, at) => this.up(event, at));
@@ -93,22 +96,22 @@ export class Gestures {
   }
 
   /**
-   * The spot at a place in pixels: a point that is near, else a place on the grid; of a segment
-   * that is kept level, beside or above its start.
+   * Where the hand aims at a place in pixels, by the keys that are held.
    * @param {Place} pixels
-   * @param {boolean} keeps
-   * @returns {Aim}
+   * @param {Held} held
+   * @returns {Aim & { level: 'horizontal' | 'vertical' | null }}
    */
-  spot(pixels, keeps) {
-    const near = this.board.nearPoint(pixels);
-    const [x, y] = near ? near.at : this.onGrid(pixels);
-    const from = keeps && this.hand.tool === 'segment' ? this.hand.clicks.at(-1)?.at : undefined;
-    const level = from ? levelOf(from, [x, y]) : null;
-    if (near) return { spot: { point: near.name }, at: near.at, isPoint: true, level };
-    const [u, v] = from ?? [x, y];
-    /** @type {Place} */
-    const at = level === 'horizontal' ? [x, v] : level === 'vertical' ? [u, y] : [x, y];
-    return { spot: { x: at[0], y: at[1] }, at, isPoint: false, level };
+  aim(pixels, { shiftKey, ctrlKey }) {
+    const { hand, guesses } = this;
+    const keeps = shiftKey && hand.tool === 'segment';
+    const from = keeps ? hand.clicks.at(-1)?.at : undefined;
+    const plain = ctrlKey ? guesses.plain(pixels) : null;
+    if (!from) return { ...plain ?? guesses.ofHand(hand, pixels), level: null };
+    const aim = plain ?? guesses.aim(pixels);
+    const level = levelOf(from, aim.at);
+    if (aim.isPoint || aim.guesses.length) return { ...aim, level };
+    const [x, y] = level === 'horizontal' ? [aim.at[0], from[1]] : [from[0], aim.at[1]];
+    return { ...aim, spot: { x, y }, at: [x, y], level };
   }
 
   /**
@@ -121,7 +124,7 @@ export class Gestures {
     this.board.node.setPointerCapture(event.pointerId);
     const thing = this.touched(event.target, at);
     const pans = event.button === 1 || (!thing && !this.hand.draws);
-    this.pressed = { at, last: at, thing, pans, moved: false, edit: null };
+    this.pressed = { at, last: at, thing, pans, moved: false, edit: null, guesses: [] };
   }
 
   /**
@@ -146,7 +149,7 @@ export class Gestures {
   move(event, at) {
     const { pressed, board } = this;
     if (!pressed) {
-      this.hover(at, event.shiftKey);
+      this.hover(at, heldOf(event));
       return;
     }
     pressed.moved ||= apart(at, pressed.at) > SLACK;
@@ -154,21 +157,57 @@ export class Gestures {
     if (pressed.pans) {
       board.plane.pan(at[0] - pressed.last[0], at[1] - pressed.last[1]);
       board.draw();
-    } else if (!this.hand.draws && typeof pressed.thing === 'string') this.drag(pressed, at);
-    else this.hover(at, event.shiftKey);
+    } else if (!this.hand.draws && typeof pressed.thing === 'string') {
+      this.drag(pressed, pressed.thing, at, heldOf(event));
+    } else this.hover(at, heldOf(event));
     pressed.last = at;
   }
 
   /**
-   * Drags what was pressed.
+   * Drags what was pressed; a point that comes near to something is drawn there, and a sign tells
+   * what is asked for where it is dropped.
    * @param {Pressed} pressed
+   * @param {string} name
    * @param {Place} at
+   * @param {Held} held
    */
-  drag(pressed, at) {
-    const edit = this.dragged(String(pressed.thing), pressed.at, this.onGrid(at));
+  drag(pressed, name, at, held) {
+    const aim = this.drop(name, at, held);
+    const edit = this.dragged(name, pressed.at, aim.at);
     if (!edit) return;
-    pressed.edit = edit;
+    Object.assign(pressed, { edit, guesses: aim.guesses });
+    this.board.preview = aim.guesses.length ? () => this.signs(aim.guesses) : null;
     this.paper.preview(edit);
+  }
+
+  /**
+   * Where something is dropped at a place in pixels: a point of what is open on another, in the
+   * middle of a segment or on an edge; all else on the grid.
+   * @param {string} name
+   * @param {Place} pixels
+   * @param {Held} held
+   * @returns {Aim}
+   */
+  drop(name, pixels, { ctrlKey }) {
+    const { board, guesses, paper: { answer } } = this;
+    const isPoint = board.shown.at(name) && !DATUM.includes(name);
+    if (ctrlKey || !isPoint || answer?.judgement?.placed) return guesses.plain(pixels);
+    const aim = guesses.aim(pixels, this.moving(name));
+    if (!('point' in aim.spot)) return aim;
+    return { ...aim, guesses: [{ words: ['coincident', '@', aim.spot.point], at: [aim.at] }] };
+  }
+
+  /**
+   * What moves with a point: all points in its place as the drawing stands, and their shapes.
+   * @param {string} name
+   */
+  moving(name) {
+    const shapes = this.paper.answer?.drawing?.shapes ?? [];
+    const points = shapes.flatMap((shape) => Object.entries(shape.points).map(
+      ([point, at]) => ({ shape: shape.name, point, at })));
+    const mine = points.find(({ point }) => point === name)?.at;
+    const moving = points.filter(({ at }) => mine && apart(at, mine) < 1e-6);
+    return new Set(moving.flatMap(({ shape, point }) => [shape, point]));
   }
 
   /**
@@ -201,11 +240,22 @@ export class Gestures {
     const { pressed } = this;
     this.pressed = null;
     if (!pressed) return;
-    if (pressed.edit) this.paper.land(pressed.edit);
+    if (pressed.edit) this.land(pressed.edit, pressed);
     else if (event.button === 0 && !(pressed.pans && pressed.moved)) {
-      this.release(pressed, at, event.shiftKey);
+      this.release(pressed, at, heldOf(event));
     }
     this.clicked = pressed.moved ? null : pressed.thing;
+  }
+
+  /**
+   * What was dragged is dropped, with what is guessed of it.
+   * @param {Edit} edit
+   * @param {{ thing: Pressed['thing'], guesses: Pressed['guesses'] }} dropped
+   */
+  land(edit, { thing, guesses }) {
+    this.board.preview = null;
+    this.paper.land(edit, guesses.map(
+      ({ words }) => words.map((word) => (word === '@' ? String(thing) : word))));
   }
 
   /**
@@ -213,25 +263,26 @@ export class Gestures {
    * that draws then it is a click; else it selects, or what was dragged goes there.
    * @param {Pressed} pressed
    * @param {Place} to
-   * @param {boolean} more
+   * @param {Held} held
    */
-  release({ thing, at: from, moved }, to, more) {
+  release({ thing, at: from, moved }, to, held) {
     const { plane } = this.board;
     const [first, last] = [plane.toPlane(from), plane.toPlane(to)];
     this.sequence.do(() => {
       const [start, end] = [plane.toScreen(first), plane.toScreen(last)];
-      if (this.hand.draws) return this.draw(end, more);
-      const isDrag = moved && typeof thing === 'string';
-      const edit = isDrag ? this.dragged(thing, start, this.onGrid(end)) : null;
-      if (edit) this.paper.land(edit);
-      else if (!moved) this.select(thing, more);
-      return null;
+      if (this.hand.draws) return this.draw(end, held);
+      if (!moved) return this.select(thing, held.shiftKey);
+      if (typeof thing !== 'string') return null;
+      const { at, guesses } = this.drop(thing, end, held);
+      const edit = this.dragged(thing, start, at);
+      return edit && this.land(edit, { thing, guesses });
     });
   }
 
   /** The browser takes the pointer away: what was dragged stays where it was. */
   cancel() {
     this.pressed = null;
+    this.board.preview = null;
     this.paper.drop();
   }
 
@@ -251,52 +302,69 @@ export class Gestures {
   /**
    * Draws by a click.
    * @param {Place} pixels
-   * @param {boolean} shift
+   * @param {Held} held
    */
-  async draw(pixels, shift) {
+  async draw(pixels, held) {
     const { hand, paper } = this;
-    const { spot, at, isPoint, level } = this.spot(pixels, shift);
+    const aim = this.aim(pixels, held);
     const isChain = hand.clicks.length === 1 && hand.tool === 'segment';
-    const edit = hand.click(spot, at);
+    const edit = hand.click(aim);
     const { clicks } = hand;
-    this.showHand(pixels, shift);
+    this.showHand(pixels, held);
     if (!edit && !clicks.length) this.tell(NOTHING_DRAWN);
-    if (!edit || !await paper.draw(edit, isChain && level) || hand.clicks !== clicks) return;
+    const asks = isChain && aim.level ? [[aim.level, '*']] : [];
+    if (!edit || !await paper.draw(edit, asks) || hand.clicks !== clicks) return;
     const name = paper.answer?.drawing?.shapes.at(-1)?.name;
-    if (isChain && !isPoint && name) hand.click({ point: `${name}.end` }, at);
-    this.showHand(pixels, shift);
+    if (isChain && !aim.isPoint && name) {
+      hand.click({ spot: { point: `${name}.end` }, at: aim.at, guesses: [] });
+    }
+    this.showHand(pixels, held);
   }
 
   /**
    * Says what to do next, and shows what a click would draw.
    * @param {Place} pixels
-   * @param {boolean} shift
+   * @param {Held} held
    */
-  showHand(pixels, shift) {
+  showHand(pixels, held) {
     this.tell(this.hand.hint);
-    this.hover(pixels, shift);
+    this.hover(pixels, held);
   }
 
   /**
-   * Shows what a click would draw.
+   * Shows what a click would draw, and ask for.
    * @param {Place} pixels
-   * @param {boolean} shift
+   * @param {Held} held
    */
-  hover(pixels, shift) {
+  hover(pixels, held) {
     const { board, hand } = this;
     if (!hand.draws) {
       board.preview = null;
       return;
     }
-    const { at, isPoint } = this.spot(pixels, shift);
-    const [kind, r] = isPoint ? ['snap', 9] : ['preview', 4];
+    const { at, isPoint, guesses } = this.aim(pixels, held);
+    const isHeld = isPoint || guesses.some(({ words }) => words.includes('@'));
+    const [kind, r] = isHeld ? ['snap', 9] : ['preview', 4];
     board.preview = (plane) => {
       const [cx, cy] = plane.toScreen(at);
       const path = this.path([...hand.clicks.map((each) => plane.toScreen(each.at)), [cx, cy]]);
       return [path ? svg('path', { class: 'preview', d: path }) : null,
-        svg('circle', { class: kind, cx, cy, r })];
+        svg('circle', { class: kind, cx, cy, r }), ...this.signs(guesses)];
     };
     board.drawHand();
+  }
+
+  /**
+   * The signs of what is guessed, each beside its places; of several at one place, one beside the
+   * other.
+   * @param {import('./guesses.js').Guess[]} guesses
+   */
+  signs(guesses) {
+    return guesses.flatMap((guess, place) => guess.at.map((at) => {
+      const [x, y] = this.board.plane.toScreen(at);
+      const told = { class: 'guess', 'data-guess': guess.words.join(' '), x: x + 15 + 16 * place };
+      return svg('text', { ...told, y: y - 15 }, signOf(guess));
+    }));
   }
 
   /**
@@ -350,7 +418,7 @@ export class Gestures {
     const [x, y] = plane.toScreen(board.cross);
     plane.pan(within(x, width) - x, within(y, height) - y);
     this.tell(`cross at ${board.cross.join(' ')} mm`);
-    this.hover(plane.toScreen(board.cross), false);
+    this.hover(plane.toScreen(board.cross), NONE_HELD);
     board.draw();
   }
 
@@ -363,7 +431,7 @@ export class Gestures {
     if (!cross) return;
     this.sequence.do(() => {
       const pixels = plane.toScreen(cross);
-      if (this.hand.draws) return this.draw(pixels, false);
+      if (this.hand.draws) return this.draw(pixels, NONE_HELD);
       return this.select(this.board.nearPoint(pixels)?.name, more);
     });
   }
@@ -404,6 +472,15 @@ export class Gestures {
  */
 function levelOf([u, v], [x, y]) {
   return Math.abs(x - u) > Math.abs(y - v) ? 'horizontal' : 'vertical';
+}
+
+/**
+ * The keys that are held while something is done; Command is Ctrl on a Mac.
+ * @param {MouseEvent} event
+ * @returns {Held}
+ */
+function heldOf({ shiftKey, ctrlKey, metaKey }) {
+  return { shiftKey, ctrlKey: ctrlKey || metaKey };
 }
 
 /**

@@ -10,6 +10,7 @@ import { Stopped } from './calls.js';
 /** @typedef {import('./protocol').Edit} Edit */
 /** @typedef {import('./protocol').Edited} Edited */
 /** @typedef {import('./protocol').Judged} Judged */
+/** @typedef {import('./protocol').DrawEdit | import('./protocol').MoveEdit} Guessed */
 
 /** @type {import('./protocol').Trouble} */
 const CHANGED = { kind: 'page', message: 'the drawing has changed: choose again' };
@@ -179,18 +180,30 @@ export class Paper extends EventTarget {
   }
 
   /**
-   * Draws a figure, and asks for a constraint of its last shape if a word for it is given: one
-   * change. Gives whether it was taken.
-   * @param {Edit} edit
-   * @param {string | false | null} [word]
+   * Draws, or draws elsewhere, with what is asked for and guessed of it: one change. Of what is
+   * guessed the last is left out as long as the drawing's words don't take it, or it would be one
+   * too many. Gives whether it was taken.
+   * @param {Guessed} edit
+   * @param {string[][]} [asks]
    */
-  draw(edit, word) {
-    return this.change(async (text) => {
-      const answer = await this.edited(text, edit);
-      const name = answer.drawing?.shapes.at(-1)?.name;
-      if (!word || !answer.text || !name) return answer;
-      return this.edited(answer.text, { do: 'ask', words: [word, name] });
-    });
+  draw(edit, asks = []) {
+    return this.change((text) => this.guessed(text, edit, asks));
+  }
+
+  /**
+   * What an edit makes of a text, with what is asked for, and as much of what is guessed as may be.
+   * @param {string} text
+   * @param {Guessed} edit
+   * @param {string[][]} asks
+   * @returns {Promise<Judged>}
+   */
+  async guessed(text, edit, asks) {
+    const before = this.answer?.text === text ? this.answer.judgement : null;
+    for (let guesses = edit.asks ?? []; ; guesses = guesses.slice(0, -1)) {
+      const answer = await this.edited(text, { ...edit, asks: [...asks, ...guesses] });
+      const isTaken = answer.text !== undefined && !isWorse(answer.judgement, before);
+      if (isTaken || !guesses.length) return answer;
+    }
   }
 
   /**
@@ -252,11 +265,14 @@ export class Paper extends EventTarget {
   }
 
   /**
-   * The hand lets go, and its edit counts. What was shown isn't asked for again.
+   * The hand lets go, and its edit counts, with what is guessed of it. What was shown isn't asked
+   * for again.
    * @param {Edit} edit
+   * @param {string[][]} [asks]
    */
-  land(edit) {
+  land(edit, asks = []) {
     this.live = null;
+    if (asks.length && edit.do === 'move') return this.draw({ ...edit, asks });
     return this.change(async (text) => {
       const { seen } = this;
       const isSeen = seen && seen.edit === edit && seen.text === text;
@@ -368,6 +384,26 @@ export class Paper extends EventTarget {
  */
 function isNumbered(edit) {
   return 'number' in edit || ('constraints' in edit && Boolean(edit.constraints?.length));
+}
+
+/**
+ * Whether something is asked for too much, or has no places, that wasn't before.
+ * @param {Judged['judgement']} now
+ * @param {Judged['judgement']} before
+ */
+function isWorse(now, before) {
+  const isOver = now?.verdict === 'over' && before?.verdict !== 'over';
+  const hasNone = Boolean(now?.failure) && !before?.failure;
+  return isOver || hasNone || repeatsIn(now) > repeatsIn(before);
+}
+
+/**
+ * How many constraints repeat others, by their words and by rank.
+ * @param {Judged['judgement']} judgement
+ */
+function repeatsIn(judgement) {
+  const { repeats = [], missing = null } = judgement ?? {};
+  return repeats.length + (missing?.excess_by_rank.length ?? 0);
 }
 
 /**

@@ -121,6 +121,7 @@ export interface Judgement {
   lines: Line[];
   spare: SpareJson[];
   excess: Excess[];
+  repeats: string[];
   missing: Missing | null;
   failure: Failure | null;
   placed: Places | null;
@@ -188,13 +189,17 @@ export interface FreeSpot {
   y: number;
 }
 
-/** Draws a figure through spots. */
+/**
+ * Draws a figure through spots. asks: what is asked for with it, each by the words of a line in
+ * which `*` stands for the name of the figure.
+ */
 export interface DrawEdit {
   do: 'draw';
   figure: 'point' | 'segment' | 'circle' | 'arc' | 'rectangle';
   spots: (PointSpot | FreeSpot)[];
   radius?: number;
   construction?: boolean;
+  asks?: string[][];
 }
 
 /** A point goes to a place. */
@@ -210,11 +215,15 @@ export interface RadiusMove {
   radius: number;
 }
 
-/** Draws points elsewhere, and circles larger or smaller. */
+/**
+ * Draws points elsewhere, and circles larger or smaller. asks: what is asked for with it, each
+ * by the words of a line.
+ */
 export interface MoveEdit {
   do: 'move';
   points?: PointMove[];
   radii?: RadiusMove[];
+  asks?: string[][];
 }
 
 /** Draws shapes and points a way further. */
@@ -294,6 +303,7 @@ export interface ChangedJudgement {
   lines: Line[];
   spare: SpareJson[];
   excess: Excess[];
+  repeats: string[];
   missing: Missing | null;
   failure: Failure | null;
   placed?: Places | null;

@@ -8,7 +8,10 @@ import { apart } from './shapes.js';
 /** @typedef {import('./protocol').PointSpot} PointSpot */
 /** @typedef {DrawEdit['spots'][number]} Spot */
 /** @typedef {DrawEdit['figure'] | 'select'} Tool */
-/** @typedef {{ spot: Spot, at: Place }} Click */
+/**
+ * What was clicked: a spot and its place in millimetres, and what is nearly so there.
+ * @typedef {{ spot: Spot, at: Place, guesses: import('./guesses.js').Guess[] }} Click
+ */
 
 /**
  * What to do at each click of a tool.
@@ -19,11 +22,15 @@ const HINTS = {
     + 'zooms.'],
   point: ['Point: click where it lies.'],
   segment: ['Segment: click its start. A point that stands is shared.',
-    'Click its end; with Shift it is kept level or upright. Escape ends the chain.'],
+    'Click its end; Shift keeps it level or upright, Ctrl leaves out what is guessed. Escape ends '
+    + 'the chain.'],
   rectangle: ['Rectangle: click a corner.', 'Click the opposite corner.'],
   circle: ['Circle: click its centre.', 'Click a place on it.'],
   arc: ['Arc: click one end.', 'Click the other end.', 'Click a place on it.'],
 };
+
+/** The ends of a segment or an arc, `*`. */
+const ENDS = ['*.start', '*.end'];
 
 /**
  * Whether a word is that of a tool.
@@ -64,11 +71,10 @@ export class Hand {
   /**
    * Takes a click; gives the edit that is drawn by it, or null where more are needed, or they make
    * no figure.
-   * @param {Spot} spot
-   * @param {Place} at
+   * @param {Click} click
    */
-  click(spot, at) {
-    const clicks = [...this.clicks, { spot, at }];
+  click({ spot, at, guesses }) {
+    const clicks = [...this.clicks, { spot, at, guesses }];
     const isDone = clicks.length === HINTS[this.tool].length;
     this.clicks = isDone ? [] : clicks;
     return isDone ? this.edit(clicks) : null;
@@ -85,7 +91,7 @@ export class Hand {
     const [first, second] = clicks;
     const spots = clicks.map((each) => each.spot);
     /** @type {DrawEdit} */
-    const made = { do: 'draw', figure: tool, construction, spots };
+    const made = { do: 'draw', figure: tool, construction, spots, asks: asksOf(tool, clicks) };
     const away = second ? apart(first.at, second.at) : 1;
     if (away === 0) return null;
     if (tool === 'circle') {
@@ -106,7 +112,46 @@ function arcEdit(made, [first, second, third]) {
   if (!arc) return null;
   const centre = { x: rounded(arc.centre[0], 1000), y: rounded(arc.centre[1], 1000) };
   const [start, end] = arc.swapped ? [second, first] : [first, second];
-  return { ...made, spots: [centre, start.spot, end.spot] };
+  const asks = named([first, second, third], arc.swapped ? ['*.end', '*.start'] : ENDS);
+  return { ...made, spots: [centre, start.spot, end.spot], asks };
+}
+
+/**
+ * What is asked for with a figure that is drawn through clicks.
+ * @param {Tool} tool
+ * @param {Click[]} clicks
+ */
+function asksOf(tool, clicks) {
+  switch (tool) {
+    case 'segment': return named(clicks, ENDS);
+    case 'circle': return named(clicks, ['*.centre']);
+    case 'rectangle': return named(clicks, cornersOf(clicks[0].at, clicks[1].at));
+    default: return named(clicks, ['*']);
+  }
+}
+
+/**
+ * The names of two opposite corners of a rectangle, each as its sides are named.
+ * @param {Place} first
+ * @param {Place} second
+ */
+function cornersOf([x, y], [u, v]) {
+  const rises = (u > x) === (v > y);
+  const [west, east] = rises ? ['*Bottom.start', '*Right.end'] : ['*Top.end', '*Bottom.end'];
+  return u > x ? [west, east] : [east, west];
+}
+
+/**
+ * The words of what is guessed of clicks, each with the name of the point that is clicked. Of what
+ * touches a rim it isn't asked besides that it ends there.
+ * @param {Click[]} clicks
+ * @param {string[]} names
+ */
+function named(clicks, names) {
+  const asks = clicks.flatMap(({ guesses }, place) => guesses.map(
+    ({ words }) => words.map((word) => (word === '@' ? names[place] : word))));
+  const touched = asks.filter(([word]) => word === 'tangent').map((words) => words[2]);
+  return asks.filter((words) => words[0] !== 'on' || !touched.includes(words[2]));
 }
 
 /**
