@@ -7,6 +7,7 @@ from dataclasses import dataclass, field
 from fractions import Fraction
 from typing import cast
 
+from pertxogai.board import protocol
 from pertxogai.board.board_drawing import BoardDrawing, NotPlaced
 from pertxogai.board.document import read_document, write_document
 from pertxogai.board.drawing_json import sight_of
@@ -15,7 +16,7 @@ from pertxogai.board.edits import Move
 from pertxogai.board.fields import FieldRefused, Fields
 from pertxogai.board.judgement_json import (
     excess_shown, judgement_shown, places_shown, without_known)
-from pertxogai.board.offers import offers
+from pertxogai.board.offers import corner_offers, offers
 from pertxogai.board.opened_files import opened
 from pertxogai.board.overlaid import laid_over
 from pertxogai.board.overlap import Overlapping
@@ -159,10 +160,15 @@ def _edit(desk: Desk, given: Fields) -> Edited:
 
 
 def _offers(desk: Desk, given: Fields) -> Offered:
-    """Which constraints fit some points and shapes."""
-    found = offers(desk.judged(given.text("text")).drawing, given.texts("names"))
-    return {"offers": [{"words": list(each.words), "sign": each.sign, "value": each.value}
-                       for each in found]}
+    """Which constraints fit some points and shapes, and what may be made of their corner."""
+    drawing, names = desk.judged(given.text("text")).drawing, given.texts("names")
+    asks: list[protocol.Offer] = [
+        {"do": "ask", "words": list(each.words), "sign": each.sign, "value": each.value}
+        for each in offers(drawing, names)]
+    corners: list[protocol.Offer] = [
+        {"do": "corner", "words": list(each.words), "sign": each.sign, "value": each.value}
+        for each in corner_offers(drawing, names)]
+    return {"offers": [*asks, *corners]}
 
 
 def _weigh(desk: Desk, given: Fields) -> Weighed:

@@ -58,21 +58,29 @@ def sight_of(drawing: Drawing, solution: Solution | None, before: Sight | None =
     """A drawing as it is told, by that of the drawing that it was made from."""
     drawn, where = DrawnPlaces(drawing, None), DrawnPlaces(drawing, solution)
     shapes: list[ShapeJson] = []
-    constraints: list[ConstraintJson] = []
-    shown: list[Sequence[Mark]] = []
     whole = {id(shape): told for shape, told in zip(before.drawing.geometry, before.shapes)
              if not shares(shape)} if before else {}
     for shape in drawing.geometry:
         shapes.append(whole.get(id(shape)) or _shape(drawn, shape))
     elsewhere = _elsewhere(drawing, solution, before)
-    olds = list(zip(before.drawing.constraints, before.constraints, before.marks)) if before else []
+    constraints: list[ConstraintJson] = []
+    shown: list[Sequence[Mark]] = []
     for number, constraint in enumerate(drawing.constraints, 1):
-        old, told, marked = olds[number - 1] if number <= len(olds) else (None, None, ())
-        is_same = told is not None and old is constraint
-        constraints.append(told if told and is_same else _constraint(drawing, number, constraint))
-        stays = is_same and elsewhere.isdisjoint(named(constraint))
+        told, marked = _known(before, number, constraint)
+        constraints.append(told or _constraint(drawing, number, constraint))
+        stays = told is not None and elsewhere.isdisjoint(named(constraint))
         shown.append(marked if stays else list(marks(where, number, constraint)))
     return Sight(drawing, solution, shapes, constraints, shown)
+
+
+def _known(before: Sight | None, number: int,
+           constraint: Constraint) -> tuple[ConstraintJson | None, Sequence[Mark]]:
+    """What was told of a constraint at its place, and its marks; None where another stood there."""
+    if before is None or number > len(before.constraints):
+        return None, ()
+    if before.drawing.constraints[number - 1] is not constraint:
+        return None, ()
+    return before.constraints[number - 1], before.marks[number - 1]
 
 
 def _elsewhere(drawing: Drawing, solution: Solution | None, before: Sight | None) -> frozenset[str]:

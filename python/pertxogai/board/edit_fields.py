@@ -2,6 +2,7 @@
 from __future__ import annotations
 
 from pertxogai.board.anchors import point_of, spot_of
+from pertxogai.board.corners import Corner, CornerKind
 from pertxogai.board.edits import (
     Ask, Call, Construction, Draw, Edit, Erase, Lines, Move, Rename, Shift, Value)
 from pertxogai.board.fields import FieldRefused, Fields
@@ -35,6 +36,8 @@ def read_edit(drawing: Drawing, given: Fields) -> Edit:
             return Rename(given.text("old"), given.text("new"))
         case "construction":
             return Construction(given.texts("shapes"), given.flag("construction"))
+        case "corner":
+            return _corner(given)
         case other:
             raise FieldRefused(f"{other!r} is no edit of the board")
 
@@ -47,6 +50,14 @@ def _draw(drawing: Drawing, given: Fields) -> Draw:
     spots = tuple(spot_of(drawing.scene, each) for each in given.objects("spots"))
     radius = given.um("radius") if given.has("radius") else None
     return Draw(figure, spots, radius, given.flag("construction"), given.lines("asks"))
+
+
+def _corner(given: Fields) -> Corner:
+    try:
+        kind = CornerKind(given.text("kind"))
+    except ValueError:
+        raise FieldRefused(f"{given.text('kind')!r} is nothing that is made of a corner") from None
+    return Corner(kind, given.text("first"), given.text("second"), given.text("size"))
 
 
 def _move(drawing: Drawing, given: Fields) -> Move:

@@ -8,13 +8,13 @@ from dataclasses import dataclass, replace
 from fractions import Fraction
 
 from pertxogai.board.anchors import leader_of, renamed, with_spot
-from pertxogai.board.line_reader import asked, drawn, valued
+from pertxogai.board.corners import Corner
+from pertxogai.board.line_reader import asking, drawn, valued
 from pertxogai.board.new_names import Figure, free_name
 from pertxogai.board.removal import without
 from pertxogai.board.typed import value_word
 from pertxogai.drawing import (
-    Anchor, Circle, Constraint, Drawing, DrawingUnsound, Note, Place, PointRef, WordFault,
-    points_of)
+    Anchor, Circle, Constraint, Drawing, DrawingUnsound, Place, PointRef, WordFault, points_of)
 from pertxogai.drawing.checks import standing
 from pertxogai.drawing.numbers import mm_text
 
@@ -116,12 +116,9 @@ class Ask:
         """The drawing with that constraint, the last. Raises DrawingUnsound, with the words, where
         the value isn't what they take."""
         if self.value is None:
-            more = asked(drawing, list(self.words))
-        else:
-            with faults_of(" ".join(self.words)):
-                more = asked(drawing, [*self.words, value_word(self.value)])
-        return replace(drawing, constraints=(*drawing.constraints, *more),
-                       notes=_behind(drawing, len(more)))
+            return asking(drawing, list(self.words))
+        with faults_of(" ".join(self.words)):
+            return asking(drawing, [*self.words, value_word(self.value)])
 
 
 @dataclass(frozen=True)
@@ -132,9 +129,7 @@ class Lines:
 
     def on(self, drawing: Drawing) -> Drawing:
         """The drawing with those constraints, the last."""
-        more = [each for line in self.lines for each in asked(drawing, line.split())]
-        return replace(drawing, constraints=(*drawing.constraints, *more),
-                       notes=_behind(drawing, len(more)))
+        return _asking(drawing, (line.split() for line in self.lines))
 
 
 @dataclass(frozen=True)
@@ -206,13 +201,13 @@ def faults_of(where: str) -> Iterator[None]:
         raise DrawingUnsound(where, fault.word, fault.what) from None
 
 
-Edit = (Draw | Move | Shift | Erase | Ask | Lines | Value | Call | Rename | Construction)
+Edit = (Draw | Move | Shift | Erase | Ask | Lines | Value | Call | Rename | Construction | Corner)
 
 
 def _asking(drawing: Drawing, asks: Iterable[Sequence[str]]) -> Drawing:
     """A drawing in which some lines are asked for besides, one after the other."""
     for words in asks:
-        drawing = Ask(tuple(words)).on(drawing)
+        drawing = asking(drawing, list(words))
     return drawing
 
 
@@ -232,10 +227,3 @@ def _with(drawing: Drawing, number: int, constraint: Constraint) -> Drawing:
     constraints = list(drawing.constraints)
     constraints[number - 1] = constraint
     return replace(drawing, constraints=tuple(constraints))
-
-
-def _behind(drawing: Drawing, more: int) -> tuple[Note, ...]:
-    """The notes once constraints are added: those at the end of the text stay there."""
-    end = len(drawing.geometry) + len(drawing.constraints)
-    return tuple(replace(note, before=note.before + more)
-                 if note.before >= end else note for note in drawing.notes)

@@ -25,6 +25,15 @@ def asked(drawing: Drawing, words: list[str]) -> tuple[Constraint, ...]:
     return found
 
 
+def asking(drawing: Drawing, words: list[str]) -> Drawing:
+    """A drawing with the constraints of a line's words, the last of all. Raises WordFault."""
+    more = asked(drawing, words)
+    end = len(drawing.geometry) + len(drawing.constraints)
+    notes = tuple(replace(note, before=note.before + len(more)) if note.before >= end else note
+                  for note in drawing.notes)
+    return replace(drawing, constraints=(*drawing.constraints, *more), notes=notes)
+
+
 def valued(drawing: Drawing, constraint: Constraint, value: str) -> Constraint:
     """A constraint with another value, as it is written. Raises WordFault."""
     if not hasattr(constraint, "value_um") and not hasattr(constraint, "value"):

@@ -6,6 +6,7 @@ from collections.abc import Iterator, Sequence
 from dataclasses import dataclass
 from fractions import Fraction
 
+from pertxogai.board.corners import CornerKind, has_corner, meetings_at
 from pertxogai.board.line_reader import asked
 from pertxogai.board.marks import sign_of
 from pertxogai.drawing import (
@@ -47,6 +48,38 @@ def offers(drawing: Drawing, names: Sequence[str]) -> Iterator[Offer]:
             yield offer
 
 
+@dataclass(frozen=True)
+class CornerOffer:
+    """What may be made of a corner: its word with the two segments, its sign, and a size that
+    fits."""
+
+    words: tuple[str, str, str]
+    sign: str
+    value: str
+
+
+def corner_offers(drawing: Drawing, names: Sequence[str]) -> Iterator[CornerOffer]:
+    """A fillet and a chamfer of the corner of two segments that are selected, or of a point in
+    which two segments end. Raises WordFault where one doesn't stand."""
+    things = [Cursor(drawing.scene, ["", name]).thing() for name in names]
+    if len(things) == 1 and isinstance(things[0], PointRef):
+        edges = list(meetings_at(drawing, things[0]))
+    else:
+        edges = [each.name for each in things if isinstance(each, ShapeRef)]
+    if len(edges) != 2 or not has_corner(drawing, edges[0], edges[1]):
+        return
+    where = DrawnPlaces(drawing, None)
+    short = min(math.dist(*where.ends(name)) for name in edges)
+    for kind, sign in CORNER_SIGNS.items():
+        yield CornerOffer((kind.value, edges[0], edges[1]), sign, _round_mm(short / 5))
+
+
+def _round_mm(value: float) -> str:
+    """A number of millimetres at most as large, of one digit: 1, 2 or 5 times a power of ten."""
+    power = 10.0 ** math.floor(math.log10(value))
+    return _mm(max(each * power for each in (1, 2, 5) if each * power <= value))
+
+
 def _offer(drawing: Drawing, word: ConstraintWord, points: list[str],
            shapes: list[str]) -> Offer | None:
     """The word with these things in the order that it takes, or None."""
@@ -61,6 +94,7 @@ def _offer(drawing: Drawing, word: ConstraintWord, points: list[str],
     return None
 
 
+CORNER_SIGNS = {CornerKind.FILLET: "◜", CornerKind.CHAMFER: "◿"}
 _TRIAL = {ConstraintWord.ANGLE: "60deg"}
 
 

@@ -137,8 +137,21 @@ class ConstructionEdit(TypedDict):
     construction: bool
 
 
+CornerName = Literal["fillet", "chamfer"]
+
+
+class CornerEdit(TypedDict):
+    """Rounds or cuts the corner of two segments by a size, as it is typed."""
+
+    do: Literal["corner"]
+    kind: CornerName
+    first: str
+    second: str
+    size: str
+
+
 Edit = (DrawEdit | MoveEdit | ShiftEdit | EraseEdit | AskEdit | LinesEdit | ValueEdit | CallEdit
-        | RenameEdit | ConstructionEdit)
+        | RenameEdit | ConstructionEdit | CornerEdit)
 
 
 class About(TypedDict):
@@ -392,17 +405,30 @@ class Edited(Answer, total=False):
     drawing: ChangedDrawing
 
 
-class Offer(TypedDict):
+class ConstraintOffer(TypedDict):
     """A constraint that fits: its words, its sign, and the value that is drawn, null where it
     takes none."""
 
+    do: Literal["ask"]
     words: list[str]
     sign: str
     value: str | None
 
 
+class CornerOffer(TypedDict):
+    """What may be made of a corner: its word and the two segments, and a size that fits."""
+
+    do: Literal["corner"]
+    words: list[str]
+    sign: str
+    value: str
+
+
+Offer = ConstraintOffer | CornerOffer
+
+
 class Offered(Answer, total=False):
-    """Which constraints fit."""
+    """Which constraints fit, and what may be made of a corner."""
 
     offers: list[Offer]
 

@@ -2,6 +2,7 @@
 from __future__ import annotations
 
 import json
+import os
 from collections.abc import Iterator
 from contextlib import contextmanager
 from dataclasses import dataclass
@@ -15,6 +16,8 @@ from selenium.webdriver.common.action_chains import ActionChains
 from selenium.webdriver.common.by import By
 from selenium.webdriver.common.keys import Keys
 
+PICTURES = os.environ.get("PERTXOGAI_PICTURES")
+"""Where the pictures of docs/BOARD.md are kept anew, where that is asked for."""
 SIZE = "1360,900"
 WORDS = ("--headless=new", "--no-sandbox", "--disable-dev-shm-usage", "--disable-gpu",
          f"--window-size={SIZE}", "--force-device-scale-factor=1", "--disable-extensions",
@@ -192,6 +195,14 @@ class Page:
         self.driver.execute_async_script(
             "const done = arguments[0]; requestAnimationFrame(() => requestAnimationFrame("
             "() => setTimeout(done, 30)));")
+
+    def keep_picture(self, name: str) -> None:
+        """Keeps a picture of the board, where that is asked for; without the time that a call
+        took."""
+        self.settled()
+        if PICTURES:
+            self.driver.execute_script("document.querySelector('#verdict .time')?.remove()")
+            self.driver.save_screenshot(str(Path(PICTURES) / f"board-{name}.png"))
 
     def downloaded(self, name: str) -> bytes:
         """The bytes of a file that was downloaded."""

@@ -1,9 +1,6 @@
 """The board in a real browser: what a designer's hand does, and what is shown."""
 from __future__ import annotations
 
-import os
-from pathlib import Path
-
 import pytest
 
 pytest.importorskip("flask", reason="the board needs Debian's python3-flask")
@@ -18,9 +15,6 @@ from selenium.webdriver.common.keys import Keys  # noqa: E402
 if not (CHROMIUM and DRIVER):
     pytest.skip("Debian's chromium and chromium-driver aren't there", allow_module_level=True)
 
-PICTURES = os.environ.get("PERTXOGAI_PICTURES")
-"""Where pictures of the board are kept, if that is asked for."""
-
 TRIANGLE = """segment A 0 0 40 0
 segment B A.end 20 30
 segment C B.end A.start
@@ -34,24 +28,16 @@ area.dispatchEvent(new Event('input'));
 """
 
 
-def keep_picture(page: Page, name: str) -> None:
-    """Keeps a picture of the board, where that is asked for; without the time that a call took."""
-    page.settled()
-    if PICTURES:
-        page.driver.execute_script("document.querySelector('#verdict .time')?.remove()")
-        page.driver.save_screenshot(str(Path(PICTURES) / f"board-{name}.png"))
-
-
 def test_the_trial_of_a_new_user(page: Page) -> None:
     """The trial of docs/BOARD.md: a plate with a hole, from nothing to the DXF."""
     _a_plate_with_a_hole_is_drawn(page)
     page.verdict("open")
     _the_plate_has_its_size(page)
-    keep_picture(page, "open")
+    page.keep_picture("open")
     _the_hole_has_its_place(page)
-    keep_picture(page, "well")
+    page.keep_picture("well")
     _one_is_too_many(page)
-    keep_picture(page, "over")
+    page.keep_picture("over")
     _taken_away(page, "R1Right 55")
     page.verdict("well")
     page.click("#export summary")
@@ -107,7 +93,7 @@ def _taken_away(page: Page, name: str) -> None:
 def test_a_triangle_is_drawn_and_dimensioned_until_it_is_well(page: Page) -> None:
     page.keys("s")
     page.press(260, 420)
-    page.press(620, 420)
+    page.press(620, 420, held=Keys.CONTROL)
     page.wait("a segment", "return document.querySelectorAll('.edges [data-name]').length === 1")
     page.press(500, 180)
     page.wait("two", "return document.querySelectorAll('.edges [data-name]').length === 2")
@@ -187,7 +173,7 @@ def test_a_fault_is_shown_at_its_place(page: Page) -> None:
     assert "1 mm too short to meet" in page.told() and "fault" not in page.told()
     assert page.count(".faults path") == 3 and page.count(".marks .blamed") == 3
     page.click("#tab-asked")
-    keep_picture(page, "fault")
+    page.keep_picture("fault")
 
 
 def test_open_parts_have_their_colours_and_joints(page: Page) -> None:
@@ -227,7 +213,7 @@ def test_the_other_shape_of_a_step(page: Page) -> None:
     page.driver.execute_script(
         "const r = document.querySelector('#steps input'); r.value = r.max - 0.36;"
         "r.dispatchEvent(new Event('input'));")
-    keep_picture(page, "construction")
+    page.keep_picture("construction")
     page.click("#flip")
     page.wait("the other shape", "return document.querySelector('.other .shape')")
     before = page.text()

@@ -58,7 +58,7 @@ def test_a_click_before_a_tools_key_counts_though_the_answer_comes_later(page: P
         page.press(600, 200)
     wait_for("a point", lambda: "point" in page.text())
     assert [line.split()[0] for line in page.text().splitlines()[1:]] == [
-        "segment", "segment", "point"]
+        "segment", "segment", "point", "horizontal"]
     assert page.count("[data-tool=point][aria-pressed=true]") == 1
 
 

@@ -11,6 +11,7 @@ pytest.importorskip("selenium", reason="the browser is driven by Debian's python
 
 from boards import CHROMIUM, DRIVER, wait_for  # noqa: E402
 from browsing import Page  # noqa: E402
+from selenium.webdriver.common.keys import Keys  # noqa: E402
 
 if not (CHROMIUM and DRIVER):
     pytest.skip("Debian's chromium and chromium-driver aren't there", allow_module_level=True)
@@ -128,8 +129,8 @@ def test_a_sign_that_lies_on_another_edge_leaves_it_its_clicks(page: Page) -> No
     page.begin("segment A 0 0 40 0\nhorizontal A\n", "open")
     ((x, y, _),) = signs(page)
     page.keys("s")
-    page.press(x - 80, y)
-    page.press(x + 80, y)
+    page.press(x - 80, y, held=Keys.CONTROL)
+    page.press(x + 80, y, held=Keys.CONTROL)
     page.keys("v")
     wait_for("an edge", lambda: page.text().count("segment") == 2)
     page.settled()

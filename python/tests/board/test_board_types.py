@@ -126,10 +126,11 @@ EDITS: list[dict[str, object]] = [
     {"do": "ask", "words": ["length", "A"], "value": "40"},
     {"do": "lines", "lines": ["length A 40"]}, {"do": "value", "number": 1, "value": "41"},
     {"do": "call", "number": 1, "name": "Width"},
-    {"do": "rename", "old": "A", "new": "B"},
+    {"do": "rename", "old": "A", "new": "N"},
+    {"do": "corner", "kind": "fillet", "first": "A", "second": "B", "size": "5"},
     {"do": "construction", "shapes": ["A"], "construction": True},
 ]
-TEXT = "segment A 0 0 40 0\ncircle C 10 10 4\nlength A 40\n"
+TEXT = "segment A 0 0 40 0\nsegment B A.end 40 30\ncircle C 10 10 4\nlength A 40\n"
 
 
 @dataclass(frozen=True)

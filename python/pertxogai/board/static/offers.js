@@ -112,12 +112,16 @@ export class Offers {
   }
 
   /**
-   * Asks for a constraint, with the value that is typed.
+   * Asks for a constraint, with the value that is typed, or makes something of a corner by the size
+   * that is typed.
    * @param {Offer} offer
    */
-  async ask({ words, value: drawn }) {
+  async ask(offer) {
+    const { words, value: drawn } = offer;
     const value = drawn === null ? '' : await typed(words.join(' '), drawn, this.place());
-    if (value !== null) await this.paper.edit({ do: 'ask', words, ...(value && { value }) });
+    if (value === null) return;
+    if (offer.do === 'ask') await this.paper.edit({ do: 'ask', words, ...(value && { value }) });
+    else await this.paper.edit(cornerEdit(words, value));
   }
 
   /**
@@ -185,6 +189,16 @@ export class Offers {
     return this.board.markPlace(number)
       ?? middleOf(places.length ? places : [[width / 2, height / 2]]);
   }
+}
+
+/**
+ * The edit that makes something of a corner, by its word and the two segments.
+ * @param {string[]} words
+ * @param {string} size
+ * @returns {import('./protocol').CornerEdit}
+ */
+function cornerEdit([word, first, second], size) {
+  return { do: 'corner', kind: word === 'fillet' ? 'fillet' : 'chamfer', first, second, size };
 }
 
 /**

@@ -283,12 +283,21 @@ export interface ConstructionEdit {
   construction: boolean;
 }
 
+/** Rounds or cuts the corner of two segments by a size, as it is typed. */
+export interface CornerEdit {
+  do: 'corner';
+  kind: 'fillet' | 'chamfer';
+  first: string;
+  second: string;
+  size: string;
+}
+
 /** A call that edits a text. knows: whether the page has what was told of that text. */
 export interface AboutEdit {
   text: string;
   left_out?: string[];
   edit: DrawEdit | MoveEdit | ShiftEdit | EraseEdit | AskEdit | LinesEdit | ValueEdit | CallEdit |
-    RenameEdit | ConstructionEdit;
+    RenameEdit | ConstructionEdit | CornerEdit;
   knows?: boolean;
 }
 
@@ -343,18 +352,27 @@ export interface AboutNames {
  * A constraint that fits: its words, its sign, and the value that is drawn, null where it
  * takes none.
  */
-export interface Offer {
+export interface ConstraintOffer {
+  do: 'ask';
   words: string[];
   sign: string;
   value: string | null;
 }
 
-/** Which constraints fit. */
+/** What may be made of a corner: its word and the two segments, and a size that fits. */
+export interface CornerOffer {
+  do: 'corner';
+  words: string[];
+  sign: string;
+  value: string;
+}
+
+/** Which constraints fit, and what may be made of a corner. */
 export interface Offered {
   trouble?: Trouble;
   refused?: Refused;
   ms?: number;
-  offers?: Offer[];
+  offers?: (ConstraintOffer | CornerOffer)[];
 }
 
 /** What may go, what is left out of what is over, and the lines of the verdict with both. */
@@ -545,7 +563,9 @@ export interface Answer {
 export type Spot = PointSpot | FreeSpot;
 
 export type Edit = DrawEdit | MoveEdit | ShiftEdit | EraseEdit | AskEdit | LinesEdit | ValueEdit |
-    CallEdit | RenameEdit | ConstructionEdit;
+    CallEdit | RenameEdit | ConstructionEdit | CornerEdit;
+
+export type Offer = ConstraintOffer | CornerOffer;
 
 /** Each call: what it is given, and what it gives. */
 export interface Calls {

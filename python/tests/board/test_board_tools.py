@@ -1,0 +1,71 @@
+"""The board in a real browser: what the bar makes of a corner."""
+from __future__ import annotations
+
+import pytest
+
+pytest.importorskip("flask", reason="the board needs Debian's python3-flask")
+pytest.importorskip("selenium", reason="the browser is driven by Debian's python3-selenium")
+
+from boards import CHROMIUM, DRIVER, wait_for  # noqa: E402
+from browsing import Page  # noqa: E402
+from selenium.webdriver.common.by import By  # noqa: E402
+from selenium.webdriver.common.keys import Keys  # noqa: E402
+
+if not (CHROMIUM and DRIVER):
+    pytest.skip("Debian's chromium and chromium-driver aren't there", allow_module_level=True)
+
+PLATE = """rectangle R 0 0 100 60
+coincident RBottom.start Origin
+length RBottom 100
+length RRight 60
+"""
+
+
+def make(page: Page, word: str, size: str) -> None:
+    """Presses a button of the bar, and types a size."""
+    page.wait(word, f"return document.querySelector('#offers [data-word={word}]')")
+    page.click(f"#offers [data-word={word}]")
+    field = page.driver.find_element(By.CSS_SELECTOR, "#value input")
+    field.send_keys(Keys.CONTROL, "a")
+    field.send_keys(size, Keys.ENTER)
+
+
+def test_a_plate_with_a_fillet_and_a_chamfer_stays_well(page: Page) -> None:
+    page.begin(PLATE, "well")
+    page.select("RBottom.end")
+    make(page, "fillet", "12")
+    wait_for("an arc", lambda: "arc A1" in page.text())
+    page.verdict("well")
+    assert "radius A1 12\n" in page.text() and page.count("[data-name=A1]") == 1
+    page.select("RTop", "RRight")
+    make(page, "chamfer", "8 mm")
+    wait_for("an edge", lambda: "segment S1" in page.text())
+    page.verdict("well")
+    assert page.text().splitlines()[-2:] == [
+        "distance P2 RTop.start 8", "distance P2 RRight.end 8"]
+    page.keep_picture("fillet")
+    page.click("#undo")
+    wait_for("one step", lambda: "segment S1" not in page.text())
+    assert "arc A1" in page.text()
+    page.click("#undo")
+    wait_for("the plate", lambda: "arc" not in page.text())
+    assert page.text().splitlines()[-3:] == PLATE.splitlines()[-3:]
+
+
+def test_a_size_that_isnt_taken_is_told(page: Page) -> None:
+    page.begin(PLATE, "well")
+    page.select("RBottom.end")
+    before = page.text()
+    make(page, "fillet", "round")
+    wait_for("why not", lambda: "'round'" in page.told("hint"))
+    assert page.text() == before
+
+
+def test_a_fillet_that_is_larger_than_its_edges_is_told(page: Page) -> None:
+    """A fillet of 70 mm begins 70 mm back on an edge of 60: it is drawn there as far as it goes,
+    and where the program places it the edge runs the other way."""
+    page.begin(PLATE, "well")
+    page.select("RBottom.end")
+    make(page, "fillet", "70")
+    wait_for("an arc", lambda: "arc A1" in page.text())
+    page.tells("RRight runs the other way than it is drawn")
