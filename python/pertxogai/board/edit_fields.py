@@ -7,6 +7,7 @@ from pertxogai.board.edits import (
     Ask, Call, Construction, Draw, Edit, Erase, Lines, Move, Rename, Shift, Value)
 from pertxogai.board.fields import FieldRefused, Fields
 from pertxogai.board.new_names import Figure
+from pertxogai.board.trimming import Extend, Trim
 from pertxogai.drawing import Drawing, Place
 
 
@@ -38,6 +39,10 @@ def read_edit(drawing: Drawing, given: Fields) -> Edit:
             return Construction(given.texts("shapes"), given.flag("construction"))
         case "corner":
             return _corner(given)
+        case "trim":
+            return Trim(given.text("shape"), Place(given.um("x"), given.um("y")))
+        case "extend":
+            return Extend(given.text("shape"), Place(given.um("x"), given.um("y")))
         case other:
             raise FieldRefused(f"{other!r} is no edit of the board")
 

@@ -12,6 +12,7 @@ from pertxogai.board.corners import Corner
 from pertxogai.board.line_reader import asking, drawn, valued
 from pertxogai.board.new_names import Figure, free_name
 from pertxogai.board.removal import without
+from pertxogai.board.trimming import Extend, Trim
 from pertxogai.board.typed import value_word
 from pertxogai.drawing import (
     Anchor, Circle, Constraint, Drawing, DrawingUnsound, Place, PointRef, WordFault, points_of)
@@ -201,7 +202,8 @@ def faults_of(where: str) -> Iterator[None]:
         raise DrawingUnsound(where, fault.word, fault.what) from None
 
 
-Edit = (Draw | Move | Shift | Erase | Ask | Lines | Value | Call | Rename | Construction | Corner)
+Edit = (Draw | Move | Shift | Erase | Ask | Lines | Value | Call | Rename | Construction | Corner
+        | Trim | Extend)
 
 
 def _asking(drawing: Drawing, asks: Iterable[Sequence[str]]) -> Drawing:

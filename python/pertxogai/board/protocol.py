@@ -150,8 +150,26 @@ class CornerEdit(TypedDict):
     size: str
 
 
+class TrimEdit(TypedDict):
+    """Takes the piece of an edge away on which a place lies, between what crosses it there."""
+
+    do: Literal["trim"]
+    shape: str
+    x: float
+    y: float
+
+
+class ExtendEdit(TypedDict):
+    """Has a segment go on beyond the end that a place is nearer to, to what it meets next."""
+
+    do: Literal["extend"]
+    shape: str
+    x: float
+    y: float
+
+
 Edit = (DrawEdit | MoveEdit | ShiftEdit | EraseEdit | AskEdit | LinesEdit | ValueEdit | CallEdit
-        | RenameEdit | ConstructionEdit | CornerEdit)
+        | RenameEdit | ConstructionEdit | CornerEdit | TrimEdit | ExtendEdit)
 
 
 class About(TypedDict):

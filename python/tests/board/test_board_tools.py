@@ -1,4 +1,4 @@
-"""The board in a real browser: what the bar makes of a corner."""
+"""The board in a real browser: what the bar makes of a corner; trim and extend."""
 from __future__ import annotations
 
 import pytest
@@ -69,3 +69,41 @@ def test_a_fillet_that_is_larger_than_its_edges_is_told(page: Page) -> None:
     make(page, "fillet", "70")
     wait_for("an arc", lambda: "arc A1" in page.text())
     page.tells("RRight runs the other way than it is drawn")
+
+
+CROSS = """segment A 0 0 80 0
+segment L 20 -10 20 30
+segment R 60 -10 60 30
+segment N 30 20 40 20
+"""
+
+
+def between(one: tuple[float, float], other: tuple[float, float],
+            share: float) -> tuple[float, float]:
+    """The place at a share of the way between two."""
+    return tuple(a + (b - a) * share for a, b in zip(one, other))  # type: ignore[return-value]
+
+
+def test_an_edge_is_trimmed_and_another_goes_on(page: Page) -> None:
+    page.begin(CROSS, "open")
+    page.keys("t")
+    start, end = page.at("A.start"), page.at("A.end")
+    page.hover(*between(start, end, 0.5))
+    page.wait("it stands out", "return document.querySelector('[data-touched=A]')")
+    page.press(*between(start, end, 0.5))
+    wait_for("two pieces", lambda: "collinear A S1" in page.text())
+    assert "segment A 0 0 20 0\nsegment S1 60 0 80 0\n" in page.text()
+    page.press(*between(start, end, 0.9))
+    wait_for("one is gone", lambda: "S1" not in page.text())
+    page.keys("e")
+    page.press(*between(page.at("N.start"), page.at("N.end"), 0.8))
+    wait_for("it goes on", lambda: "on N.end R" in page.text())
+    assert "segment N 30 20 60 20\n" in page.text()
+    page.press(*between(page.at("A.start"), page.at("A.end"), 0.1))
+    wait_for("it meets nothing there", lambda: "meets nothing" in page.told("hint"))
+    page.press(*between(start, end, 0.6))
+    page.settled()
+    assert page.count("[data-touched]") == 0
+    page.keys(Keys.ESCAPE)
+    page.click("#undo")
+    wait_for("one step", lambda: "on N.end R" not in page.text())

@@ -128,6 +128,7 @@ EDITS: list[dict[str, object]] = [
     {"do": "call", "number": 1, "name": "Width"},
     {"do": "rename", "old": "A", "new": "N"},
     {"do": "corner", "kind": "fillet", "first": "A", "second": "B", "size": "5"},
+    {"do": "trim", "shape": "A", "x": 10, "y": 0}, {"do": "extend", "shape": "B", "x": 40, "y": 1},
     {"do": "construction", "shapes": ["A"], "construction": True},
 ]
 TEXT = "segment A 0 0 40 0\nsegment B A.end 40 30\ncircle C 10 10 4\nlength A 40\n"
@@ -172,7 +173,7 @@ class Read(Fields):
 def test_an_edit_has_the_fields_that_are_read(edit: dict[str, object]) -> None:
     assert list(unlike(edit, protocol.Edit)) == []
     read = Read(edit)
-    read_edit(read_document(TEXT), read).on(read_document(TEXT))
+    read_edit(read_document(TEXT), read)
     (mine,) = [each for each in protocol.Edit.__args__ if not any(unlike(edit, each))]
     assert read.names == set(mine.__annotations__)
 

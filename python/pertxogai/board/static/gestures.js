@@ -2,7 +2,7 @@
 /** The mouse, the pen and the arrows on the board. */
 import { svg } from './nodes.js';
 import { arcThrough, rounded } from './tools.js';
-import { apart, line, ring, bow } from './shapes.js';
+import { apart, line, pathOf, ring, bow } from './shapes.js';
 import { namesOf } from './selection.js';
 import { Sequence } from './sequence.js';
 import { Guesses, signOf } from './guesses.js';
@@ -28,6 +28,8 @@ import { Guesses, signOf } from './guesses.js';
  */
 
 const SLACK = 4;
+/** So near in pixels an edge is the one that is cut. */
+const NEAR_EDGE = 7;
 const NOTHING_DRAWN = 'Nothing is drawn: its places are one, or lie on one line. Choose others.';
 const DATUM = ['Origin', 'XAxis', 'YAxis'];
 /** @type {Held} */
@@ -270,7 +272,7 @@ export class Gestures {
     const [first, last] = [plane.toPlane(from), plane.toPlane(to)];
     this.sequence.do(() => {
       const [start, end] = [plane.toScreen(first), plane.toScreen(last)];
-      if (this.hand.draws) return this.draw(end, held);
+      if (this.hand.draws) return this.act(end, held);
       if (!moved) return this.select(thing, held.shiftKey);
       if (typeof thing !== 'string') return null;
       const { at, guesses } = this.drop(thing, end, held);
@@ -300,6 +302,16 @@ export class Gestures {
   }
 
   /**
+   * What a click of a tool does: it cuts, or draws.
+   * @param {Place} pixels
+   * @param {Held} held
+   */
+  act(pixels, held) {
+    const { cut } = this.hand;
+    return cut ? this.cut(cut, pixels) : this.draw(pixels, held);
+  }
+
+  /**
    * Draws by a click.
    * @param {Place} pixels
    * @param {Held} held
@@ -322,6 +334,20 @@ export class Gestures {
   }
 
   /**
+   * Trims the edge at a place, or has it go on.
+   * @param {import('./tools.js').Cut} cut
+   * @param {Place} pixels
+   */
+  async cut(cut, pixels) {
+    const { board, paper } = this;
+    const shape = board.edgeAt(pixels, NEAR_EDGE);
+    if (!shape) return;
+    const [x, y] = board.plane.toPlane(pixels).map((each) => rounded(each, 1000));
+    if (await paper.edit({ do: cut, shape, x, y })) this.tell(this.hand.hint);
+    this.hover(pixels, NONE_HELD);
+  }
+
+  /**
    * Says what to do next, and shows what a click would draw.
    * @param {Place} pixels
    * @param {Held} held
@@ -338,8 +364,9 @@ export class Gestures {
    */
   hover(pixels, held) {
     const { board, hand } = this;
-    if (!hand.draws) {
-      board.preview = null;
+    if (!hand.draws || hand.cut) {
+      board.preview = hand.cut ? () => [this.edgeMade(pixels)] : null;
+      if (hand.cut) board.drawHand();
       return;
     }
     const { at, isPoint, guesses } = this.aim(pixels, held);
@@ -352,6 +379,18 @@ export class Gestures {
         svg('circle', { class: kind, cx, cy, r }), ...this.signs(guesses)];
     };
     board.drawHand();
+  }
+
+  /**
+   * The edge at a place in pixels, as it stands out under a hand that cuts.
+   * @param {Place} pixels
+   */
+  edgeMade(pixels) {
+    const { board, board: { shown, answer: { drawing } } } = this;
+    const name = board.edgeAt(pixels, NEAR_EDGE);
+    const shape = drawing.shapes.find((each) => each.name === name);
+    const d = shape && pathOf(shape, shown.viewOf(shape), board.plane);
+    return d ? svg('path', { class: 'touched', d, 'data-touched': name }) : null;
   }
 
   /**
@@ -431,7 +470,7 @@ export class Gestures {
     if (!cross) return;
     this.sequence.do(() => {
       const pixels = plane.toScreen(cross);
-      if (this.hand.draws) return this.draw(pixels, NONE_HELD);
+      if (this.hand.draws) return this.act(pixels, NONE_HELD);
       return this.select(this.board.nearPoint(pixels)?.name, more);
     });
   }

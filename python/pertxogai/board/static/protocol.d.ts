@@ -292,12 +292,28 @@ export interface CornerEdit {
   size: string;
 }
 
+/** Takes the piece of an edge away on which a place lies, between what crosses it there. */
+export interface TrimEdit {
+  do: 'trim';
+  shape: string;
+  x: number;
+  y: number;
+}
+
+/** Has a segment go on beyond the end that a place is nearer to, to what it meets next. */
+export interface ExtendEdit {
+  do: 'extend';
+  shape: string;
+  x: number;
+  y: number;
+}
+
 /** A call that edits a text. knows: whether the page has what was told of that text. */
 export interface AboutEdit {
   text: string;
   left_out?: string[];
   edit: DrawEdit | MoveEdit | ShiftEdit | EraseEdit | AskEdit | LinesEdit | ValueEdit | CallEdit |
-    RenameEdit | ConstructionEdit | CornerEdit;
+    RenameEdit | ConstructionEdit | CornerEdit | TrimEdit | ExtendEdit;
   knows?: boolean;
 }
 
@@ -563,7 +579,7 @@ export interface Answer {
 export type Spot = PointSpot | FreeSpot;
 
 export type Edit = DrawEdit | MoveEdit | ShiftEdit | EraseEdit | AskEdit | LinesEdit | ValueEdit |
-    CallEdit | RenameEdit | ConstructionEdit | CornerEdit;
+    CallEdit | RenameEdit | ConstructionEdit | CornerEdit | TrimEdit | ExtendEdit;
 
 export type Offer = ConstraintOffer | CornerOffer;
 

@@ -7,7 +7,8 @@ import { apart } from './shapes.js';
 /** @typedef {import('./protocol').FreeSpot} FreeSpot */
 /** @typedef {import('./protocol').PointSpot} PointSpot */
 /** @typedef {DrawEdit['spots'][number]} Spot */
-/** @typedef {DrawEdit['figure'] | 'select'} Tool */
+/** @typedef {'trim' | 'extend'} Cut */
+/** @typedef {DrawEdit['figure'] | 'select' | Cut} Tool */
 /**
  * What was clicked: a spot and its place in millimetres, and what is nearly so there.
  * @typedef {{ spot: Spot, at: Place, guesses: import('./guesses.js').Guess[] }} Click
@@ -27,6 +28,8 @@ const HINTS = {
   rectangle: ['Rectangle: click a corner.', 'Click the opposite corner.'],
   circle: ['Circle: click its centre.', 'Click a place on it.'],
   arc: ['Arc: click one end.', 'Click the other end.', 'Click a place on it.'],
+  trim: ['Trim: click the piece of an edge that is to go, between what crosses it.'],
+  extend: ['Extend: click a segment near the end that is to go on to the next edge.'],
 };
 
 /** The ends of a segment or an arc, `*`. */
@@ -63,6 +66,14 @@ export class Hand {
     return this.tool !== 'select';
   }
 
+  /**
+   * The edit that it makes of an edge that is clicked, where it does.
+   * @returns {Cut | null}
+   */
+  get cut() {
+    return this.tool === 'trim' || this.tool === 'extend' ? this.tool : null;
+  }
+
   /** What to do next. */
   get hint() {
     return HINTS[this.tool][this.clicks.length];
@@ -87,7 +98,7 @@ export class Hand {
    */
   edit(clicks) {
     const { tool, construction } = this;
-    if (tool === 'select') return null;
+    if (tool === 'select' || tool === 'trim' || tool === 'extend') return null;
     const [first, second] = clicks;
     const spots = clicks.map((each) => each.spot);
     /** @type {DrawEdit} */
