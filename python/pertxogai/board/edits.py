@@ -9,6 +9,7 @@ from fractions import Fraction
 
 from pertxogai.board.anchors import leader_of, renamed, with_spot
 from pertxogai.board.corners import Corner
+from pertxogai.board.figures import slot
 from pertxogai.board.line_reader import asking, drawn, valued
 from pertxogai.board.new_names import Figure, free_name
 from pertxogai.board.removal import without
@@ -18,14 +19,15 @@ from pertxogai.drawing import (
     Anchor, Circle, Constraint, Drawing, DrawingUnsound, Place, PointRef, WordFault, points_of)
 from pertxogai.drawing.checks import standing
 from pertxogai.drawing.numbers import mm_text
+from pertxogai.drawing.shorthands import Expansion
 
 
 @dataclass(frozen=True)
 class Draw:
     """Draws a figure through spots, under a free name: a segment or a rectangle from corner to
     corner, a circle from its centre with a radius, an arc from its centre, counter-clockwise
-    from start to end. asks: what is asked for with it, each by the words of a line in which `*`
-    stands for that name."""
+    from start to end, a slot round two centres with a radius. asks: what is asked for with it,
+    each by the words of a line in which `*` stands for that name."""
 
     figure: Figure
     spots: tuple[Anchor, ...]
@@ -36,10 +38,7 @@ class Draw:
     def on(self, drawing: Drawing) -> Drawing:
         """The drawing with it."""
         name = free_name(drawing, self.figure)
-        words = [self.figure.value, name, *(_words(spot) for spot in self.spots)]
-        if self.radius_um is not None:
-            words.append(mm_text(self.radius_um))
-        said = drawn(drawing.geometry, " ".join(words).split())
+        said = self._said(drawing, name)
         shapes = tuple(replace(shape, construction=self.construction) for shape in said.shapes)
         count = len(drawing.geometry)
         notes = tuple(replace(note, before=note.before + len(shapes))
@@ -47,6 +46,15 @@ class Draw:
         whole = Drawing((*drawing.geometry, *shapes),
                         (*drawing.constraints, *said.constraints), notes)
         return _asking(whole, ([word.replace("*", name) for word in each] for each in self.asks))
+
+    def _said(self, drawing: Drawing, name: str) -> Expansion:
+        """The shapes of the figure, and what it asks for by itself."""
+        if self.figure is Figure.SLOT and self.radius_um is not None:
+            return slot(drawing, name, self.spots, self.radius_um)
+        words = [self.figure.value, name, *(_words(spot) for spot in self.spots)]
+        if self.radius_um is not None:
+            words.append(mm_text(self.radius_um))
+        return drawn(drawing.geometry, " ".join(words).split())
 
 
 @dataclass(frozen=True)

@@ -16,6 +16,7 @@ class Figure(Enum):
     CIRCLE = "circle"
     ARC = "arc"
     RECTANGLE = "rectangle"
+    SLOT = "slot"
 
 
 _FIRST_LETTER = {
@@ -24,6 +25,7 @@ _FIRST_LETTER = {
     Figure.CIRCLE: "C",
     Figure.ARC: "A",
     Figure.RECTANGLE: "R",
+    Figure.SLOT: "L",
 }
 
 
@@ -31,12 +33,12 @@ def free_name(drawing: Drawing, figure: Figure) -> str:
     """The first of S1, S2, .. that no shape has, nor begins with."""
     letter = _FIRST_LETTER[figure]
     taken = {shape.name for shape in drawing.geometry}
-    stems = tuple(taken) if figure is Figure.RECTANGLE else ()
+    stems = tuple(taken) if figure in (Figure.RECTANGLE, Figure.SLOT) else ()
     return next(name for name in (f"{letter}{number}" for number in count(1))
                 if name not in taken and not _begins(stems, name))
 
 
 def _begins(names: Iterable[str], stem: str) -> bool:
-    """Whether one of the names is that of a side of the rectangle `stem`."""
+    """Whether one of the names is that of a side of the rectangle or the slot `stem`."""
     return any(name.startswith(stem) and not name[len(stem):len(stem) + 1].isdigit()
                for name in names)

@@ -32,7 +32,7 @@ class FreeSpot(TypedDict):
 
 Spot = PointSpot | FreeSpot
 Kind = Literal["point", "segment", "circle", "arc"]
-FigureName = Literal["point", "segment", "circle", "arc", "rectangle"]
+FigureName = Literal["point", "segment", "circle", "arc", "rectangle", "slot"]
 
 
 class DrawEdit(TypedDict):

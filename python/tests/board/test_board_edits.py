@@ -53,6 +53,24 @@ def test_draw_shares_a_point_and_takes_a_free_name() -> None:
     assert found[4] == "length S1 40"
 
 
+def test_draw_a_slot() -> None:
+    """From (0, 0) to (30, 40): a fifth of (40, -30) is 10 to the right."""
+    centres = [{"x": 0, "y": 0}, {"x": 30, "y": 40}]
+    found = lines("", do="draw", figure="slot", spots=centres, radius=10,
+                  asks=[["x", "*Start.centre", "*End.centre", "30"]])
+    assert found == [
+        "segment L1Right 8 -6 38 34", "arc L1End 30 40 L1Right.end 22 46",
+        "segment L1Left L1End.end -8 6", "arc L1Start 0 0 L1Left.end L1Right.start",
+        "tangent L1Right L1End", "tangent L1End L1Left", "tangent L1Left L1Start",
+        "tangent L1Start L1Right", "equal L1End L1Start", "x L1Start.centre L1End.centre 30"]
+    again = lines("\n".join(found), do="draw", figure="slot", radius=2,
+                  spots=[{"point": "L1End.centre"}, {"x": 60, "y": 40}])
+    assert again[4:8] == [
+        "segment L2Right 30 38 60 38", "arc L2End 60 40 L2Right.end 60 42",
+        "segment L2Left L2End.end 30 42", "arc L2Start L1End.centre L2Left.end L2Right.start"]
+    assert "in one place" in trouble("", do="draw", figure="slot", radius=2, spots=centres[:1] * 2)
+
+
 def test_draw_rectangle_circle_arc_construction() -> None:
     corners = [{"x": 0, "y": 0}, {"x": 4, "y": 3}]
     found = lines("", do="draw", figure="rectangle", spots=corners, construction=True)

@@ -1,4 +1,4 @@
-"""The board in a real browser: what the bar makes of a corner; trim and extend."""
+"""The board in a real browser: what the bar makes of a corner; trim, extend and the slot."""
 from __future__ import annotations
 
 import pytest
@@ -107,3 +107,28 @@ def test_an_edge_is_trimmed_and_another_goes_on(page: Page) -> None:
     page.keys(Keys.ESCAPE)
     page.click("#undo")
     wait_for("one step", lambda: "on N.end R" not in page.text())
+
+
+def test_a_slot_is_drawn_and_dimensioned_until_it_is_well(page: Page) -> None:
+    """Its five freedoms: two of its place, its turn, its length, its width."""
+    page.keys("l")
+    page.press(300, 300)
+    page.hover(500, 302)
+    page.wait("level", "return document.querySelector("
+                       "'[data-guess=\"horizontal *Start.centre *End.centre\"]')")
+    page.press(500, 302)
+    page.press(400, 340)
+    wait_for("a slot", lambda: "arc L1Start" in page.text())
+    page.keys(Keys.ESCAPE, Keys.ESCAPE)
+    page.select("L1Start.centre", "L1End.centre")
+    page.ask("distance", "30")
+    page.select("L1End")
+    page.ask("radius", "8")
+    page.select("L1Start.centre", "Origin")
+    page.ask("coincident")
+    page.verdict("well")
+    assert page.text().splitlines()[5:] == [
+        "tangent L1Right L1End", "tangent L1End L1Left", "tangent L1Left L1Start",
+        "tangent L1Start L1Right", "equal L1End L1Start",
+        "horizontal L1Start.centre L1End.centre", "distance L1Start.centre L1End.centre 30",
+        "radius L1End 8", "coincident L1Start.centre Origin"]

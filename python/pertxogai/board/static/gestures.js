@@ -2,7 +2,7 @@
 /** The mouse, the pen and the arrows on the board. */
 import { svg } from './nodes.js';
 import { arcThrough, rounded } from './tools.js';
-import { apart, line, pathOf, ring, bow } from './shapes.js';
+import { apart, line, pathOf, ring, slotPath, bow } from './shapes.js';
 import { namesOf } from './selection.js';
 import { Sequence } from './sequence.js';
 import { Guesses, signOf } from './guesses.js';
@@ -416,6 +416,7 @@ export class Gestures {
     if (this.hand.tool === 'rectangle') {
       return `M${first[0]} ${first[1]}H${second[0]}V${second[1]}H${first[0]}Z`;
     }
+    if (this.hand.tool === 'slot' && third) return slotPath(first, second, third);
     const arc = third && arcThrough(first, second, third);
     if (!arc) return line(first, second);
     return arc.swapped ? bow(arc.centre, first, second) : bow(arc.centre, second, first);

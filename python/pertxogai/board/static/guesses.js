@@ -75,8 +75,29 @@ export class Guesses {
   ofHand({ tool, clicks: [first, second] }, pixels) {
     if (tool === 'circle' && first) return this.ofRim(first, pixels);
     if (tool === 'arc' && second) return this.ofArc(first, second, pixels);
+    if (tool === 'slot' && second) return this.plain(pixels);
     const aim = this.aim(pixels);
+    if (tool === 'slot' && first) return this.ofCentres(first, aim);
     return tool === 'segment' && first ? this.ofSegment(first, aim) : aim;
+  }
+
+  /**
+   * The aim at the second centre of a slot that begins with a click: level or upright, where it
+   * nearly is.
+   * @param {Click} first
+   * @param {Aim} aim
+   * @returns {Aim}
+   */
+  ofCentres(first, aim) {
+    const way = minus(aim.at, first.at);
+    const word = this.isAlong(way, LEVEL, TURNED) ? 'horizontal' : 'vertical';
+    const along = word === 'horizontal' ? LEVEL : UPRIGHT;
+    if (!this.isAlong(way, along, TURNED)) return aim;
+    const isFree = !aim.isPoint && !aim.guesses.length;
+    const at = isFree ? foot(aim.at, lineAlong(first.at, along)) : aim.at;
+    const guess = { words: [word, '*Start.centre', '*End.centre'], at: [middleOf([first.at, at])] };
+    const guesses = [...aim.guesses, guess];
+    return { ...aim, ...(isFree && { spot: spotAt(at), at: rounded(at) }), guesses };
   }
 
   /**

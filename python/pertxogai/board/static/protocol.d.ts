@@ -195,7 +195,7 @@ export interface FreeSpot {
  */
 export interface DrawEdit {
   do: 'draw';
-  figure: 'point' | 'segment' | 'circle' | 'arc' | 'rectangle';
+  figure: 'point' | 'segment' | 'circle' | 'arc' | 'rectangle' | 'slot';
   spots: (PointSpot | FreeSpot)[];
   radius?: number;
   construction?: boolean;

@@ -118,6 +118,21 @@ export function bow(centre, start, end, radius) {
 }
 
 /**
+ * A path round a slot with two centres, through a place on its side.
+ * @param {Place} first
+ * @param {Place} second
+ * @param {Place} place
+ */
+export function slotPath([a, b], [c, d], [x, y]) {
+  const length = Math.hypot(c - a, d - b) || 1;
+  const [u, v] = [(d - b) / length, (a - c) / length];
+  const r = Math.abs((x - a) * u + (y - b) * v);
+  const [dx, dy] = [u * r, v * r];
+  return `M${a + dx} ${b + dy}L${c + dx} ${d + dy}A${r} ${r} 0 0 1 ${c - dx} ${d - dy}`
+    + `L${a - dx} ${b - dy}A${r} ${r} 0 0 1 ${a + dx} ${b + dy}Z`;
+}
+
+/**
  * The middle of some places.
  * @param {Place[]} places
  * @returns {Place}

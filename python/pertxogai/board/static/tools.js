@@ -28,6 +28,8 @@ const HINTS = {
   rectangle: ['Rectangle: click a corner.', 'Click the opposite corner.'],
   circle: ['Circle: click its centre.', 'Click a place on it.'],
   arc: ['Arc: click one end.', 'Click the other end.', 'Click a place on it.'],
+  slot: ['Slot: click the centre of one end.', 'Click the centre of the other end.',
+    'Click a place on its side.'],
   trim: ['Trim: click the piece of an edge that is to go, between what crosses it.'],
   extend: ['Extend: click a segment near the end that is to go on to the next edge.'],
 };
@@ -108,6 +110,7 @@ export class Hand {
     if (tool === 'circle') {
       return { ...made, spots: [first.spot], radius: Math.max(rounded(away, 100), 0.01) };
     }
+    if (tool === 'slot') return slotEdit(made, clicks);
     return tool === 'arc' ? arcEdit(made, clicks) : made;
   }
 }
@@ -128,6 +131,27 @@ function arcEdit(made, [first, second, third]) {
 }
 
 /**
+ * The edit of a slot through clicks on its centres and on its side; null where it has no width.
+ * @param {DrawEdit} made
+ * @param {Click[]} clicks
+ * @returns {DrawEdit | null}
+ */
+function slotEdit(made, [first, second, third]) {
+  const radius = rounded(asideOf(first.at, second.at, third.at), 100);
+  return radius > 0 ? { ...made, spots: [first.spot, second.spot], radius } : null;
+}
+
+/**
+ * How far a place lies beside the line through two others.
+ * @param {Place} start
+ * @param {Place} end
+ * @param {Place} place
+ */
+function asideOf([a, b], [c, d], [x, y]) {
+  return Math.abs((c - a) * (y - b) - (d - b) * (x - a)) / Math.hypot(c - a, d - b);
+}
+
+/**
  * What is asked for with a figure that is drawn through clicks.
  * @param {Tool} tool
  * @param {Click[]} clicks
@@ -136,6 +160,7 @@ function asksOf(tool, clicks) {
   switch (tool) {
     case 'segment': return named(clicks, ENDS);
     case 'circle': return named(clicks, ['*.centre']);
+    case 'slot': return named(clicks, ['*Start.centre', '*End.centre']);
     case 'rectangle': return named(clicks, cornersOf(clicks[0].at, clicks[1].at));
     default: return named(clicks, ['*']);
   }
