@@ -184,7 +184,7 @@ def test_a_value_that_leaves_no_room_is_given_up_for_another(program):
             "length A 30\nlength B 40\n")
     drawing = read_drawing(text)
     tight = read_drawing(text + "length C 70\n")
-    asking = Asking(program, Limit(), 60.0)
+    asking = Asking(program, Limit())
     assert asking.without_room(tight, range(2, 3)) == tight.constraints[-1]
     found = complete(drawing, program)
     assert isinstance(found, Completion)

@@ -21,6 +21,9 @@ from pertxogai.language import NotHeld, Refusal
 from pertxogai.program import Solver, Status
 from pertxogai.program.reports import Solved, Verdict, read_parts
 
+MOST_ASKED, MOST_SECONDS = 400, 20.0
+"""The most drawings of which the program is asked, so that a busy machine finds the same, and the
+seconds after which no more are."""
 ROOM = (Fraction(101, 100), Fraction(99, 100))
 """A value is tried so many times as large."""
 ROOM_DEGREES = (Fraction(1, 2), Fraction(-1, 2))
@@ -58,15 +61,15 @@ class State:
 
 
 class Asking:
-    """Asks the program about drawings, until so many seconds are over."""
+    """Asks the program about drawings, so many and for so many seconds at most."""
 
-    def __init__(self, program: Solver, limit: Limit, seconds: float) -> None:
+    def __init__(self, program: Solver, limit: Limit) -> None:
         self._program, self._limit = Remembering(Wider(program, limit)), limit
-        self._end = monotonic() + seconds
+        self._left, self._end = MOST_ASKED, monotonic() + MOST_SECONDS
 
     def is_over(self) -> bool:
         """Whether no more may be asked."""
-        return monotonic() >= self._end
+        return self._left <= 0 or monotonic() >= self._end
 
     def state(self, drawing: Drawing, by_parts: bool = False) -> State | None:
         """What the program says, `by_parts` also of which parts have places; None where it takes no
@@ -138,6 +141,7 @@ class Asking:
         return names, whole.constraints[len(trial.spelled.sketch.constraints):]
 
     def _trial(self, drawing: Drawing) -> Trial | None:
+        self._left -= 1
         try:
             return first_good(Question(drawing, self._program, self._limit))
         except (DrawingRefused, Refusal, NotHeld):

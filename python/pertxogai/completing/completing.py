@@ -18,15 +18,13 @@ from pertxogai.judging.measure import Limit
 from pertxogai.program import Solver
 from pertxogai.program.reports import Verdict
 
-MOST_SECONDS = 5.0
-"""After so many seconds of asking nothing more is tried."""
 ROUNDS = 6
 """So many dimensions at most are given up for others since they leave their values no room."""
 
 
 def completed(drawing: Drawing, program: Solver, limit: Limit) -> Completion | NoProposal:
     """What completes a sound drawing. Raises ProgramError, DrawingRefused, Refusal, NotHeld."""
-    asking = Asking(program, limit, MOST_SECONDS)
+    asking = Asking(program, limit)
     state, slack = State.of(first_good(Question(drawing, program, limit))), Slack.of(drawing)
     why = _why_not(state, slack)
     if why is None:
