@@ -134,8 +134,8 @@ def test_a_verdict_that_is_not_so_is_found() -> None:
     assert causes(loose, 1, verdict="open", lacks=2) == {Cause.LACKS_UNTRUE}
     assert causes(loose, 1, verdict="open", lacks=0) == {Cause.LACKS_UNTOLD}
     assert causes(twice) == {Cause.REPEAT_SILENT}
-    assert causes(twice, repeats=["constraint 11 (length PlateTop 120)"]) == set()
-    assert causes(whole, repeats=["constraint 7 (length PlateRight 80)"]) == {Cause.REPEAT_UNTRUE}
+    assert causes(twice, repeats=[["constraint 11 (length PlateTop 120)"]]) == set()
+    assert causes(whole, repeats=[["constraint 7 (length PlateRight 80)"]]) == {Cause.REPEAT_UNTRUE}
     assert causes(twice, 1, verdict="over", spare=[]) == {Cause.OVER_UNLISTED}
 
 

@@ -124,7 +124,7 @@ def _well(made: Made, answer: Answer) -> Iterator[Found]:
     told = len(set(answer.names("undimensioned")) & true.sizeless)
     if true.lacks > told:
         yield Found(Cause.WELL_LACKS, f"lacks {true.lacks}, told {told}")
-    untrue = [name for name in answer.names("repeats")
+    untrue = [name for group in answer.names("repeats") for name in group
               if name.startswith("constraint ") and _number(name) not in true.spare]
     if untrue:
         yield Found(Cause.REPEAT_UNTRUE, "; ".join(untrue))
