@@ -49,15 +49,16 @@ class Answer:
         return list(self.said.get(key) or [])
 
 
-def asked(text: str, seconds: float = SECONDS) -> Answer:
-    """What `judge --json` says of a drawing's text."""
+def asked(text: str, seconds: float = SECONDS, search: bool = True) -> Answer:
+    """What `judge --json` says of a drawing's text, with or without the search."""
+    words = [] if search else ["--no-search"]
     with tempfile.TemporaryDirectory() as room:
         path = Path(room) / "part.drawing"
         path.write_text(text)
         out, err = io.StringIO(), io.StringIO()
         try:
             with _within(seconds), redirect_stdout(out), redirect_stderr(err):
-                status = main(["judge", "--json", str(path)])
+                status = main(["judge", "--json", *words, str(path)])
         except Late:
             return Answer(None, late=True)
         except Exception:  # Whatever it is, it is a finding.

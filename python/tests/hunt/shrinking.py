@@ -17,13 +17,13 @@ from .wrongs import Cause, wrongs
 Same = Callable[[Made], bool]
 
 
-def shrunk(made: Made, cause: Cause) -> Made:
+def shrunk(made: Made, cause: Cause, search: bool = True) -> Made:
     """The drawing with lines taken away, one after the other, while the cause stays."""
     again = True
     while again:
         again = False
         for less in _lesser(made):
-            if any(found.cause is cause for found in wrongs(less, asked(less.text))):
+            if any(found.cause is cause for found in wrongs(less, asked(less.text, search=search))):
                 made, again = less, True
                 break
     return made

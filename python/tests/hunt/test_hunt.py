@@ -188,7 +188,7 @@ def test_a_seed_makes_one_drawing() -> None:
 
 def test_a_drawing_is_made_smaller(monkeypatch: pytest.MonkeyPatch) -> None:
     """An answer that calls everything over where there is a hole: what is left is the hole."""
-    def lie(text: str) -> Answer:
+    def lie(text: str, search: bool) -> Answer:
         said: dict[str, object] = {"verdict": "over", "spare": []} if "circle" in text else {"verdict": "open"}
         return Answer(1, {**said, "by_rank": by_rank()})
 
