@@ -44,6 +44,11 @@ export class Gestures {
    * @type {Thing}
    */
   clicked = null;
+  /**
+   * Where the hand was last, in pixels, and the keys that it held.
+   * @type {[Place, Held]}
+   */
+  last = [[0, 0], NONE_HELD];
   /** What was done while the server had a click to answer. */
   sequence = new Sequence();
 
@@ -330,7 +335,7 @@ export class Gestures {
     if (isChain && !aim.isPoint && name) {
       hand.click({ spot: { point: `${name}.end` }, at: aim.at, guesses: [] });
     }
-    this.showHand(pixels, held);
+    this.showHand(...this.last);
   }
 
   /**
@@ -344,7 +349,7 @@ export class Gestures {
     if (!shape) return;
     const [x, y] = board.plane.toPlane(pixels).map((each) => rounded(each, 1000));
     if (await paper.edit({ do: cut, shape, x, y })) this.tell(this.hand.hint);
-    this.hover(pixels, NONE_HELD);
+    this.hover(...this.last);
   }
 
   /**
@@ -364,6 +369,7 @@ export class Gestures {
    */
   hover(pixels, held) {
     const { board, hand } = this;
+    this.last = [pixels, held];
     if (!hand.draws || hand.cut) {
       board.preview = hand.cut ? () => [this.edgeMade(pixels)] : null;
       if (hand.cut) board.drawHand();
