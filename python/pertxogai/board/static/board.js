@@ -131,7 +131,7 @@ export class Board {
       drawn: views.length ? stillMade(shapes, drawn, plane) : [],
       edges: isStill ? null : shapes.map((shape) => this.edge(shape)),
       other: this.other ? stillMade(shapes, this.other, plane) : [],
-      proposed: this.overlay ? [] : this.proposedMarks(marks),
+      proposed: this.proposedMarks(marks),
       marks: this.marks(marks, judgement),
       dots: isStill ? null : this.overlay ? [] : this.dots(shapes),
       names: this.overlay ? [] : this.names(shapes),
@@ -316,15 +316,16 @@ export class Board {
   }
 
   /**
-   * The marks of what is proposed, where no others stand. Null where all are shown so already.
+   * The marks of what is proposed, where no others stand, and no step is shown. Null where all are
+   * shown so already.
    * @param {Mark[]} marks
    */
   proposedMarks(marks) {
-    const { scale, x, y } = this.plane;
-    if (this.isSame('proposed', [scale, x, y, marks, this.proposed])) return null;
+    const { plane: { scale, x, y }, proposed, overlay } = this;
+    if (this.isSame('proposed', [scale, x, y, marks, proposed, overlay])) return null;
     const places = new Marks(this.plane);
     places.all(marks);
-    this.proposedAt = places.all(this.proposed);
+    this.proposedAt = places.all(overlay ? [] : proposed);
     return this.proposedAt.map(proposedMade);
   }
 

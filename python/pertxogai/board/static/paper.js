@@ -402,8 +402,7 @@ function isWorse(now, before) {
  * @param {Judged['judgement']} judgement
  */
 function repeatsIn(judgement) {
-  const { repeats = [], missing = null } = judgement ?? {};
-  return repeats.length + (missing?.excess_by_rank.length ?? 0);
+  return (judgement?.repeats.length ?? 0) + (judgement?.missing?.excess_by_rank.length ?? 0);
 }
 
 /**
