@@ -12,12 +12,13 @@ from pertxogai.drawing import PointRef, Which, read_drawing
 from pertxogai.judging.judged_sketch import judge_sketch
 from pertxogai.judging.measure import Frame, Solution
 from pertxogai.language import Sketch
+from pertxogai.output.picture.fitting import Motion
 from pertxogai.output.picture import (
     Bow, Dot, Ink, LengthBar, Manner, Marking, Ring, Scene, Square, Stroke, Tag, picture_of,
     picture_of_designed, picture_of_drawing, picture_of_parts, picture_of_shape)
 from pertxogai.output.picture.page import Figure, Page
 from pertxogai.output.picture.placed import (
-    LaidLine, Motion, as_drawn, as_placed, laid_on, segments)
+    LaidLine, as_drawn, as_placed, laid_on, moved, segments)
 from pertxogai.output.picture.plane import crosses, crossing, overlaps
 from pertxogai.output.picture.texts import Texts
 from pertxogai.output.sketch_picture import picture_of_judged
@@ -165,8 +166,8 @@ def test_a_name_goes_where_it_covers_least() -> None:
 def test_parts_are_laid_on_their_drawing() -> None:
     """Turned by the angle of a 3-4-5 triangle and moved: laying it on the drawing undoes both."""
     drawn = as_drawn(TRIANGLE.elements)
-    moved = Motion(0.6, 0.8, (70.0, -20.0)).lay(drawn)
-    for one, two in zip(laid_on(moved, drawn), drawn):
+    elsewhere = moved(drawn, Motion(0.6, 0.8, 70.0, -20.0))
+    for one, two in zip(laid_on(elsewhere, drawn), drawn):
         assert math.dist(one.at, two.at) < 1e-6
 
 

@@ -6,7 +6,6 @@ from collections.abc import Iterator, Mapping
 from dataclasses import dataclass
 from functools import cached_property
 
-from pertxogai.board.motion import STILL, Motion, PointMm, laid
 from pertxogai.board.placed_elements import Element, ElementLine, ElementPoint
 from pertxogai.board.placed_parts import drawn
 from pertxogai.board.protocol import (
@@ -14,6 +13,8 @@ from pertxogai.board.protocol import (
 from pertxogai.drawing import points_of
 from pertxogai.judging import Judgement
 from pertxogai.language.clusters import ClusterName, Step
+from pertxogai.output.picture.fitting import STILL, Motion, fitted
+from pertxogai.output.picture.marks import PointMm
 from pertxogai.program.reports import Plan
 
 
@@ -109,7 +110,7 @@ class Construction:
             ref, element = names.point(name), self.placed[name]
             if ref is not None and isinstance(element, ElementPoint):
                 pairs.append((element.at, drawn(self.judgement, ref)))
-        return laid(pairs)
+        return fitted(pairs)
 
     def _locus(self, made: str, anchor: str) -> Iterator[Locus]:
         """Where the constructed element may lie by one cluster: a circle about a point, a line

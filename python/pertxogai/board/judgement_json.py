@@ -5,7 +5,6 @@ from __future__ import annotations
 from collections.abc import Iterable, Mapping
 from typing import cast
 
-from pertxogai.board.motion import PointMm
 from pertxogai.board.panel import Asides, Untold, alone_of, excess_told, lines_shown
 from pertxogai.board.placed_parts import LaidPart
 from pertxogai.board.protocol import (
@@ -16,6 +15,7 @@ from pertxogai.judging.good import reasons_json
 from pertxogai.judging.judged_drawing import JudgedDrawing
 from pertxogai.judging.parts import parts_of_points, parts_of_shapes
 from pertxogai.output.drawing_text import spare_json
+from pertxogai.output.picture.marks import PointMm
 from pertxogai.output.picture.drawings import DrawnPlaces
 from pertxogai.program.reports import Verdict
 

@@ -5,7 +5,8 @@ from __future__ import annotations
 from collections.abc import Iterable, Iterator, Mapping
 from dataclasses import dataclass, replace
 
-from pertxogai.board.motion import Motion, PointMm, laid
+from pertxogai.output.picture.fitting import Motion, fitted
+from pertxogai.output.picture.marks import PointMm
 
 
 @dataclass(frozen=True)
@@ -54,6 +55,6 @@ def _motion(piece: Piece, lies: Mapping[str, PointMm], drawn: Mapping[str, Point
     """The motion of a piece, once some points lie already."""
     pairs = {name: (spot, lies.get(name, drawn[name])) for name, spot in piece.points.items()}
     shared = _shared(piece, lies)
-    motion = laid(list(pairs.values()), piece.turn, pairs[shared] if shared else None)
+    motion = fitted(list(pairs.values()), piece.turn, pairs[shared] if shared else None)
     return replace(motion, dx=motion.dx if piece.dx_mm is None else piece.dx_mm,
                    dy=motion.dy if piece.dy_mm is None else piece.dy_mm)

@@ -4,11 +4,12 @@ from __future__ import annotations
 from dataclasses import replace
 from fractions import Fraction
 
-from pertxogai.board.motion import Motion, Pair, PointMm, laid
 from pertxogai.drawing import PointRef
 from pertxogai.judging import Judgement
 from pertxogai.judging.measure import Frame, Solution
 from pertxogai.judging.printed import is_tied
+from pertxogai.output.picture.fitting import Motion, Pair, fitted
+from pertxogai.output.picture.marks import PointMm
 from pertxogai.spelling.facts import ORIGIN_KNOT
 
 
@@ -21,7 +22,7 @@ def laid_over(other: Judgement, here: Solution) -> Solution:
         return solution
     origin: Pair = (0.0, 0.0), (0.0, 0.0)
     pairs = [(_mm(solution, ref), _mm(here, ref)) for ref in solution.points]
-    return _moved(solution, laid(pairs, about=origin if ORIGIN_KNOT in spelled.points else None))
+    return _moved(solution, fitted(pairs, about=origin if ORIGIN_KNOT in spelled.points else None))
 
 
 def _mm(solution: Solution, ref: PointRef) -> PointMm:

@@ -4,10 +4,11 @@ from __future__ import annotations
 from collections.abc import Mapping
 from dataclasses import dataclass
 
-from pertxogai.board.motion import Motion, PointMm, laid
 from pertxogai.judging import Judgement
 from pertxogai.judging.printed import PrintedPlaces, in_datum
 from pertxogai.language import PlacedCircle, PlacedLine
+from pertxogai.output.picture.fitting import Motion, fitted
+from pertxogai.output.picture.marks import PointMm
 from pertxogai.program.reports import Shape
 from pertxogai.spelling.facts import DATUM
 
@@ -58,7 +59,7 @@ def _motion(plate: PrintedPlaces, level: Mapping[str, tuple[int, int]],
     pairs = [((float(x) / 1e3, float(y) / 1e3), (level[name][0] / 1e6, level[name][1] / 1e6))
              for name, (x, y) in plate.points.items()]
     if len({first for first, _ in pairs}) > 1:
-        return laid(pairs)
+        return fitted(pairs)
     axis = plate.axis(judgement.asked.spelled.headings, DATUM)
     cos, sin = (float(axis[0]), -float(axis[1])) if axis else (1.0, 0.0)
     turn = Motion(cos, sin)

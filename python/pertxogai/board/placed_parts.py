@@ -6,13 +6,14 @@ from collections.abc import Iterator, Mapping, Sequence
 from dataclasses import dataclass
 
 from pertxogai.board.laying import Piece, in_turn
-from pertxogai.board.motion import Motion, PointMm
 from pertxogai.drawing import ORIGIN, Circle, Drawing, PointRef, points_of
 from pertxogai.drawing.geometry import Arc
 from pertxogai.judging import Judgement
 from pertxogai.judging.measure import Solution
 from pertxogai.judging.printed import PrintedPlaces
 from pertxogai.judging.turning import axis_of, known_sum
+from pertxogai.output.picture.fitting import Motion
+from pertxogai.output.picture.marks import PointMm
 from pertxogai.program import Solver
 from pertxogai.program.reports import PlacedPart, Solved, read_parts
 from pertxogai.spelling.axes import Axes

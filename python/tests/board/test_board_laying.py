@@ -7,7 +7,8 @@ import pytest
 
 from pertxogai.board.calls import Desk
 from pertxogai.board.laying import Piece, in_turn
-from pertxogai.board.motion import Motion, PointMm
+from pertxogai.output.picture.fitting import Motion
+from pertxogai.output.picture.marks import PointMm
 from pertxogai.program import Program
 
 CRANK = """segment Ground 0 0 40 0

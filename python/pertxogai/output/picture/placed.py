@@ -8,6 +8,7 @@ from dataclasses import dataclass
 
 from pertxogai.language import (
     Circle, Distance, Element, Line, On, Placed, PlacedCircle, PlacedLine, Sketch, Tangent)
+from pertxogai.output.picture.fitting import Motion, direction, mean, products
 from pertxogai.output.picture.marks import PointMm
 from pertxogai.output.picture.plane import between, foot, unit
 
@@ -61,31 +62,14 @@ def _lay_placed(placed: Placed) -> LaidElement:
     return Laid(placed.name, (placed.x_nm / 1e6, placed.y_nm / 1e6), radius)
 
 
-@dataclass(frozen=True)
-class Motion:
-    """A turn about the origin and then a shift, in millimetres; it mirrors nothing."""
-
-    cos: float
-    sin: float
-    shift: PointMm
-
-    def of(self, place: PointMm) -> PointMm:
-        """Where a place comes to lie."""
-        x, y = self.turned(place)
-        return x + self.shift[0], y + self.shift[1]
-
-    def turned(self, way: PointMm) -> PointMm:
-        """Where a direction comes to point."""
-        return self.cos * way[0] - self.sin * way[1], self.sin * way[0] + self.cos * way[1]
-
-    def lay(self, elements: Iterable[LaidElement]) -> tuple[LaidElement, ...]:
-        """The elements, moved."""
-        return tuple(
-            Laid(it.name, self.of(it.at), it.radius)
-            if isinstance(it, Laid)
-            else LaidLine(it.name, self.of(it.through), self.turned(it.way))
-            for it in elements
-        )
+def moved(elements: Iterable[LaidElement], motion: Motion) -> tuple[LaidElement, ...]:
+    """The elements, moved."""
+    return tuple(
+        Laid(it.name, motion.of(it.at), it.radius)
+        if isinstance(it, Laid)
+        else LaidLine(it.name, motion.of(it.through), motion.turned(it.way))
+        for it in elements
+    )
 
 
 def laid_on(
@@ -99,30 +83,22 @@ def laid_on(
     points = [(a.at, b.at) for a, b in pairs if isinstance(a, Laid) and isinstance(b, Laid)]
     lines = [(a, b) for a, b in pairs if isinstance(a, LaidLine) and isinstance(b, LaidLine)]
     cos, sin = _turn(points, lines)
-    turn = Motion(cos, sin, (0.0, 0.0))
+    turn = Motion(cos, sin)
     shift = _shift(
         [(turn.of(one), two) for one, two in points],
         [(turn.of(one.through), turn.turned(one.way), two.through) for one, two in lines],
     )
-    return Motion(cos, sin, shift).lay(elements)
+    return moved(elements, Motion(cos, sin, *shift))
 
 
 def _turn(points: Sequence[tuple[PointMm, PointMm]],
           lines: Sequence[tuple[LaidLine, LaidLine]]) -> PointMm:
     """The turn (cosine and sine) that brings the first of each pair nearest to the second."""
-    froms, tos = _mean([one for one, _ in points]), _mean([two for _, two in points])
-    ways = [
-        ((one[0] - froms[0], one[1] - froms[1]), (two[0] - tos[0], two[1] - tos[1]))
-        for one, two in points
-    ]
-    spread = sum(math.dist(two, tos) ** 2 for _, two in points) / max(len(points), 1) or 1.0
-    dot = sum(ux * vx + uy * vy for (ux, uy), (vx, vy) in ways)
-    cross = sum(ux * vy - uy * vx for (ux, uy), (vx, vy) in ways)
-    for one, two in lines:
-        dot += spread * (one.way[0] * two.way[0] + one.way[1] * two.way[1])
-        cross += spread * (one.way[0] * two.way[1] - one.way[1] * two.way[0])
-    length = math.hypot(dot, cross)
-    return (dot / length, cross / length) if length else (1.0, 0.0)
+    first, second = mean([one for one, _ in points]), mean([two for _, two in points])
+    spread = sum(math.dist(two, second) ** 2 for _, two in points) / max(len(points), 1) or 1.0
+    dot, cross = products(points, first, second)
+    along, across = products([(one.way, two.way) for one, two in lines], (0.0, 0.0), (0.0, 0.0))
+    return direction(dot + spread * along, cross + spread * across)
 
 
 def _shift(points: Sequence[tuple[PointMm, PointMm]],
@@ -139,11 +115,6 @@ def _shift(points: Sequence[tuple[PointMm, PointMm]],
         x, y = x + nx * off, y + ny * off
     det = xx * yy - xy * xy
     return (yy * x - xy * y) / det, (xx * y - xy * x) / det
-
-
-def _mean(spots: Sequence[PointMm]) -> PointMm:
-    count = max(len(spots), 1)
-    return sum(x for x, _ in spots) / count, sum(y for _, y in spots) / count
 
 
 def segments(sketch: Sketch, laid: Sequence[LaidElement]) -> dict[str, tuple[PointMm, PointMm]]:
