@@ -9,8 +9,8 @@ from importlib import import_module
 def handed_on(package: str, names: Mapping[str, str],
               former: Callable[[str], object] | None = None
               ) -> tuple[Callable[[str], object], Callable[[], list[str]]]:
-    """A `__getattr__` and a `__dir__` for a package that has names of other modules. names: those of
-    each module, with blanks between, by the module's name, `.errors` for one within the package.
+    """A `__getattr__` and a `__dir__` for a package that has names of other modules. names: those
+    of each module, with blanks between, by the module's name, `.errors` for one within the package.
     former: finds any other name, or raises AttributeError."""
     homes = {name: module for module, said in names.items() for name in said.split()}
 

@@ -8,7 +8,7 @@ T = TypeVar("T", bound=Hashable)
 
 
 class Classes(Generic[T]):
-    """Classes of things, each led by one of its own; a thing that was joined to none leads itself."""
+    """Classes of things, each led by one of its own; what was joined to none leads itself."""
 
     def __init__(self) -> None:
         self._above: dict[T, T] = {}

@@ -1,5 +1,5 @@
-"""What completes a drawing, as the page is told it: each line that could be added, what it fixes, and
-its marks where all is shown."""
+"""What completes a drawing, as the page is told it: each line that could be added, what it fixes,
+and its marks where all is shown."""
 from __future__ import annotations
 
 from collections.abc import Iterator

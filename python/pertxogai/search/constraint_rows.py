@@ -93,8 +93,8 @@ class _Asked:
                 return self._collinear(*self._axis_first(first, second))
 
     def _collinear(self, line: Line, other: Line) -> Iterable[Row]:
-        """Both ends of the other line lie on a line; of an end that the two share that says nothing,
-        so it isn't asked, unless they share both."""
+        """Both ends of the other line lie on a line; of an end that the two share that says
+        nothing, so it isn't asked, unless they share both."""
         own, points = (line[0], line[0] + line[1]), (other[0], other[0] + other[1])
         asked = [point for point in points if point not in own]
         return [self._aside(line, point) for point in asked or points]
@@ -184,8 +184,8 @@ class _Asked:
         return self._rims_touching(tangent)
 
     def _on_both(self, tangent: Tangent) -> Pair | None:
-        """A point that is told to lie on both shapes: there they touch. That their distance is right
-        would say no more, to the first order, than that the point lies on both."""
+        """A point that is told to lie on both shapes: there they touch. That their distance is
+        right would say no more, to the first order, than that the point lies on both."""
         on_first, on_second = (self._unknowns.on(each) for each in (tangent.first, tangent.second))
         at = next((point for point in on_first if point in on_second), None)
         return Pair(at, at) if at is not None else None

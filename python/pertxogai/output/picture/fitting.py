@@ -1,5 +1,5 @@
-"""Motions of the plane that bring places nearest to others, for pictures, in floating point: nothing
-that is told as a number comes from here."""
+"""Motions of the plane that bring places nearest to others, for pictures, in floating point:
+nothing that is told as a number comes from here."""
 from __future__ import annotations
 
 import math
