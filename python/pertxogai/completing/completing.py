@@ -2,7 +2,7 @@
 program has the last word."""
 from __future__ import annotations
 
-from collections.abc import Iterator
+from collections.abc import Iterable, Iterator
 
 from pertxogai.completing.asking import Asking, State
 from pertxogai.completing.choosing import (
@@ -29,11 +29,23 @@ def completed(drawing: Drawing, program: Solver, limit: Limit) -> Completion | N
     why = _why_not(state, slack)
     if why is None:
         assert slack is not None
-        for choice in _choices(slack, state, asking):
-            found = _completion(drawing, choice, asking)
-            if found is not None:
-                return found
+        found = _first_tied(_completion(drawing, choice, asking)
+                            for choice in _choices(slack, state, asking))
+        if found is not None:
+            return found
     return NoProposal(why or WhyNot.STUCK, state.verdict, state.is_placed)
+
+
+def _first_tied(found: Iterable[Completion | None]) -> Completion | None:
+    """The first that ties the whole, of the first few; else the first."""
+    best: Completion | None = None
+    for count, completion in enumerate(found, 1):
+        if completion is not None and completion.ties_the_whole:
+            return completion
+        best = best or completion
+        if best is not None and count >= len(TASTES):
+            break
+    return best
 
 
 def _why_not(state: State, slack: Slack | None) -> WhyNot | None:
@@ -151,5 +163,5 @@ def _completion(drawing: Drawing, choice: Choice, asking: Asking) -> Completion 
         if judgement is not None and judgement.solution is not None:
             found = tuple(proposals(drawing, added, judgement.solution))
             own = len(choice.own)
-            return Completion(found[:own], found[own:], told, judgement)
+            return Completion(found[:own], found[own:], told, judgement, datum == choice.datum)
     return None

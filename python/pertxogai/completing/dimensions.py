@@ -172,8 +172,16 @@ def ties(drawn: Figure) -> Iterator[list[Constraint]]:
     farthest = max(drawn.points, key=lambda ref: drawn.apart_um(base, ref))
     there = [Coincident(base, ORIGIN)] if abs(drawn.at(base)) <= nothing else []
     yield [*(direction(drawn, edge) for edge in longest_first), *there,
-           *runs(drawn, ORIGIN, [base]), *runs(drawn, base, [farthest])]
+           *runs(drawn, ORIGIN, [base]), *_across(drawn, base, farthest)]
     yield list(runs(drawn, ORIGIN, drawn.points))
+
+
+def _across(drawn: Figure, base: PointRef, far: PointRef) -> Iterator[Constraint]:
+    """What keeps a far point from turning about the base: the lesser of its x and y from there."""
+    if far != base:
+        along_x, along_y = runs(drawn, base, [far])
+        way = drawn.at(far) - drawn.at(base)
+        yield along_x if abs(way.real) < abs(way.imag) else along_y
 
 
 def direction(figure: Figure, edge: Segment) -> Constraint:

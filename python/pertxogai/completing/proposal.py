@@ -27,12 +27,14 @@ class Proposal:
 class Completion:
     """A drawing that the program calls well and places, and what of it was added. proposals: the
     dimensions and relations. datum: apart from these, what ties the whole to the origin and the
-    axes. drawing: with all of these. judgement: the program's, on that."""
+    axes. drawing: with all of these. judgement: the program's, on that. ties_the_whole: whether all
+    is tied; else it may still be moved, since nothing that ties it is placed."""
 
     proposals: tuple[Proposal, ...]
     datum: tuple[Proposal, ...]
     drawing: Drawing
     judgement: Judgement
+    ties_the_whole: bool = True
 
     def all(self) -> Iterator[Proposal]:
         """All that was added, what ties the whole last."""
