@@ -16,8 +16,8 @@ PACKAGES = [
     "pertxogai.program", "pertxogai.program.live", "pertxogai.program.library", "pertxogai.language",
     "pertxogai.program.reports", "pertxogai.drawing", "pertxogai.spelling", "pertxogai.judging",
     "pertxogai.judging.measure", "pertxogai.search", "pertxogai.completing", "pertxogai.output",
-    "pertxogai.output.picture", "pertxogai.files", "pertxogai.files.freecad", "pertxogai.files.solvespace",
-    "pertxogai.files.dxf",
+    "pertxogai.output.picture", "pertxogai.files", "pertxogai.files.freecad",
+    "pertxogai.files.solvespace", "pertxogai.files.dxf",
 ]
 """What has public names, in the order of the reference."""
 Definition = ast.ClassDef | ast.FunctionDef | ast.Assign | ast.AnnAssign

@@ -152,7 +152,7 @@ COMPLETED = [
     ("sketch excess", "pl", ["place=boxes", "place=points"]),
     ("sketch live", "f", ["frame=base", "frame=drawn"]),
     ("sketch grow", "n", ["n="]),
-    ("pertxogai", "", ["judge", "draw", "certify", "page", "--help", "--version"]),
+    ("pertxogai", "", ["judge", "draw", "complete", "certify", "page", "--help", "--version"]),
     ("pertxogai judge", "--w", ["--within", "--write"]),
     ("pertxogai page", "--p", ["--port", "--program"]),
 ]
