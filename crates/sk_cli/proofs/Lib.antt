@@ -2,6 +2,7 @@ pub mod Answering
 pub mod Behind
 pub mod FlipsAnswered
 pub mod FlipsTold
+pub mod GapsNamed
 pub mod LiveAsSession
 pub mod LiveEnds
 pub mod Migrating

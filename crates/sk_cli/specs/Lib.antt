@@ -4,6 +4,7 @@ pub mod Ending
 pub mod ExcessReport
 pub mod FlipsReport
 pub mod Fronts
+pub mod Gaps
 pub mod Headline
 pub mod LiveAnswer
 pub mod LiveEnding

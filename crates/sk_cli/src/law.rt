@@ -4,6 +4,7 @@ ghost use Rattle.sk_base.specs.declared.ConId.{ConId};
 ghost use Rattle.sk_base.specs.declared.Placed.{Placed};
 ghost use Rattle.sk_base.specs.declared.Sketch.{Sketch};
 ghost use Rattle.sk_base.specs.SoundSketch.{IsSoundSketch};
+ghost use Rattle.sk_place.specs.declared.StepFault.{StepFault};
 ghost use Rattle.sk_solve.specs.declared.Alternative.TheVariants.{Found};
 ghost use Rattle.sk_solve.specs.Alternatives.{IsAlternative};
 ghost use Rattle.sk_graph.specs.SketchGraph.{graph_of};
@@ -37,8 +38,10 @@ ghost use Rattle.sk_lang.specs.Front.{ReadsFront};
 ghost use Rattle.sk_claims.specs.ClaimReading.{ReadsClaim};
 ghost use Rattle.sk_verify.specs.Texts.{verified_line};
 ghost use Rattle.sk_cli.specs.Causes.{plans, solves, IsSketchOf, IsRefusedInput, IsItsPlan, HasFault, LieAt, NonePasses, SomePasses, SomeTurned};
+ghost use Rattle.sk_cli.specs.declared.solving.Report.{Report};
 ghost use Rattle.sk_cli.specs.declared.solving.Report.TheVariants.{Places};
 ghost use Rattle.sk_cli.specs.FlipsReport.{IsReportOnFlips};
+ghost use Rattle.sk_cli.specs.Gaps.{IsAsFine, NamesGap, NamesGapThere};
 ghost use Rattle.sk_cli.specs.PartsReport.{IsShape, IsPartsReport, IsSolvedAs, IsOneShape};
 ghost use Rattle.sk_cli.specs.ExcessReport.{IsExcess};
 ghost use Rattle.sk_cli.specs.Repeats.{IsByKept, FitWhereRepeated};
@@ -262,6 +265,25 @@ pub fn headline()
     one_derived_text();
     datum_sketch_is_sound();
     legal_plan();
+}
+
+/// Where places are boxes, a gap stays one: of a sketch of which a gap is named, whatever is solved with it in the same
+/// order on a grid of as many binary digits or more ends with `StepFault` and names a gap there too, at the same step,
+/// in the same phase, at the same quantity and element, whatever the frame and the limit (`solved`). So do the commands
+/// that solve the sketch that they are about (`outcome`).
+pub fn gaps_stay()
+    ensures solved { (report : Report) (coarse fine : Request) (s : Sketch) (f : StepFault) (named text : List ℕ) (status : Status) → IsSoundSketch s → IsAsFine coarse fine → NamesGap coarse s f named
+        → IsSolved report fine s status text → (status ≡ Status.StepFault) × NamesGapThere fine s f text }
+    ensures outcome { (words : List (List ℕ)) (bytes named text : List ℕ) (status : Status) (coarse fine : Request) (s : Sketch) (f : StepFault) → IsOutcome words bytes status text → Asks words fine
+        → IsTrue (solves fine.command) → IsSketchOf fine.command fine bytes s → IsAsFine coarse fine → NamesGap coarse s f named → (status ≡ Status.StepFault) × NamesGapThere fine s f text }
+{
+    one_answer();
+    readable_is_sound();
+    one_front();
+    one_reply();
+    one_list_of_spares();
+    one_derived_text();
+    datum_sketch_is_sound();
 }
 
 /// What `plan` and `solve` print of a sketch in the same order, the step lines and the element lines, with

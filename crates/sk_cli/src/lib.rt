@@ -24,9 +24,9 @@ mod top;
 
 pub use alternative::alternative_text;
 pub use law::{
-    causes, first_replies_are_a_front, headline, live_answers_as_session, migrated_reads_the_same,
-    one_outcome, printed_claims_are_accepted, shapes_are_as_solved, solved_places_are_found,
-    some_outcome, verified_drawings_are_right,
+    causes, first_replies_are_a_front, gaps_stay, headline, live_answers_as_session,
+    migrated_reads_the_same, one_outcome, printed_claims_are_accepted, shapes_are_as_solved,
+    solved_places_are_found, some_outcome, verified_drawings_are_right,
 };
 pub use reply::reply_text;
 pub use solving::Report;

@@ -100,9 +100,10 @@ ratio_inside F k d some n =
     other_way : (s t : ℕ) → s * t ≡ t * s
     other_way s t = omega arith
 
-pub finer_motion : {G : Type 0} (F : ℕ) → 8 ≤ F → (f : Frame) → IsSoundFrame f → (m : Motion G) → Ok m ≡ frame_motion F f
-    → (k : ℕ) → (fine : Motion G) × (frame_motion (F + k) f ≡ Ok fine) × IsMotionInside k fine m
-finer_motion {G} F enough f sound m is k =
+-- H is the finer grid
+pub finer_motion : {G : Type 0} (H : Type 0) (F : ℕ) → 8 ≤ F → (f : Frame) → IsSoundFrame f → (m : Motion G) → Ok m ≡ frame_motion F f
+    → (k : ℕ) → (fine : Motion H) × (frame_motion (F + k) f ≡ Ok fine) × IsMotionInside k fine m
+finer_motion {G} H F enough f sound m is k =
     let u : ℕ = 2 ^ (F - 8) in
     let unit = unit_of F enough in
     let turn = turn_of_frame F enough f sound u unit in
@@ -122,7 +123,7 @@ finer_motion {G} F enough f sound m is k =
     let ys : List Interval = turn.size ∷ turn.cos ∷ turn.sin ∷ [] in (
       with_turn (parts_motion (F + k) f) (from_end xs 2) (from_end xs 1),
       ap (turned (parts_motion (F + k) f)) kept.1,
-      subst (λ (n : Motion G). IsMotionInside k (with_turn (parts_motion {G = G} (F + k) f) (from_end xs 2) (from_end xs 1)) n) (sym coarse) (record {
+      subst (λ (n : Motion G). IsMotionInside k (with_turn (parts_motion {G = H} (F + k) f) (from_end xs 2) (from_end xs 1)) n) (sym coarse) (record {
         cos = from_end-IsInside k xs ys 2 kept.2;
         sin = from_end-IsInside k xs ys 1 kept.2;
         fx = micrometres-IsInside F k f.from.x;

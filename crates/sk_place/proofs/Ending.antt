@@ -180,8 +180,8 @@ lone_each_inside : (G H : Type 0) (F k : ℕ) (ns : List Node)
 lone_each_inside G H F k [] = tt
 lone_each_inside G H F k (n ∷ ns) = (refl, lone_inside G H F k n.kind, lone_each_inside G H F k ns)
 
-pub lone_kept : {G : Type 0} (F k : ℕ) (g : Graph) (bs : List (BoxAt G)) → bs ≡ lone_boxes F g → AreInside {G = G} k (lone_boxes (F + k) g) bs
-lone_kept {G} F k g bs is = subst (λ (xs : List (BoxAt G)). AreInside {G = G} k (lone_boxes (F + k) g) xs) (sym is) (lone_each_inside G G F k g.nodes)
+pub lone_kept : (H : Type 0) {G : Type 0} (F k : ℕ) (g : Graph) (bs : List (BoxAt G)) → bs ≡ lone_boxes F g → AreInside {G = H} k (lone_boxes (F + k) g) bs
+lone_kept H {G} F k g bs is = subst (λ (xs : List (BoxAt G)). AreInside {G = H} k (lone_boxes (F + k) g) xs) (sym is) (lone_each_inside H G F k g.nodes)
 
 pub kept_of : (G : Type 0) (placing : PlaceBy) (F : ℕ) (g : Graph) (p : Plan) (e : PlaceError) → (let refused : Result (List (Option (List (BoxAt G)))) PlaceError = Err e in IsRun placing F g p refused)
     → placing ≡ Boxes → (k : ℕ) → (let refused : Result (List (BoxAt G)) PlaceError = Err e in IsKept F k g p refused)

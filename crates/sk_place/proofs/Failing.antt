@@ -33,7 +33,7 @@ use Rattle.sk_interval.specs.declared.Cause.{Cause}
 use Rattle.sk_interval.specs.declared.Cause.TheVariants.{Flat, Gap, Range}
 use Rattle.sk_place.specs.Nesting.{AreInside, with_gap, KeepsGap}
 use Rattle.sk_place.proofs.InsideSteps.{KeepsCause, KeepsStep, joined_step}
-use Rattle.sk_place.proofs.InsideTrees.{nest}
+use Rattle.sk_place.proofs.InsideTrees.{nest_on}
 use Rattle.sk_place.specs.Steps.{joined}
 use Rattle.sk_place.specs.Trees.{step_of, IsFault, IsFirstFault}
 use Rattle.sk_tree.specs.PlanTree.{IsPlanTree}
@@ -173,10 +173,10 @@ module _ {G : Type 0} (placing : PlaceBy) (F : ℕ) (g : Graph) (p : Plan) (soun
   faultless : AreFaultless G placing F g p i
   faultless = record { none = λ t t_in tree h. (after.settled t t_in tree h).1.faultless }
 
-  -- a tree of the step is a part of each tree of the plan
-  part_of : (top : Tree) → IsPlanTree p top → (n : Name) × HasTree p n top × ((t : Tree) × HasTree p s.step t × IsPart G g p.steps t top)
-  part_of top (inr (k, none, leaves_are, top_is)) = (let size = ap (λ (ss : List PlanStep). length ss) none in absurd (omega arith))
-  part_of top (inl (before, last, steps_are, top_is)) =
+  -- a tree of the step is a part of each tree of the plan, whatever grid its faults are those of
+  part_of : (H : Type 0) (top : Tree) → IsPlanTree p top → (n : Name) × HasTree p n top × ((t : Tree) × HasTree p s.step t × IsPart H g p.steps t top)
+  part_of H top (inr (k, none, leaves_are, top_is)) = (let size = ap (λ (ss : List PlanStep). length ss) none in absurd (omega arith))
+  part_of H top (inl (before, last, steps_are, top_is)) =
       let size = ap (λ (ss : List PlanStep). length ss) steps_are ∙ length-append before (last ∷ []) in
       let rest_ends : drop i p.steps ≡ drop i before ++ last ∷ [] = ap (drop i) steps_are ∙ drop-append-le i before (last ∷ []) (omega arith) in
       let ends : EndsWith (drop i before ++ last ∷ []) after.family last.step =
@@ -191,76 +191,76 @@ module _ {G : Type 0} (placing : PlaceBy) (F : ℕ) (g : Graph) (p : Plan) (soun
       let whole : Cluster = whole_from (Step after.family.next_step) ns after.family.live in
       let within : (q : PlanStep) → Contains (drop (suc i) p.steps) q → Contains p.steps q = in_drop (suc i) p.steps in
       let part =
-      parts G g p legal starts_there top last.step top_is (drop (suc i) p.steps) (next_after after.family s)
+      parts H g p legal starts_there top last.step top_is (drop (suc i) p.steps) (next_after after.family s)
       (sound_replaced after.family ns after.sound can) now.1 within ends_later whole (Contains-push (unnamed ns after.family.live) whole) in
       (last.step, top_is, (part.0, subst (λ (n : Name). HasTree p n part.0) (sym now.0.next) part.1, part.2))
 
   pub failed : (top : Tree) → IsPlanTree p top → IsFirstFault G placing F g p.steps top f
   failed top h =
-      let part = part_of top h in
+      let part = part_of G top h in
       record {
         fails = part.2.2.up placing F f (at_join part.2.0 part.2.1);
         first = λ other fault below. not_below G placing F g p legal i faultless s names_it top part.0 part.1 other fault
             (subst (λ (n : Name). IsBelow other.step n) (fault_named placing F s x y z f is) below);
       }
 
--- ---- on a finer grid
+-- ---- on the finer grid H
 
-module _ {G : Type 0} (F : ℕ) (g : Graph) (p : Plan) (sound : IsSoundGraph g) (legal : IsLegalPlan g p)
+module _ {G : Type 0} (H : Type 0) (F : ℕ) (g : Graph) (p : Plan) (sound : IsSoundGraph g) (legal : IsLegalPlan g p)
     (i : ℕ) (live : List (Option (List (BoxAt G)))) (after : IsAfter Boxes F g p i live) (inside : i < length p.steps) (s : PlanStep) (s_is : get_or p.steps i s ≡ s)
     (x y z : List (BoxAt G)) (are : AreHeld F g live s x y z) (f : StepFault) (is : joined Boxes F s x y z ≡ Err f) where
-  finer_faultless : (k : ℕ) → AreFaultless G Boxes (F + k) g p i
-  finer_faultless k = record { none = λ t t_in tree h. (let settled = after.settled t t_in tree h in (nest F k g p.steps tree settled.0 settled.1).has.faultless) }
+  finer_faultless : (k : ℕ) → AreFaultless H Boxes (F + k) g p i
+  finer_faultless k = record { none = λ t t_in tree h. (let settled = after.settled t t_in tree h in (nest_on H F k g p.steps tree settled.0 settled.1).has.faultless) }
 
-  finer_join : (k : ℕ) (lo hi : ℤ) → f.cause ≡ Gap lo hi → (t : Tree) → HasTree p s.step t → (l : ℤ) × (h : ℤ) × IsFault G Boxes (F + k) g p.steps t (with_gap f l h)
+  finer_join : (k : ℕ) (lo hi : ℤ) → f.cause ≡ Gap lo hi → (t : Tree) → HasTree p s.step t → (l : ℤ) × (h : ℤ) × IsFault H Boxes (F + k) g p.steps t (with_gap f l h)
   finer_join k lo hi gap (Leaf c) h = (let never : Step (1 + i) ≡ Con c.0 = sym (names_it Boxes F g p sound legal i live after inside s s_is x y z are f is) ∙ h in absurd (cc))
   finer_join k lo hi gap (Join' at step shared a b c) (step_is, (x', y', z', told, ha, hb, hc)) =
       let there = s_in Boxes F g p sound legal i live after inside s s_is in
       let join = the_join g p legal s there step shared a b c x' y' z' (sym step_is) told ha hb hc in
       let found : step_of p.steps step ≡ Some s = subst (λ (n : Name). step_of p.steps n ≡ Some s) join.step_is (step_found g p legal s there) in
       let j = joins Boxes F g p sound legal i live after inside s s_is in
-      let one = nest F k g p.steps a x ((first Boxes F g p sound legal i live after inside s s_is x y z are).trees a (subst (λ (n : Name). HasTree p n a) (sym j.one_named.has_name) join.first)) in
-      let two = nest F k g p.steps b y ((second Boxes F g p sound legal i live after inside s s_is x y z are).trees b (subst (λ (n : Name). HasTree p n b) (sym j.two_named.has_name) join.second)) in
-      let three = nest F k g p.steps c z ((third Boxes F g p sound legal i live after inside s s_is x y z are).trees c (subst (λ (n : Name). HasTree p n c) (sym j.three_named.has_name) join.third)) in
-      let kept : KeepsStep (AreInside {G = G} {H = G} k) (joined Boxes (F + k) s one.fine two.fine three.fine) (Err f) =
-      subst (λ (r : Result (List (BoxAt G)) StepFault). KeepsStep (AreInside {G = G} {H = G} k) (joined Boxes (F + k) s one.fine two.fine three.fine) r) is
-      (joined_step G G F k s one.fine two.fine three.fine x y z one.inside two.inside three.inside) in
+      let one = nest_on H F k g p.steps a x ((first Boxes F g p sound legal i live after inside s s_is x y z are).trees a (subst (λ (n : Name). HasTree p n a) (sym j.one_named.has_name) join.first)) in
+      let two = nest_on H F k g p.steps b y ((second Boxes F g p sound legal i live after inside s s_is x y z are).trees b (subst (λ (n : Name). HasTree p n b) (sym j.two_named.has_name) join.second)) in
+      let three = nest_on H F k g p.steps c z ((third Boxes F g p sound legal i live after inside s s_is x y z are).trees c (subst (λ (n : Name). HasTree p n c) (sym j.three_named.has_name) join.third)) in
+      let kept : KeepsStep (AreInside {G = H} {H = G} k) (joined Boxes (F + k) s one.fine two.fine three.fine) (Err f) =
+      subst (λ (r : Result (List (BoxAt G)) StepFault). KeepsStep (AreInside {G = H} {H = G} k) (joined Boxes (F + k) s one.fine two.fine three.fine) r) is
+      (joined_step H G F k s one.fine two.fine three.fine x y z one.inside two.inside three.inside) in
       let finer : KeepsCause (joined Boxes (F + k) s one.fine two.fine three.fine) f (Gap lo hi) = subst (λ (cause : Cause). KeepsCause (joined Boxes (F + k) s one.fine two.fine three.fine) f cause) gap kept in (
         finer.0,
         finer.1,
         inl (failing_here Boxes (F + k) g p.steps s step found at a b c one.fine two.fine three.fine one.has two.has three.has (with_gap f finer.0 finer.1) finer.2),
       )
 
-  pub kept_failed : (k : ℕ) (c : Cause) → f.cause ≡ c → KeepsGap G (F + k) g p f c
+  pub kept_failed : (k : ℕ) (c : Cause) → f.cause ≡ c → KeepsGap H (F + k) g p f c
   kept_failed k (Gap lo hi) gap = λ top h.
-      let part = part_of Boxes F g p sound legal i live after inside s s_is x y z are f is top h in
+      let part = part_of Boxes F g p sound legal i live after inside s s_is x y z are f is H top h in
       let finer = finer_join k lo hi gap part.2.0 part.2.1 in (
         finer.0,
         finer.1,
         record {
           fails = part.2.2.up Boxes (F + k) (with_gap f finer.0 finer.1) finer.2;
-          first = λ other fault below. not_below G Boxes (F + k) g p legal i (finer_faultless k) s (names_it Boxes F g p sound legal i live after inside s s_is x y z are f is) top part.0 part.1 other fault
+          first = λ other fault below. not_below H Boxes (F + k) g p legal i (finer_faultless k) s (names_it Boxes F g p sound legal i live after inside s s_is x y z are f is) top part.0 part.1 other fault
               (subst (λ (n : Name). IsBelow other.step n) (fault_named Boxes F s x y z f is) below);
         },
       )
   kept_failed k (Flat lo hi) gap = tt
   kept_failed k Range gap = tt
 
-pub kept_run : {G : Type 0} (placing : PlaceBy) (F : ℕ) (g : Graph) (p : Plan) (sound : IsSoundGraph g) (legal : IsLegalPlan g p)
+pub kept_run : {G : Type 0} (H : Type 0) (placing : PlaceBy) (F : ℕ) (g : Graph) (p : Plan) (sound : IsSoundGraph g) (legal : IsLegalPlan g p)
     (i : ℕ) (live : List (Option (List (BoxAt G)))) (after : IsAfter placing F g p i live) (inside : i < length p.steps) (s : PlanStep) (s_is : get_or p.steps i s ≡ s)
-    (f : StepFault) → IsMadeOf placing F g live s (Err f) → placing ≡ Boxes → (k : ℕ) → KeepsGap G (F + k) g p f f.cause
-kept_run Boxes F g p sound legal i live after inside s s_is f made same k = kept_failed F g p sound legal i live after inside s s_is made.one made.two made.three made.are f made.is k f.cause refl
-kept_run Points F g p sound legal i live after inside s s_is f made same k = (let never : Points ≡ Boxes = same in absurd (cc))
+    (f : StepFault) → IsMadeOf placing F g live s (Err f) → placing ≡ Boxes → (k : ℕ) → KeepsGap H (F + k) g p f f.cause
+kept_run H Boxes F g p sound legal i live after inside s s_is f made same k = kept_failed H F g p sound legal i live after inside s s_is made.one made.two made.three made.are f made.is k f.cause refl
+kept_run H Points F g p sound legal i live after inside s s_is f made same k = (let never : Points ≡ Boxes = same in absurd (cc))
 
 pub failed_run : {G : Type 0} (placing : PlaceBy) (F : ℕ) (g : Graph) (p : Plan) (sound : IsSoundGraph g) (legal : IsLegalPlan g p)
     (i : ℕ) (live : List (Option (List (BoxAt G)))) (after : IsAfter placing F g p i live) (inside : i < length p.steps) (s : PlanStep) (s_is : get_or p.steps i s ≡ s)
     (e : PlaceError) → (let refused : Result (List (BoxAt G)) PlaceError = Err e in IsStepOf placing F g live s refused)
     → (let refused : Result (List (Option (List (BoxAt G)))) PlaceError = Err e in IsRun placing F g p refused)
-failed_run placing F g p sound legal i live after inside s s_is (Fault f) of_step = (
+failed_run {G} placing F g p sound legal i live after inside s s_is (Fault f) of_step = (
   (
     λ top h. failed placing F g p sound legal i live after inside s s_is of_step.one of_step.two of_step.three of_step.are f of_step.is top h,
     leaves_there placing F g p sound legal i live after inside s s_is of_step.one of_step.two of_step.three of_step.are f of_step.is,
   ),
-  kept_run placing F g p sound legal i live after inside s s_is f of_step,
+  kept_run G placing F g p sound legal i live after inside s s_is f of_step,
 )
 failed_run placing F g p sound legal i live after inside s s_is NoMemory of_step = tt

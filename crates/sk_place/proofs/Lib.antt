@@ -24,3 +24,4 @@ pub mod SomeFrames
 pub mod SomePlaces
 pub mod AllMoved
 pub mod Ranges
+pub mod Gaps

@@ -117,7 +117,7 @@ module _ (G : Type 0) (placing : PlaceBy) (F : ℕ) (g : Graph) (p : Plan) (lega
   named_tree t (inl (before, last, is, tree)) = (last.step, tree)
   named_tree t (inr (k, none, only, t_is)) = (Con k.0, subst (λ (u : Tree). HasTree p (Con k.0) u) (sym t_is) refl)
 
-  one_first : (t : Tree) → IsPlanTree p t → (f e : StepFault) → IsFirstFault G placing F g p.steps t f → IsFirstFault G placing F g p.steps t e → f ≡ e
+  pub one_first : (t : Tree) → IsPlanTree p t → (f e : StepFault) → IsFirstFault G placing F g p.steps t f → IsFirstFault G placing F g p.steps t e → f ≡ e
   one_first t is f e first second =
       let named = named_tree t is in
       one_fault f e (neither_below f.step e.step (second.first f first.fails) (first.first e second.fails)) (fails_at t named.0 named.1 f first.fails) (fails_at t named.0 named.1 e second.fails)

@@ -17,7 +17,7 @@ use Rattle.sk_place.specs.declared.fault.PlaceError.TheVariants.{Fault}
 use Rattle.sk_place.specs.Clusters.{nodes_of}
 use Rattle.sk_place.specs.Placing.{IsPlaced, lone_boxes}
 use Rattle.sk_place.specs.Rounding.{AreBounded}
-use Rattle.sk_place.specs.Running.{held, IsThere, AreHeld, IsAfter}
+use Rattle.sk_place.specs.Running.{held, IsThere, AreHeld, IsAfter, IsMadeOf}
 use Rattle.sk_place.specs.Steps.{joined}
 use Rattle.sk_place.proofs.Afters.{at_start, at_next, can_join}
 use Rattle.sk_place.proofs.Ending.{no_tree, leaf_there, left_there, left_boxes, left_nodes, left_bounded, lone_nodes, lone_bounded}
@@ -40,35 +40,6 @@ module _ (G : Type 0) (placing : PlaceBy) (F : ℕ) (g : Graph) (p : Plan) (soun
       told (Some bs) is some = (bs, is)
       told None is some = (let never : false ≡ true = some in absurd (cc))
 
-  abbrev RunOn : Type 0
-  RunOn = ((live : List (Option (List (BoxAt G)))) × IsAfter placing F g p (length p.steps) live) ⊎ ((f : StepFault) × IsPlaced {G = G} placing F g p (Err (Fault f)))
-
-  module _ (i : ℕ) (live : List (Option (List (BoxAt G)))) (after : IsAfter placing F g p i live) (inside : i < length p.steps) (s : PlanStep) (s_is : get_or p.steps i s ≡ s)
-      (x y z : List (BoxAt G)) (are : AreHeld F g live s x y z) where
-    by_result : ((bs : List (BoxAt G)) → joined placing F s x y z ≡ Ok bs → RunOn) → (r : Result (List (BoxAt G)) StepFault) → joined placing F s x y z ≡ r → RunOn
-    by_result go (Ok bs) is = go bs is
-    by_result go (Err f) is = inr (f, (failed_run placing F g p sound legal i live after inside s s_is (Fault f) (record { one = x; two = y; three = z; are = are; is = is })).0)
-
-  -- so many steps are left
-  run_from : (left i : ℕ) (live : List (Option (List (BoxAt G)))) → IsAfter placing F g p i live → i + left ≡ length p.steps → RunOn
-  run_from zero i live after level = (let same : i ≡ length p.steps = omega arith in inl (live, subst (λ (k : ℕ). IsAfter placing F g p k live) same after))
-  run_from (suc left) i live after level =
-      let inside : i < length p.steps = omega arith in
-      let step = item_at p.steps i inside in
-      let s = step.0 in
-      let can = can_join placing F g p sound legal i live after inside s step.1 in
-      let one = held_there live s.one can.one in
-      let two = held_there live s.two can.two in
-      let three = held_there live s.three can.three in
-      let are : AreHeld F g live s one.0 two.0 three.0 = record { first = one.1; second = two.1; third = three.1 } in
-      by_result i live after inside s step.1 one.0 two.0 three.0 are
-      (λ bs is. run_from left (i + 1) (live ++ Some bs ∷ [])
-      (at_next placing F g p sound legal i live after inside s step.1 one.0 two.0 three.0 are bs is live refl (λ n a b c. refl)) (omega arith))
-      (joined placing F s one.0 two.0 three.0) (refl {a = joined placing F s one.0 two.0 three.0})
-
-  run_whole : RunOn
-  run_whole = run_from (length p.steps) 0 (None ∷ []) (at_start placing F g p sound legal (None ∷ []) refl) (omega arith)
-
   -- the boxes are of the graph's nodes, and within their limits
   pub record HasPlaces : Type 0 where
     pub list : List (BoxAt G)
@@ -76,38 +47,75 @@ module _ (G : Type 0) (placing : PlaceBy) (F : ℕ) (g : Graph) (p : Plan) (soun
     pub nodes : nodes_of list ≡ g.nodes
     pub bounded : AreBounded F list
 
-  abbrev pub SomePlaces : Type 0
-  SomePlaces = HasPlaces ⊎ ((f : StepFault) × IsPlaced {G = G} placing F g p (Err (Fault f)))
+  -- this is so of the fault of each step that fails once all before it are done
+  abbrev pub IsSoOfFaults : (StepFault → Type 0) → Type 0
+  IsSoOfFaults Told =
+      (i : ℕ) (live : List (Option (List (BoxAt G)))) → IsAfter placing F g p i live → i < length p.steps → (s : PlanStep) → get_or p.steps i s ≡ s → (f : StepFault) → IsMadeOf placing F g live s (Err f) → Told f
 
-  named_places : (n : Name) → IsLastName p (Some n) → SomePlaces
-  named_places n n_is =
-      elim run_whole [
-        | inr failed ↦ inr failed
-        | inl (live, after) ↦ (
-            let found = held_there live n (left_there placing F g p sound legal live after n n_is) in
-            inl (record {
-              list = found.0;
-              placed = ((λ t t_is. left_boxes placing F g p sound legal live after n n_is found.0 found.1 t t_is), (λ none. absurd (leaf_there g p legal n n_is none)));
-              nodes = left_nodes placing F g p sound legal live after n n_is found.0 found.1;
-              bounded = left_bounded placing F g p sound legal live after n n_is found.0 found.1;
-            }))
-      ]
+  -- all steps are done, or this is so of a fault
+  abbrev RunOn : (StepFault → Type 0) → Type 0
+  RunOn Told = ((live : List (Option (List (BoxAt G)))) × IsAfter placing F g p (length p.steps) live) ⊎ ((f : StepFault) × Told f)
 
-  lone_places : IsLastName p None → SomePlaces
-  lone_places is = inl (record {
-    list = lone_boxes F g;
-    placed = ((λ t t_is. absurd (no_tree g p legal is t t_is)), (λ none. refl));
-    nodes = lone_nodes F g (lone_boxes F g) refl;
-    bounded = lone_bounded F g (lone_boxes F g) refl;
-  })
+  module _ (Told : StepFault → Type 0) (so : IsSoOfFaults Told) where
+    by_result : (i : ℕ) (live : List (Option (List (BoxAt G)))) → IsAfter placing F g p i live → i < length p.steps → (s : PlanStep) → get_or p.steps i s ≡ s
+        → (x y z : List (BoxAt G)) → AreHeld F g live s x y z → ((bs : List (BoxAt G)) → joined placing F s x y z ≡ Ok bs → RunOn Told)
+        → (r : Result (List (BoxAt G)) StepFault) → joined placing F s x y z ≡ r → RunOn Told
+    by_result i live after inside s s_is x y z are go (Ok bs) is = go bs is
+    by_result i live after inside s s_is x y z are go (Err f) is = inr (f, so i live after inside s s_is f (record { one = x; two = y; three = z; are = are; is = is }))
 
-  pub some_places : SomePlaces
-  some_places =
-      elim (last_or_none p.steps) [
-        | inr (before, last, is) ↦ named_places last.step (inl (before, last, is, refl))
-        | inl none ↦ by_leaves none p.leaves refl
-      ]
-    where
-      by_leaves : p.steps ≡ [] → (ks : List ConId) → p.leaves ≡ ks → SomePlaces
-      by_leaves none [] is = lone_places (none, is)
-      by_leaves none (k ∷ ks) is = named_places (Con k.0) (inr (k, ks, none, is, refl))
+    -- so many steps are left
+    run_from : (left i : ℕ) (live : List (Option (List (BoxAt G)))) → IsAfter placing F g p i live → i + left ≡ length p.steps → RunOn Told
+    run_from zero i live after level = (let same : i ≡ length p.steps = omega arith in inl (live, subst (λ (k : ℕ). IsAfter placing F g p k live) same after))
+    run_from (suc left) i live after level =
+        let inside : i < length p.steps = omega arith in
+        let step = item_at p.steps i inside in
+        let s = step.0 in
+        let can = can_join placing F g p sound legal i live after inside s step.1 in
+        let one = held_there live s.one can.one in
+        let two = held_there live s.two can.two in
+        let three = held_there live s.three can.three in
+        let are : AreHeld F g live s one.0 two.0 three.0 = record { first = one.1; second = two.1; third = three.1 } in
+        by_result i live after inside s step.1 one.0 two.0 three.0 are
+        (λ bs is. run_from left (i + 1) (live ++ Some bs ∷ [])
+        (at_next placing F g p sound legal i live after inside s step.1 one.0 two.0 three.0 are bs is live refl (λ n a b c. refl)) (omega arith))
+        (joined placing F s one.0 two.0 three.0) (refl {a = joined placing F s one.0 two.0 three.0})
+
+    named_places : (n : Name) → IsLastName p (Some n) → HasPlaces ⊎ ((f : StepFault) × Told f)
+    named_places n n_is =
+        elim (run_from (length p.steps) 0 (None ∷ []) (at_start placing F g p sound legal (None ∷ []) refl) (omega arith)) [
+          | inr failed ↦ inr failed
+          | inl (live, after) ↦ (
+              let found = held_there live n (left_there placing F g p sound legal live after n n_is) in
+              inl (record {
+                list = found.0;
+                placed = ((λ t t_is. left_boxes placing F g p sound legal live after n n_is found.0 found.1 t t_is), (λ none. absurd (leaf_there g p legal n n_is none)));
+                nodes = left_nodes placing F g p sound legal live after n n_is found.0 found.1;
+                bounded = left_bounded placing F g p sound legal live after n n_is found.0 found.1;
+              }))
+        ]
+
+    lone_places : IsLastName p None → HasPlaces
+    lone_places is = record {
+      list = lone_boxes F g;
+      placed = ((λ t t_is. absurd (no_tree g p legal is t t_is)), (λ none. refl));
+      nodes = lone_nodes F g (lone_boxes F g) refl;
+      bounded = lone_bounded F g (lone_boxes F g) refl;
+    }
+
+    -- it has its boxes, or this is so of a fault
+    pub places_or : HasPlaces ⊎ ((f : StepFault) × Told f)
+    places_or =
+        elim (last_or_none p.steps) [
+          | inr (before, last, is) ↦ named_places last.step (inl (before, last, is, refl))
+          | inl none ↦ by_leaves none p.leaves refl
+        ]
+      where
+        by_leaves : p.steps ≡ [] → (ks : List ConId) → p.leaves ≡ ks → HasPlaces ⊎ ((f : StepFault) × Told f)
+        by_leaves none [] is = inl (lone_places (none, is))
+        by_leaves none (k ∷ ks) is = named_places (Con k.0) (inr (k, ks, none, is, refl))
+
+  abbrev IsFailing : StepFault → Type 0
+  IsFailing f = IsPlaced {G = G} placing F g p (Err (Fault f))
+
+  pub some_places : HasPlaces ⊎ ((f : StepFault) × IsPlaced {G = G} placing F g p (Err (Fault f)))
+  some_places = places_or IsFailing (λ i live after inside s s_is f made. (failed_run placing F g p sound legal i live after inside s s_is (Fault f) made).0)

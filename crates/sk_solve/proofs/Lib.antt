@@ -12,3 +12,4 @@ pub mod BasePlaces
 pub mod AnchorBoxes
 pub mod AnchorLaws
 pub mod FinerLaid
+pub mod FinerGaps

@@ -1,8 +1,8 @@
 // What holds of placed plans, and of alternatives.
-ghost use Rattle.std.specs.Prelude.{◌≡◌, ◌≢◌, ◌≤◌, ◌+◌, ℕ, [], All, Contains, List as Items, Ok, Some};
+ghost use Rattle.std.specs.Prelude.{◌≡◌, ◌≢◌, ◌≤◌, ◌+◌, ℕ, ℤ, [], All, Contains, List as Items, Ok, Some};
 ghost use Rattle.sk_base.specs.declared.At.{At};
 ghost use Rattle.sk_base.specs.declared.Elem.{Elem};
-ghost use Rattle.sk_interval.specs.declared.Cause.TheVariants.{Range};
+ghost use Rattle.sk_interval.specs.declared.Cause.TheVariants.{Gap, Range};
 ghost use Rattle.sk_interval.specs.Operations.{of_micrometres};
 ghost use Rattle.sk_steps.specs.declared.BoxOf.{BoxOf};
 ghost use Rattle.sk_steps.specs.declared.BoxOf.TheVariants.{Point};
@@ -11,7 +11,8 @@ ghost use Rattle.sk_steps.specs.Carried.{carried};
 ghost use Rattle.sk_place.specs.declared.BoxAt.{BoxAt};
 ghost use Rattle.sk_place.specs.declared.BoxFault.{BoxFault};
 ghost use Rattle.sk_place.specs.declared.PlaceBy.{PlaceBy};
-ghost use Rattle.sk_place.specs.Nesting.{AreInside};
+ghost use Rattle.sk_place.specs.declared.StepFault.{StepFault};
+ghost use Rattle.sk_place.specs.Nesting.{AreInside, with_gap};
 ghost use Rattle.sk_place.specs.Rounding.{rounded_box};
 ghost use Rattle.sk_place.specs.Settling.{settled_box};
 ghost use Rattle.sk_frame.specs.declared.Frame.{Frame};
@@ -92,13 +93,26 @@ pub fn anchor_is_printed<G: Grid>()
         → IsLaid (record { by = by; frame = FrameBy.Drawn }) F s p there → anchor_of (graph_of s) p ≡ Some e → LiesAsDrawn s (midpoints F there) e }
 {}
 
-/// Where places are boxes, a finer grid has boxes inside those of a coarser one, in the frame of the base
-/// and in that of the drawing, and no others.
-pub fn finer_boxes_lie_inside<G: Grid>()
+/// Where places are boxes, a finer grid `H` has boxes inside those of a coarser one, `G`, in the frame of the
+/// base and in that of the drawing, and no others.
+pub fn finer_boxes_lie_inside<G: Grid, H: Grid>()
     ensures there { (frame : FrameBy) (F k : ℕ) (s : Sketch) (p : Plan) (coarse : Items (BoxAt G)) → 8 ≤ F → IsSoundSketch s → IsLegalPlan (graph_of s) p → (¬ (p.leaves ≡ []) → (t : Tree) × IsPlanTree p t)
-        → IsLaid (record { by = PlaceBy.Boxes; frame = frame }) F s p coarse → (fine : Items (BoxAt G)) × IsLaid (record { by = PlaceBy.Boxes; frame = frame }) (F + k) s p fine × AreInside k fine coarse }
-    ensures each { (frame : FrameBy) (F k : ℕ) (s : Sketch) (p : Plan) (coarse fine : Items (BoxAt G)) → 8 ≤ F → IsSoundSketch s → IsLegalPlan (graph_of s) p → (¬ (p.leaves ≡ []) → (t : Tree) × IsPlanTree p t)
+        → IsLaid (record { by = PlaceBy.Boxes; frame = frame }) F s p coarse → (fine : Items (BoxAt H)) × IsLaid (record { by = PlaceBy.Boxes; frame = frame }) (F + k) s p fine × AreInside k fine coarse }
+    ensures each { (frame : FrameBy) (F k : ℕ) (s : Sketch) (p : Plan) (coarse : Items (BoxAt G)) (fine : Items (BoxAt H)) → 8 ≤ F → IsSoundSketch s → IsLegalPlan (graph_of s) p → (¬ (p.leaves ≡ []) → (t : Tree) × IsPlanTree p t)
         → IsLaid (record { by = PlaceBy.Boxes; frame = frame }) F s p coarse → IsLaid (record { by = PlaceBy.Boxes; frame = frame }) (F + k) s p fine → AreInside k fine coarse }
+{}
+
+/// Where places are boxes, a gap stays one: where a plan is placed on a grid `G` and its first faulty step has a
+/// gap, then on a finer grid `H` the same step has the first fault, in the same phase, at the same quantity and
+/// element, and it is a gap too. No frame, no limit and no wanted signs change that.
+pub fn gaps_stay<G: Grid, H: Grid>()
+    ensures there { (frame other : FrameBy) (wanted looked_for : Wanted) (F k limit most : ℕ) (s : Sketch) (p : Plan) (f : StepFault) (lo hi : ℤ) → IsSoundSketch s → IsLegalPlan (graph_of s) p
+        → (¬ (p.leaves ≡ []) → (t : Tree) × IsPlanTree p t) → f.cause ≡ Gap lo hi → IsPlacement wanted G (record { by = PlaceBy.Boxes; frame = frame }) F limit s p (Placement.Fault f)
+        → (l : ℤ) × (h : ℤ) × IsPlacement looked_for H (record { by = PlaceBy.Boxes; frame = other }) (F + k) most s p (Placement.Fault (with_gap f l h)) }
+    ensures alone { (frame other : FrameBy) (wanted looked_for : Wanted) (F k limit most : ℕ) (s : Sketch) (p : Plan) (f : StepFault) (lo hi : ℤ) (placement : Placement) → IsSoundSketch s
+        → IsLegalPlan (graph_of s) p → (¬ (p.leaves ≡ []) → (t : Tree) × IsPlanTree p t) → f.cause ≡ Gap lo hi
+        → IsPlacement wanted G (record { by = PlaceBy.Boxes; frame = frame }) F limit s p (Placement.Fault f)
+        → IsPlacement looked_for H (record { by = PlaceBy.Boxes; frame = other }) (F + k) most s p placement → (l : ℤ) × (h : ℤ) × (placement ≡ Placement.Fault (with_gap f l h)) }
 {}
 
 /// Where places are boxes, a box can't be carried to the drawing only because a number gets too great.

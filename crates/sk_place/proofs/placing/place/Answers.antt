@@ -33,7 +33,7 @@ returns-in_ok-taken-in-Some-clause-nodes g c =
 pub returns-in_ok-lone_boxes-in-None-clause-nested : goal.returns-in_ok-lone_boxes-in-None-clause-nested
 returns-in_ok-lone_boxes-in-None-clause-nested g c = λ by k. (
   λ t h. absurd (no_tree c.args.g.now c.args.plan.now c.requires.legal (last_is c.args.plan.now None c.in-None.ensures) t h),
-  λ h. lone_kept g.G.Grid.BITS k c.args.g.now c.of.result (c.of.ensures ∙ c.in_ok-lone_boxes-in-None.ensures),
+  λ h. lone_kept _ g.G.Grid.BITS k c.args.g.now c.of.result (c.of.ensures ∙ c.in_ok-lone_boxes-in-None.ensures),
 )
 
 pub returns-in_ok-taken-in-Some-clause-nested : goal.returns-in_ok-taken-in-Some-clause-nested
