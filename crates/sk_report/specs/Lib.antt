@@ -1,6 +1,7 @@
 pub mod AnswerLine
 pub mod CheckReport
 pub mod ExcessReport
+pub mod WhyLines
 pub mod FaultLines
 pub mod GrowReport
 pub mod PlanReport

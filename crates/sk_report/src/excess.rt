@@ -21,7 +21,12 @@ pub fn put_left(alloc: Global, text: &mut Text, s: &Sketch, left: &[ConId]) -> R
 }
 
 /// Puts the constraint by its number and its line.
-fn put_left_words(alloc: Global, text: &mut Text, s: &Sketch, number: ConId) -> Result<(), NoMemory>
+pub(crate) fn put_left_words(
+    alloc: Global,
+    text: &mut Text,
+    s: &Sketch,
+    number: ConId,
+) -> Result<(), NoMemory>
     ensures { OnOk result (text.new ≡ text.old ++ left_words s.now number) }
 {
     let digits = number.0;

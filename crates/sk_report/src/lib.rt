@@ -10,6 +10,7 @@ mod plan;
 mod refusal;
 mod reply;
 mod solve;
+mod why;
 
 pub use answer::answer_text;
 pub use check::{check_text, part_text, parts_head_text};
@@ -20,3 +21,4 @@ pub use plan::plan_text;
 pub use refusal::refused_text;
 pub use reply::{code_text, constrained_text, declared_text, done_text};
 pub use solve::{places_text, shape_text, solve_text};
+pub use why::put_follows;
