@@ -5,3 +5,5 @@ pub mod Halves
 pub mod Starting
 pub mod Following
 pub mod SomeBecause
+pub mod OverTold
+pub mod ReasonsTold

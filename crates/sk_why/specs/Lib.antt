@@ -1,2 +1,4 @@
 pub mod Because
 pub mod Leaving
+pub mod OverParts
+pub mod WhyReport

@@ -1,15 +1,18 @@
 // The laws on what ties some elements, each the contract of a function with nothing to do.
-ghost use Rattle.std.specs.Prelude.{◌≡◌, List, Contains};
+ghost use Rattle.std.specs.Prelude.{◌≡◌, ◌<◌, ℕ, List, Contains, length};
 ghost use Rattle.sk_base.specs.declared.Elem.{Elem};
 ghost use Rattle.sk_base.specs.declared.ConId.{ConId};
 ghost use Rattle.sk_base.specs.declared.Graph.{Graph};
+ghost use Rattle.sk_base.specs.declared.Sketch.{Sketch};
 ghost use Rattle.sk_base.specs.SoundGraph.{IsSoundGraph};
+ghost use Rattle.sk_base.specs.SoundSketch.{IsSoundSketch};
 ghost use Rattle.sk_family.specs.Body.{Start, starts};
 ghost use Rattle.sk_rules.specs.JustSome.{with_just};
 ghost use Rattle.sk_spare.specs.Sparing.{without};
 ghost use Rattle.sk_verdict.specs.OneCluster.{IsOneCluster};
 ghost use Rattle.sk_excess.specs.LeftOut.{is_number, kept_graph, AreLeftOut, HasConstraint};
 ghost use Rattle.sk_why.specs.Because.{IsTied, AreBecause, FollowsFrom};
+ghost use Rattle.sk_why.specs.WhyReport.{IsWhyReport};
 
 /// What ties the elements are constraints of the graph, and they alone tie them. Without any one of them they don't.
 pub fn because_ties()
@@ -36,4 +39,10 @@ pub fn follows()
     ensures kept { (g : Graph) (left because : List ConId) (c k : ConId) → FollowsFrom g left c because → Contains because k → HasConstraint (kept_graph left g) k }
     ensures some { (g : Graph) (left : List ConId) (c : ConId) → IsSoundGraph g → HasConstraint g c → (because : List ConId) × FollowsFrom g left c because }
     ensures one { (g : Graph) (left one other : List ConId) (c : ConId) → IsSoundGraph g → FollowsFrom g left c one → FollowsFrom g left c other → one ≡ other }
+{}
+
+/// Of a sketch that has an element there is one report, and no other: no order and no key has a part in it.
+pub fn one_report()
+    ensures some { (s : Sketch) → IsSoundSketch s → 0 < length s.elements → (text : List ℕ) × IsWhyReport s text }
+    ensures one { (s : Sketch) (one other : List ℕ) → IsSoundSketch s → IsWhyReport s one → IsWhyReport s other → one ≡ other }
 {}

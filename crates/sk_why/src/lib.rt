@@ -4,7 +4,9 @@
 mod law;
 mod leaving;
 mod reasons;
+mod text;
 
-pub use law::{because_ties, follows, one_because};
+pub use law::{because_ties, follows, one_because, one_report};
 pub use leaving::tying;
 pub use reasons::because;
+pub use text::why_text;
