@@ -7,3 +7,4 @@ pub mod Following
 pub mod SomeBecause
 pub mod OverTold
 pub mod ReasonsTold
+pub mod Groups

@@ -1,13 +1,16 @@
 // The laws on what ties some elements, each the contract of a function with nothing to do.
-ghost use Rattle.std.specs.Prelude.{◌≡◌, ◌<◌, ℕ, List, Contains, length};
+ghost use Rattle.std.specs.Prelude.{◌≡◌, ◌<◌, ℕ, List, [], ◌∷◌, Contains, length};
 ghost use Rattle.sk_base.specs.declared.Elem.{Elem};
 ghost use Rattle.sk_base.specs.declared.ConId.{ConId};
 ghost use Rattle.sk_base.specs.declared.Graph.{Graph};
 ghost use Rattle.sk_base.specs.declared.Sketch.{Sketch};
 ghost use Rattle.sk_base.specs.SoundGraph.{IsSoundGraph};
 ghost use Rattle.sk_base.specs.SoundSketch.{IsSoundSketch};
-ghost use Rattle.sk_family.specs.Body.{Start, starts};
+ghost use Rattle.sk_family.specs.Body.{Body, Start, starts, SameBodies};
 ghost use Rattle.sk_rules.specs.JustSome.{with_just};
+ghost use Rattle.sk_rules.specs.Reach.{IsNormal};
+ghost use Rattle.sk_verdict.specs.Judging.{IsOver};
+ghost use Rattle.sk_verdict.specs.Parts.{part_with};
 ghost use Rattle.sk_spare.specs.Sparing.{without};
 ghost use Rattle.sk_verdict.specs.OneCluster.{IsOneCluster};
 ghost use Rattle.sk_excess.specs.LeftOut.{is_number, kept_graph, AreLeftOut, HasConstraint};
@@ -39,6 +42,13 @@ pub fn follows()
     ensures kept { (g : Graph) (left because : List ConId) (c k : ConId) → FollowsFrom g left c because → Contains because k → HasConstraint (kept_graph left g) k }
     ensures some { (g : Graph) (left : List ConId) (c : ConId) → IsSoundGraph g → HasConstraint g c → (because : List ConId) × FollowsFrom g left c because }
     ensures one { (g : Graph) (left one other : List ConId) (c : ConId) → IsSoundGraph g → FollowsFrom g left c one → FollowsFrom g left c other → one ≡ other }
+{}
+
+/// What a constraint that is left out follows from makes, with it, one cluster that is over: these constraints alone hold
+/// too much. So whoever keeps the whole group keeps too much.
+pub fn group_is_over()
+    ensures { (g : Graph) (left because : List ConId) (c : ConId) (f : List Body) → IsSoundGraph g → IsOneCluster g → AreLeftOut g left → Contains left c → FollowsFrom g left c because
+        → IsNormal (with_just (is_number (c ∷ because)) g) f → (x : Body) × SameBodies f (x ∷ []) × IsOver (part_with (with_just (is_number (c ∷ because)) g) x.elements) }
 {}
 
 /// Of a sketch that has an element there is one report, and no other: no order and no key has a part in it.
