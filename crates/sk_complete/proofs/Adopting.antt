@@ -31,9 +31,11 @@ use Rattle.sk_entry.specs.Growth.{with_constraint}
 use Rattle.sk_entry.proofs.Growing.{IsNewConstraint, with_constraint_sound}
 use Rattle.sk_plan.specs.ConstraintStarts.{constraint_start}
 use Rattle.sk_plan.proofs.Starts.{rises, starts_are, start_there, start_of_some, edge_starts_so}
+use Rattle.sk_complete.specs.Begun.{last_number}
 use Rattle.sk_complete.specs.DrawnValues.{IsDrawnValue}
 use Rattle.sk_complete.specs.Drafts.{IsReachedIn, IsDraftOf, GrowsBy}
 use Rattle.sk_complete.proofs.Extending.{extends_same}
+use Rattle.sk_complete.proofs.CountingOn.{last_along, numbered_more}
 
 -- merging looks at the nodes of a graph alone
 module _ (g h : Graph) (same : h.nodes ≡ g.nodes) where
@@ -115,9 +117,9 @@ draft_begun s t g first last sound g_is t_is clusters starts_so kept reach room 
 
 -- with one drawn constraint more it is one
 pub draft_more : (s t : Sketch) (c : Constraint) (e : Edge) (f new : Clusters) (g : Graph) (cs : List Constraint) → g ≡ graph_of s → IsDraftOf s t f
-    → IsSoundRule s c.rule → IsDrawnValue s c.rule → All (λ (x : Constraint). x.number.0 < c.number.0) t.constraints → length t.constraints < 4000
+    → IsSoundRule s c.rule → IsDrawnValue s c.rule → c.number.0 ≡ last_number t.constraints + 1 → All (λ (x : Constraint). x.number.0 < c.number.0) t.constraints → length t.constraints < 4000
     → edge_of s c ≡ Some e → GrowsBy g (edge_start e) f new → cs ≡ t.constraints ++ c ∷ [] → IsDraftOf s (record { elements = t.elements; constraints = cs }) new
-draft_more s t c e f new g cs g_is draft rule drawn above room edge grows cs_is =
+draft_more s t c e f new g cs g_is draft rule drawn next above room edge grows cs_is =
     let more = draft.extends.more in
     let added = draft.extends.added in
     let sound = draft.extends.sound in
@@ -136,6 +138,7 @@ draft_more s t c e f new g cs g_is draft rule drawn above room edge grows cs_is 
       extends = record {
         added = added ++ c ∷ [];
         more = record { elements = more.elements; constraints = ap (λ ks. ks ++ c ∷ []) more.constraints ∙ append_assoc s.constraints added (c ∷ []) };
+        numbered = numbered_more (last_number s.constraints) added c draft.extends.numbered (next ∙ ap (λ (xs : List Constraint). last_number xs + 1) more.constraints ∙ ap (λ (n : ℕ). n + 1) (last_along 0 s.constraints added));
         drawn = All-push (λ (x : Constraint). IsDrawnValue s x.rule) added c draft.extends.drawn drawn;
         sound = with_constraint_sound t c sound is_new;
       };

@@ -21,6 +21,7 @@ pub extends_itself : (s : Sketch) → IsSoundSketch s → Extends s s
 extends_itself s sound = record {
   added = [];
   more = record { elements = refl; constraints = sym (append-nil s.constraints) };
+  numbered = tt;
   drawn = All-nil (λ (c : Constraint). IsDrawnValue s c.rule);
   sound = sound;
 }
@@ -48,6 +49,7 @@ pub completes_well : (s t : Sketch) → 0 < length s.elements → Extends s t �
 completes_well s t some extends well = record {
   added = extends.added;
   more = extends.more;
+  numbered = extends.numbered;
   drawn = extends.drawn;
   sound = extends.sound;
   well = well;

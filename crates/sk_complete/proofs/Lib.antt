@@ -9,3 +9,4 @@ pub mod Extending
 pub mod Verdicts
 pub mod Drawing
 pub mod Adopting
+pub mod CountingOn

@@ -1,5 +1,5 @@
 -- A sketch with constraints more.
-use Rattle.std.specs.Prelude.{◌≡◌, List, ◌++◌, All}
+use Rattle.std.specs.Prelude.{◌≡◌, ℕ, ◌+◌, List, [], ◌∷◌, ◌++◌, All}
 use Rattle.sk_base.specs.declared.Constraint.{Constraint}
 use Rattle.sk_base.specs.declared.Sketch.{Sketch}
 use Rattle.sk_base.specs.SoundSketch.{IsSoundSketch}
@@ -10,9 +10,24 @@ pub record HasMore (s t : Sketch) (added : List Constraint) : Type 0 where
   pub elements : t.elements ≡ s.elements
   pub constraints : t.constraints ≡ s.constraints ++ added
 
--- t is sound, and says besides what s says only what is drawn
+-- the number of the last one, or this one where there is none
+abbrev pub last_from : ℕ → List Constraint → ℕ
+last_from n [] = n
+last_from n (c ∷ cs) = last_from c.number.0 cs
+
+-- the number of the last one, 0 where there is none
+abbrev pub last_number : List Constraint → ℕ
+last_number cs = last_from 0 cs
+
+-- their numbers count on behind this one
+abbrev pub AreNumberedBehind : ℕ → List Constraint → Type 0
+AreNumberedBehind n [] = Unit {0}
+AreNumberedBehind n (c ∷ cs) = (c.number.0 ≡ n + 1) × AreNumberedBehind (n + 1) cs
+
+-- t is sound, and says besides what s says only what is drawn, with numbers that count on
 pub record Extends (s t : Sketch) : Type 0 where
   pub added : List Constraint
   pub more : HasMore s t added
+  pub numbered : AreNumberedBehind (last_number s.constraints) added
   pub drawn : All (λ (c : Constraint). IsDrawnValue s c.rule) added
   pub sound : IsSoundSketch t

@@ -17,12 +17,14 @@ use Rattle.sk_complete.specs.declared.completion.Reason.{Reason}
 use Rattle.sk_complete.specs.declared.completion.Reason.TheVariants as reason
 use Rattle.sk_complete.specs.Weights.{weight_together, due_for}
 use Rattle.sk_complete.specs.DrawnValues.{IsDrawnValue}
-use Rattle.sk_complete.specs.Begun.{HasMore}
+use Rattle.sk_complete.specs.Begun.{HasMore, AreNumberedBehind, last_number}
 
--- t is sound and well, and says besides what s says just as much as is due, all of it as it is drawn
+-- t is sound and well, and says besides what s says just as much as is due, all of it as it is drawn, with numbers that
+-- count on
 pub record Completes (s t : Sketch) : Type 0 where
   pub added : List Constraint
   pub more : HasMore s t added
+  pub numbered : AreNumberedBehind (last_number s.constraints) added
   pub drawn : All (λ (c : Constraint). IsDrawnValue s c.rule) added
   pub sound : IsSoundSketch t
   pub well : IsWell (graph_of t)

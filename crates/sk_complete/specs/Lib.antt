@@ -3,3 +3,5 @@ pub mod DrawnValues
 pub mod Begun
 pub mod Completions
 pub mod Drafts
+pub mod CompletionText
+pub mod Firmness

@@ -2,7 +2,7 @@
 ghost use Rattle.std.specs.Prelude.{IfSome};
 ghost use Rattle.sk_base.specs.SoundSketch.{IsSoundSketch, IsSoundShape};
 
-use crate::firmness::{firmness_of, reach_of};
+use crate::grade::{firm_between, reach_of};
 use crate::lines::Groups;
 use crate::values::{drawn_size, shape_in};
 use sk_base::{Elem, Shape, Sketch};
@@ -84,12 +84,12 @@ impl Choices {
         if v.elem.0 == w.elem.0 || (w.shape.is_line() && are_lines(u, v)) {
             return;
         }
-        let firmness = firmness_of(&w.shape, &u.shape, &v.shape);
-        let grade = firmness.grade();
+        let firm = firm_between(&w.shape, &u.shape, &v.shape);
+        let grade = firm.grade();
         let lack = 16u128.saturating_sub(grade);
         if grade > 0 {
             self.firm = better(self.firm, lack, u, v);
-        } else if firmness.is_flat() {
+        } else if firm.is_flat() {
             self.flat = better(self.flat, lack, u, v);
         } else {
             self.thin = better(self.thin, lack, u, v);

@@ -6,6 +6,7 @@ ghost use Rattle.sk_base.specs.SoundSketch.{IsSoundSketch};
 ghost use Rattle.sk_family.specs.Body.{edge_start};
 ghost use Rattle.sk_family.specs.Starts.{IsFree};
 ghost use Rattle.sk_graph.specs.SketchGraph.{graph_of};
+ghost use Rattle.sk_complete.specs.Begun.{last_number};
 ghost use Rattle.sk_complete.specs.Drafts.{IsDraftOf, GrowsBy};
 
 use crate::values::drawn_value;
@@ -100,9 +101,10 @@ fn grow(alloc: Global, family: &mut Family, graph: &Graph, edge: &Edge) -> Resul
     Ok(())
 }
 
-/// The number of one more constraint. None where there are as many as may be, or none is left.
+/// The number behind the last constraint's. None where there are as many as may be, or none is left.
 fn next_number(constraints: &[Constraint]) -> Option<ConId>
     requires { IsRising (λ (c : TheConstraint). c.number.0) constraints.now }
+    ensures next { IfSome result (λ k. k.0 ≡ last_number constraints.now + 1) }
     ensures above { IfSome result (λ k. All (λ (c : TheConstraint). c.number.0 < k.0) constraints.now) }
     ensures room { IfSome result (λ k. length constraints.now < 4000) }
 {

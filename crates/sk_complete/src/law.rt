@@ -1,5 +1,5 @@
 // The laws on completions, each the contract of a function with nothing to do.
-ghost use Rattle.std.specs.Prelude.{◌≡◌, ◌+◌, ◌<◌, ◌≤◌, All, List, length, unsigned_abs};
+ghost use Rattle.std.specs.Prelude.{◌≡◌, ◌+◌, ◌<◌, ◌≤◌, All, ℕ, List, length, unsigned_abs};
 ghost use Rattle.sk_base.specs.declared.Constraint.{Constraint};
 ghost use Rattle.sk_base.specs.declared.Elem.{Elem};
 ghost use Rattle.sk_base.specs.declared.Element.{Element};
@@ -10,10 +10,13 @@ ghost use Rattle.sk_base.specs.declared.Um.{Um};
 ghost use Rattle.sk_base.specs.Drawn.{IsLine};
 ghost use Rattle.sk_base.specs.SoundSketch.{IsSoundSketch};
 ghost use Rattle.sk_graph.specs.SketchGraph.{graph_of};
+ghost use Rattle.sk_lang.specs.Canonical.{canonical};
+ghost use Rattle.sk_lang.specs.Reading.{Reads};
 ghost use Rattle.sk_plan.specs.Judged.{IsWell};
 ghost use Rattle.sk_complete.specs.DrawnValues.{IsDrawnValue};
 ghost use Rattle.sk_complete.specs.Weights.{weight_together, due_for};
 ghost use Rattle.sk_complete.specs.Begun.{HasMore};
+ghost use Rattle.sk_complete.specs.Completions.{Completes};
 
 /// A well sketch weighs just what is due. So each well sketch that has the elements of another, and constraints behind
 /// its constraints, adds as much weight as is missing: no fewer dimensions would do.
@@ -36,4 +39,9 @@ pub fn none_completes()
         → ¬ IsWell (graph_of t) }
     ensures enough { (s t : Sketch) (added : List Constraint) → HasMore s t added → IsSoundSketch t → 0 < length s.elements → due_for s ≤ weight_together s.constraints
         → IsWell (graph_of t) → IsWell (graph_of s) }
+{}
+
+/// What is written of a completion of a sketch that was read is read as that completion, number by number.
+pub fn completed_reads()
+    ensures { (bytes : List ℕ) (s t : Sketch) → Reads bytes s → Completes s t → Reads (canonical t) t }
 {}

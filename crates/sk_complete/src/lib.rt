@@ -4,8 +4,8 @@
 mod choice;
 mod completion;
 mod draft;
-mod firmness;
 mod fraction;
+mod grade;
 mod hindrance;
 mod hinges;
 mod law;
@@ -14,8 +14,11 @@ mod pair;
 mod proposal;
 mod ratio;
 mod root;
+mod text;
 mod values;
 
 pub use completion::{Completion, Reason, complete};
-pub use law::{exact_weight, none_completes, one_value};
+pub use grade::{Firm, firmness};
+pub use law::{completed_reads, exact_weight, none_completes, one_value};
+pub use text::complete_text;
 pub use values::drawn_value;

@@ -1,7 +1,8 @@
-use Rattle.std.proofs.Common.{◌<◌, List, length, sym, subst}
+use Rattle.std.proofs.Common.{◌≡◌, ◌+◌, ◌<◌, List, length, sym, subst}
 use Rattle.std.specs.Prelude.{All}
 use Rattle.sk_base.specs.declared.Constraint.{Constraint}
 use Rattle.sk_base.specs.Rising.{IsRising}
+use Rattle.sk_complete.specs.Begun.{last_number}
 use Rattle.sk_complete.proofs.Adopting.{draft_more, number_free}
 use Rattle.sk_complete.proofs.draft.Draft.accept.Goals as goal
 
@@ -19,6 +20,7 @@ pub returns : goal.returns
 returns c =
     draft_more c.args.s.now c.args.self.now.sketch (record { number = c.in-Some-next_number.number; rule = c.in-Some.rule }) c.in-Some-edge.edge c.args.self.now.family c.grow.new.family c.args.graph.now c.push.new.self
     c.requires.graph c.requires.draft c.in-Some.ensures.some.sound c.in-Some.ensures.some.drawn
+    (subst (λ (cs : List Constraint). c.in-Some-next_number.number.0 ≡ last_number cs + 1) c.as_slice.ensures c.in-Some-next_number.ensures.next)
     (subst (λ (cs : List Constraint). All (λ (x : Constraint). x.number.0 < c.in-Some-next_number.number.0) cs) c.as_slice.ensures c.in-Some-next_number.ensures.above)
     (subst (λ (cs : List Constraint). length cs < 4000) c.as_slice.ensures c.in-Some-next_number.ensures.room)
     (sym c.in-Some-edge.ensures.edge) c.in_ok-grow.ensures c.in_ok-push.ensures.ok
