@@ -32,7 +32,7 @@ use Rattle.sk_entry.proofs.Growing.{IsNewConstraint, with_constraint_sound}
 use Rattle.sk_plan.specs.ConstraintStarts.{constraint_start}
 use Rattle.sk_plan.proofs.Starts.{rises, starts_are, start_there, start_of_some, edge_starts_so}
 use Rattle.sk_complete.specs.Begun.{last_number}
-use Rattle.sk_complete.specs.DrawnValues.{IsDrawnValue}
+use Rattle.sk_drawn.specs.DrawnValues.{IsDrawnValue}
 use Rattle.sk_complete.specs.Drafts.{IsReachedIn, IsDraftOf, GrowsBy}
 use Rattle.sk_complete.proofs.Extending.{extends_same}
 use Rattle.sk_complete.proofs.CountingOn.{last_along, numbered_more}

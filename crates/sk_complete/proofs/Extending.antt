@@ -12,7 +12,7 @@ use Rattle.sk_base.specs.SoundSketch.{IsSoundSketch}
 use Rattle.sk_graph.specs.SketchGraph.{graph_of}
 use Rattle.sk_plan.specs.Judged.{IsWell}
 use Rattle.sk_complete.specs.Weights.{rule_weight, constraint_weight, weight_together}
-use Rattle.sk_complete.specs.DrawnValues.{IsDrawnValue}
+use Rattle.sk_drawn.specs.DrawnValues.{IsDrawnValue}
 use Rattle.sk_complete.specs.Begun.{Extends}
 use Rattle.sk_complete.specs.Completions.{Completes}
 use Rattle.sk_complete.proofs.Weighing.{missing_weight}

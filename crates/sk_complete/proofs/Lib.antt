@@ -1,12 +1,6 @@
 pub mod Weighing
-pub mod Roots
-pub mod Ratios
-pub mod Fractions
-pub mod OneValue
-pub mod DrawnRules
 pub mod Hopeless
 pub mod Extending
 pub mod Verdicts
-pub mod Drawing
 pub mod Adopting
 pub mod CountingOn

@@ -3,7 +3,7 @@ use Rattle.std.specs.Prelude.{◌≡◌, ℕ, ◌+◌, List, [], ◌∷◌, ◌+
 use Rattle.sk_base.specs.declared.Constraint.{Constraint}
 use Rattle.sk_base.specs.declared.Sketch.{Sketch}
 use Rattle.sk_base.specs.SoundSketch.{IsSoundSketch}
-use Rattle.sk_complete.specs.DrawnValues.{IsDrawnValue}
+use Rattle.sk_drawn.specs.DrawnValues.{IsDrawnValue}
 
 -- t has the elements of s, and behind its constraints others
 pub record HasMore (s t : Sketch) (added : List Constraint) : Type 0 where

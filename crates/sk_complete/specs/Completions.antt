@@ -16,7 +16,7 @@ use Rattle.sk_complete.specs.declared.completion.Completion.TheVariants.{Done, W
 use Rattle.sk_complete.specs.declared.completion.Reason.{Reason}
 use Rattle.sk_complete.specs.declared.completion.Reason.TheVariants as reason
 use Rattle.sk_complete.specs.Weights.{weight_together, due_for}
-use Rattle.sk_complete.specs.DrawnValues.{IsDrawnValue}
+use Rattle.sk_drawn.specs.DrawnValues.{IsDrawnValue}
 use Rattle.sk_complete.specs.Begun.{HasMore, AreNumberedBehind, last_number}
 
 -- t is sound and well, and says besides what s says just as much as is due, all of it as it is drawn, with numbers that

@@ -2,10 +2,9 @@
 ghost use Rattle.std.specs.Prelude.{IfSome};
 ghost use Rattle.sk_base.specs.SoundSketch.{IsSoundSketch, IsSoundShape};
 
-use crate::grade::{firm_between, reach_of};
 use crate::lines::Groups;
-use crate::values::{drawn_size, shape_in};
 use sk_base::{Elem, Shape, Sketch};
+use sk_drawn::{drawn_size, firm_between, reach_of, shape_in};
 
 /// An element of the base, with what it lacks to the highest grade and how far it is drawn from the one outside: the
 /// least is the best.

@@ -9,9 +9,9 @@ ghost use Rattle.sk_graph.specs.SketchGraph.{graph_of};
 ghost use Rattle.sk_complete.specs.Begun.{last_number};
 ghost use Rattle.sk_complete.specs.Drafts.{IsDraftOf, GrowsBy};
 
-use crate::values::drawn_value;
 use sk_base::{ConId, Constraint, Edge, Elem, Graph, List, NoMemory, Sketch, copy_constraint};
 use sk_close_any_order::close_in_any_order;
+use sk_drawn::drawn_value;
 use sk_family::{Family, initial};
 use sk_graph::edge;
 use std::alloc::Global;

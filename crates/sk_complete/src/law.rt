@@ -1,19 +1,14 @@
 // The laws on completions, each the contract of a function with nothing to do.
-ghost use Rattle.std.specs.Prelude.{◌≡◌, ◌+◌, ◌<◌, ◌≤◌, All, ℕ, List, length, unsigned_abs};
+ghost use Rattle.std.specs.Prelude.{◌≡◌, ◌+◌, ◌<◌, ◌≤◌, All, ℕ, List, length};
 ghost use Rattle.sk_base.specs.declared.Constraint.{Constraint};
-ghost use Rattle.sk_base.specs.declared.Elem.{Elem};
 ghost use Rattle.sk_base.specs.declared.Element.{Element};
-ghost use Rattle.sk_base.specs.declared.Ratio.{Ratio};
-ghost use Rattle.sk_base.specs.declared.Rule.TheVariants.{Angle, Distance};
 ghost use Rattle.sk_base.specs.declared.Sketch.{Sketch};
-ghost use Rattle.sk_base.specs.declared.Um.{Um};
 ghost use Rattle.sk_base.specs.Drawn.{IsLine};
 ghost use Rattle.sk_base.specs.SoundSketch.{IsSoundSketch};
 ghost use Rattle.sk_graph.specs.SketchGraph.{graph_of};
 ghost use Rattle.sk_lang.specs.Canonical.{canonical};
 ghost use Rattle.sk_lang.specs.Reading.{Reads};
 ghost use Rattle.sk_plan.specs.Judged.{IsWell};
-ghost use Rattle.sk_complete.specs.DrawnValues.{IsDrawnValue};
 ghost use Rattle.sk_complete.specs.Weights.{weight_together, due_for};
 ghost use Rattle.sk_complete.specs.Begun.{HasMore};
 ghost use Rattle.sk_complete.specs.Completions.{Completes};
@@ -24,12 +19,6 @@ pub fn exact_weight()
     ensures due { (s : Sketch) → IsSoundSketch s → 0 < length s.elements → IsWell (graph_of s) → weight_together s.constraints ≡ due_for s }
     ensures missing { (s t : Sketch) (added : List Constraint) → HasMore s t added → IsSoundSketch t → 0 < length s.elements → IsWell (graph_of t)
         → weight_together s.constraints + weight_together added ≡ due_for s }
-{}
-
-/// Between two elements one length is drawn, and between two lines one ratio.
-pub fn one_value()
-    ensures length { (s : Sketch) (u v : Elem) (one other : Um) → IsDrawnValue s (Distance u v one) → IsDrawnValue s (Distance u v other) → unsigned_abs one.0 ≡ unsigned_abs other.0 }
-    ensures ratio { (s : Sketch) (l m : Elem) (one other : Ratio) → IsDrawnValue s (Angle l m one) → IsDrawnValue s (Angle l m other) → one ≡ other }
 {}
 
 /// Of more than two elements that are all lines no well sketch has just these. And where the constraints weigh what is due

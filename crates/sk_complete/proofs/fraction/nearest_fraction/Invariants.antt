@@ -1,5 +1,0 @@
-use Rattle.sk_complete.proofs.Fractions.{IsBest}
-use Rattle.sk_complete.proofs.fraction.nearest_fraction.Given as goal
-
-abbrev pub invariant-loop-y : goal.invariant-loop-y
-invariant-loop-y l = IsBest l.a l.b l.y l.best

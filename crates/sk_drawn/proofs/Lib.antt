@@ -1,0 +1,6 @@
+pub mod Roots
+pub mod Ratios
+pub mod Fractions
+pub mod OneValue
+pub mod DrawnRules
+pub mod Drawing

@@ -1,0 +1,9 @@
+use Rattle.std.proofs.Common.{FitsSigned, to_z-of_z}
+use Rattle.std.specs.Int.{w128}
+use Rattle.sk_drawn.proofs.Drawing.{dot_few}
+use Rattle.sk_drawn.proofs.grade.along.Goals as goal
+
+pub returns-clause-few : goal.returns-clause-few
+returns-clause-few c =
+    let fits : FitsSigned w128 c.dot.result = record { sfits = c.dot.type_inv } in
+    simp to_z-of_z (rw c.dot.ensures (dot_few c.args.one c.args.other c.requires.one c.requires.other))

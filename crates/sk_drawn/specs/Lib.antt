@@ -1,0 +1,2 @@
+pub mod DrawnValues
+pub mod Firmness
