@@ -1,5 +1,6 @@
 pub mod Weighing
 pub mod Hopeless
+pub mod OverAlready
 pub mod Extending
 pub mod Verdicts
 pub mod Adopting
