@@ -141,7 +141,7 @@ module _ (g : Graph) (sound : IsSoundGraph g) where
       either false inside is = rw is refl
 
   module _ (one : IsOneCluster g) where
-    whole_is : one.whole.elements ≡ nodes
+    pub whole_is : one.whole.elements ≡ nodes
     whole_is =
         rising_same elem_number one.whole.elements nodes
         ((reached_tight g one.family sound.edges_rise one.normal.reached).family.rising one.whole (whole_in g sound one)).elements

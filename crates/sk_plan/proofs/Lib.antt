@@ -3,6 +3,7 @@ pub mod JustEnough
 pub mod Joined
 pub mod Grown
 pub mod Sparsity
+pub mod TightSets
 pub mod Weighed
 pub mod Legal
 pub mod Finished

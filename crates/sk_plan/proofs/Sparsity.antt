@@ -86,7 +86,7 @@ angle_sum e ea eb ec k ka kb kc p ha hb hc =
     ]
 
 module _ (g : Graph) (a b c : Body) (p q r : Elem) (once : MeetsOnce g a.elements b.elements c.elements p q r) (xs : List Elem) (distinct : AreDistinct xs) (w : Start → ℕ) where
-  whole : Body
+  unfoldable pub whole : Body
   whole = join_all (a ∷ b ∷ c ∷ [])
 
   inside_whole : (x : Body) → Contains (a ∷ b ∷ c ∷ []) x → (y : Elem) → is_elem x.elements y ≡ true → is_elem whole.elements y ≡ true
@@ -119,7 +119,7 @@ module _ (g : Graph) (a b c : Body) (p q r : Elem) (once : MeetsOnce g a.element
       ])))
 
   -- of the elements, only the shared one is in both of two
-  shared_few : (x y : Body) (z : Elem) → ((e : Elem) → Contains x.elements e × Contains y.elements e → e ≡ z) → (count_by (λ e. is_elem x.elements e && is_elem y.elements e) xs ≡ 0) ⊎ ((count_by (λ e. is_elem x.elements e && is_elem y.elements e) xs ≡ 1) × Contains xs z × ((is_elem x.elements z && is_elem y.elements z) ≡ true))
+  pub shared_few : (x y : Body) (z : Elem) → ((e : Elem) → Contains x.elements e × Contains y.elements e → e ≡ z) → (count_by (λ e. is_elem x.elements e && is_elem y.elements e) xs ≡ 0) ⊎ ((count_by (λ e. is_elem x.elements e && is_elem y.elements e) xs ≡ 1) × Contains xs z × ((is_elem x.elements z && is_elem y.elements z) ≡ true))
   shared_few x y z only =
       count_single (λ e. is_elem x.elements e && is_elem y.elements e) z xs distinct
       (λ e e_in passes. (let parts = and_parts (is_elem x.elements e) (is_elem y.elements e) passes in
@@ -134,7 +134,7 @@ module _ (g : Graph) (a b c : Body) (p q r : Elem) (once : MeetsOnce g a.element
       let few = shared_at_most x y z only in
       omega arith
 
-  parts : (t : ℕ) → count_by (λ e. is_elem a.elements e && is_elem b.elements e) xs + (count_by (λ e. is_elem b.elements e && is_elem c.elements e) xs + count_by (λ e. is_elem c.elements e && is_elem a.elements e) xs) ≤ t → Parts (owned_among g w whole) (owned_among g w a) (owned_among g w b) (owned_among g w c) (own_count whole xs) (own_count a xs) (own_count b xs) (own_count c xs) t
+  pub parts : (t : ℕ) → count_by (λ e. is_elem a.elements e && is_elem b.elements e) xs + (count_by (λ e. is_elem b.elements e && is_elem c.elements e) xs + count_by (λ e. is_elem c.elements e && is_elem a.elements e) xs) ≤ t → Parts (owned_among g w whole) (owned_among g w a) (owned_among g w b) (owned_among g w c) (own_count whole xs) (own_count a xs) (own_count b xs) (own_count c xs) t
   parts t most = record {
     constraints = spread;
     a_most = count_within (is_elem a.elements) (is_elem whole.elements) xs (λ y y_in. inside_whole a a_at y);
@@ -179,7 +179,7 @@ OwnsFew g x = (xs : List Elem) → AreDistinct xs → (owned_among g (weight_wit
 abbrev pub OwnsFewAngles : Graph → Body → Type 0
 OwnsFewAngles g x = (xs : List Elem) → AreDistinct xs → AreLines g xs → (owned_among g (joins xs) x ≡ 0) ⊎ (owned_among g (joins xs) x + 1 ≤ own_count x xs)
 
-few_whole : (g : Graph) (a b c : Body) (p q r : Elem) → MeetsOnce g a.elements b.elements c.elements p q r → OwnsFew g a → OwnsFew g b → OwnsFew g c → OwnsFew g (join_all (a ∷ b ∷ c ∷ []))
+pub few_whole : (g : Graph) (a b c : Body) (p q r : Elem) → MeetsOnce g a.elements b.elements c.elements p q r → OwnsFew g a → OwnsFew g b → OwnsFew g c → OwnsFew g (join_all (a ∷ b ∷ c ∷ []))
 unfolding whole
 few_whole g a b c p q r once few_a few_b few_c xs distinct =
     let w = weight_within xs in
@@ -216,7 +216,7 @@ module _ (g : Graph) (P : Body → Type 0) (makes : (a b c : Body) (p q r : Elem
 
 -- at the start a body owns one constraint, and of its elements as many are there as it has there
 module _ (g : Graph) (rises : HasRisingEdges g) (s : Start) (s_in : Contains (starts g) s) (xs : List Elem) (distinct : AreDistinct xs) where
-  starts_weigh : (w : Start → ℕ) → owned_among g w (starting s) ≤ w s
+  pub starts_weigh : (w : Start → ℕ) → owned_among g w (starting s) ≤ w s
   starts_weigh w =
       sum_single (is_owned (s.number ∷ [])) w s (starts g) (differ (starts g) (starts_rise g rises))
       (λ t t_in passes. start_at g rises t s t_in s_in (sym (contains_one s.number t.number (owned_found (s.number ∷ []) t passes))))
@@ -241,7 +241,7 @@ module _ (g : Graph) (rises : HasRisingEdges g) (s : Start) (s_in : Contains (st
 few_of : (weight own there : ℕ) → weight ≤ 2 * there - 3 → there ≤ own → (weight ≡ 0) ⊎ (weight + 3 ≤ 2 * own)
 few_of weight own there most less = elim (which weight 0) [ inl never ↦ inl (omega arith) | inr (inl none) ↦ inl none | inr (inr some) ↦ inr (omega arith) ]
 
-initial_few : (g : Graph) → HasRisingEdges g → (x : Body) → Contains (initial_bodies g) x → OwnsFew g x
+pub initial_few : (g : Graph) → HasRisingEdges g → (x : Body) → Contains (initial_bodies g) x → OwnsFew g x
 initial_few g rises x x_in =
     let found = mapped_from starting (starts g) x x_in in
     subst (OwnsFew g) found.2 (λ xs distinct.

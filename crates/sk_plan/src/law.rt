@@ -1,15 +1,17 @@
 // What holds of every plan, and of every way of merging, whatever it is made by.
-ghost use Rattle.std.specs.Prelude.{◌≡◌, ◌≢◌, ◌+◌, ◌-◌, ◌*◌, count_by, sum_by, ◌∷◌, [], List, All, Contains, map, length};
+ghost use Rattle.std.specs.Prelude.{◌≡◌, ◌≢◌, ◌+◌, ◌-◌, ◌*◌, Bool, true, count_by, sum_by, ◌∷◌, [], List, All, Contains, map, length};
+ghost use Rattle.sk_base.specs.declared.ConId.{ConId};
 ghost use Rattle.sk_base.specs.declared.Elem.{Elem};
 ghost use Rattle.sk_base.specs.declared.Graph.{Graph};
 ghost use Rattle.sk_base.specs.declared.Sketch.{Sketch};
 ghost use Rattle.sk_base.specs.SoundGraph.{IsSoundGraph, HasRisingEdges};
 ghost use Rattle.sk_base.specs.SoundSketch.{IsSoundSketch};
-ghost use Rattle.sk_family.specs.Body.{Body, initial_bodies};
+ghost use Rattle.sk_family.specs.Body.{Body, Start, starts, initial_bodies};
 ghost use Rattle.sk_family.specs.Clusters.{Clusters, bodies, initial_clusters};
 ghost use Rattle.sk_rules.specs.declared.Taken.{Taken};
 ghost use Rattle.sk_rules.specs.Reach.{Reach, IsClosed, IsNormal};
-ghost use Rattle.sk_rules.specs.Excess.{has_ends_in, HasTwoEach};
+ghost use Rattle.sk_rules.specs.Excess.{has_ends_in, held, is_inside, HasTwoEach};
+ghost use Rattle.sk_rules.specs.JustSome.{with_just};
 ghost use Rattle.sk_rules.specs.Taking.{Leads};
 ghost use Rattle.sk_close_by_order.specs.declared.Order.{Order};
 ghost use Rattle.sk_tree.specs.declared.Plan.{Plan};
@@ -24,7 +26,7 @@ ghost use Rattle.sk_plan.specs.Leaves.{HasLeaves};
 ghost use Rattle.sk_tree.specs.PlanTree.{IsPlanTree};
 ghost use Rattle.sk_plan.specs.PlanBy.{IsPlanBy};
 ghost use Rattle.sk_plan.specs.Runs.{EachTakesOnce};
-ghost use Rattle.sk_plan.specs.Sparse.{weight_among, angles_among, pins_weight, AreLines, AllOwnJustEnough, EachMeetsOnce, HoldsNoneTooMany, IsSparse, HasFewAngles, IsSparseAmong, HasFewAnglesAmong};
+ghost use Rattle.sk_plan.specs.Sparse.{weight_among, angles_among, pins_weight, AreLines, AllOwnJustEnough, AreDistinct, AreIn, EachMeetsOnce, HoldsNoneTooMany, IsSparse, HasFewAngles, IsSparseAmong, HasFewAnglesAmong};
 
 /// Only a graph with the verdict well has a legal plan. The plan has half as many steps as the graph has
 /// constraints but one, which without blocks is two fewer than it has nodes, or none for one node; each
@@ -63,6 +65,14 @@ pub fn joined_once()
 pub fn sparse_parts()
     ensures elements { (g : Graph) (f : List Body) → HasRisingEdges g → HasTwoEach g → IsNormal g f → HoldsNoneTooMany g f → (x : Body) → Contains f x → IsSparseAmong g x.elements }
     ensures lines { (g : Graph) (f : List Body) → HasRisingEdges g → HasTwoEach g → IsNormal g f → HoldsNoneTooMany g f → (x : Body) → Contains f x → HasFewAnglesAmong g x.elements }
+{}
+
+/// And where among k ≥ 2 different elements of such a cluster constraints lie that weigh just 2k - 3, these alone make one
+/// cluster with all of them: each graph that has these constraints, and perhaps others of the graph, has such a cluster.
+pub fn tight_sets()
+    ensures { (g : Graph) (f : List Body) (x : Body) (xs : List Elem) (p : ConId → Bool) (n : List Body) → IsSoundGraph g → IsNormal g f → HoldsNoneTooMany g f → Contains f x
+        → AreDistinct xs → AreIn xs x.elements → held g xs + 3 ≡ 2 * length xs → ((s : Start) → Contains (starts g) s → is_inside xs s ≡ true → p s.number ≡ true)
+        → IsNormal (with_just p g) n → (y : Body) × Contains n y × AreIn xs y.elements }
 {}
 
 /// What the constraints of a sound graph weigh among different elements: as much as there are with both

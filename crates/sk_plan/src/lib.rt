@@ -12,6 +12,6 @@ mod step;
 pub use by_order::{Planned, planned_by};
 pub use error::PlanError;
 pub use judging::judgement_of;
-pub use law::{exact, joined_once, legal_plan, one_plan, sparse_parts, weights_among};
+pub use law::{exact, joined_once, legal_plan, one_plan, sparse_parts, tight_sets, weights_among};
 pub use making::plan_of;
 pub use planned_tree::plan_tree;
