@@ -8,3 +8,5 @@ pub mod SomeBecause
 pub mod OverTold
 pub mod ReasonsTold
 pub mod Groups
+pub mod TightGroups
+pub mod OneGroup
