@@ -132,8 +132,18 @@ angle_reach ratio a b d e n crosses dots =
 
 -- ---- what the measures ask
 
--- within the bounds of places: below 2^63
-met_reach : (m : Measure) (u v : At) → FitsKinds m u v → IsModerate m → IsBounded u → IsBounded v → IsMet m u v 9223372036854775807
+-- within the bounds of places: a length is off by less than 2^63, an angle by at most 8·10^9
+abbrev pub bounded_reach : Measure → ℕ
+bounded_reach (PointPoint len) = 9223372036854775807
+bounded_reach (PointLine len side) = 9223372036854775807
+bounded_reach (LineLine ratio sense) = 8000000000
+
+below_sign : (m : Measure) → bounded_reach m ≤ 9223372036854775807
+below_sign (PointPoint len) = omega arith
+below_sign (PointLine len side) = omega arith
+below_sign (LineLine ratio sense) = omega arith
+
+met_reach : (m : Measure) (u v : At) → FitsKinds m u v → IsModerate m → IsBounded u → IsBounded v → IsMet m u v (bounded_reach m)
 met_reach (PointPoint len) (places.Point x y) (places.Point z t) fits moderate hu hv =
     length_reach (1000 * unsigned_abs len.0) (1000 * unsigned_abs len.0) (distance_squared x y z t) 9223372036854775807 (omega (arith, ints)) (omega arith) (distance_within x y z t hu.0 hu.1 hv.0 hv.1)
 met_reach (PointLine len side) (places.Point x y) (places.Line a b c) fits moderate hu hv =
@@ -141,7 +151,7 @@ met_reach (PointLine len side) (places.Point x y) (places.Line a b c) fits moder
     omega (arith, height_reach len.0 side (height_above x y a b c) (5 * billion * 2 ^ 60) moderate high)
 met_reach (LineLine ratio sense) (places.Line a b c) (places.Line d e f) fits moderate hu hv =
     let both = products a b d e (abs_within _ _ hu.0) (abs_within _ _ hu.1) (abs_within _ _ hv.0) (abs_within _ _ hv.1) in
-    angle_reach ratio a b d e 9223372036854775807 (omega (arith, both)) (omega (arith, both))
+    angle_reach ratio a b d e 8000000000 (omega (arith, both)) (omega (arith, both))
 met_reach (PointPoint len) (places.Line a b c) v fits moderate hu hv = absurd fits.0
 met_reach (PointPoint len) (places.Point x y) (places.Line a b c) fits moderate hu hv = absurd fits.1
 met_reach (PointLine len side) (places.Line a b c) v fits moderate hu hv = absurd fits.0
@@ -188,11 +198,14 @@ line_straight (places.Point x y) is = absurd is
 line_straight (places.Line a b c) is = is
 
 module _ (p : Placed) (e : Edge) (can : IsMeasurable p e) where
-  pub own_reach : (n : ℕ) → IsOwnLeast p (constraint e) n → n ≤ 9223372036854775807
-  own_reach n least =
+  pub own_bounded : (n : ℕ) → IsOwnLeast p (constraint e) n → n ≤ bounded_reach e.measure
+  own_bounded n least =
       let u = first_end p e.u e.v e.measure can.ends in
       let v = second_end p e.u e.v e.measure can.ends in
-      least.least 9223372036854775807 (met_reach e.measure (lies p e.u) (lies p e.v) (ends_fit p e.u e.v e.measure can.ends) can.moderate u.1.bounded v.1.bounded)
+      least.least (bounded_reach e.measure) (met_reach e.measure (lies p e.u) (lies p e.v) (ends_fit p e.u e.v e.measure can.ends) can.moderate u.1.bounded v.1.bounded)
+
+  pub own_reach : (n : ℕ) → IsOwnLeast p (constraint e) n → n ≤ 9223372036854775807
+  own_reach n least = (let few = own_bounded n least in let below = below_sign e.measure in omega (arith, few, below))
 
   pub own_near : IsStraight (lies p e.u) → IsStraight (lies p e.v) → (n : ℕ) → IsOwnLeast p (constraint e) n → n ≤ reach e.measure
   own_near u_straight v_straight n least =

@@ -15,15 +15,20 @@ use Rattle.sk_base.specs.SoundGraph.{IsSoundGraph, HasNode, Measures}
 use Rattle.sk_measure.specs.Placing.{lies, PlacesExactly}
 use Rattle.sk_measure.specs.Items.{constraint, block, IsOffBy}
 use Rattle.sk_measure.proofs.Placings.{measurable, block_measurable}
-use Rattle.sk_measure.proofs.Reach.{IsStraight, reach, point_straight, line_straight, own_near, block_reach}
+use Rattle.sk_measure.proofs.Reach.{IsStraight, reach, bounded_reach, point_straight, line_straight, own_bounded, own_near, block_reach}
 use Rattle.sk_tolerance.specs.declared.single.OffBy.{OffBy}
-use Rattle.sk_tolerance.specs.Offs.{is_length, IsEdgeOff, IsBlockOff, IsOff, NormalsHold, IsNear}
+use Rattle.sk_tolerance.specs.Offs.{is_length, IsEdgeOff, IsBlockOff, IsOff, NormalsHold, IsNear, IsBoundedOff}
 use Rattle.sk_tolerance.proofs.Numbered.{only_edge, only_block, not_both}
 
 near_by : (m : Measure) (length : Bool) (n : ℕ) → length ≡ is_length m → n ≤ reach m → (length ≡ true → n < 2 ^ 62) × (length ≡ false → n ≤ 1001000000)
 near_by (PointPoint len) length n is few = ((λ yes'. omega arith), (λ no'. absurd (cc)))
 near_by (PointLine len side) length n is few = ((λ yes'. omega arith), (λ no'. absurd (cc)))
 near_by (LineLine ratio sense) length n is few = ((λ yes'. absurd (cc)), (λ no'. few))
+
+bounded_by : (m : Measure) (length : Bool) (n : ℕ) → length ≡ is_length m → n ≤ bounded_reach m → (length ≡ true → n < 2 ^ 63) × (length ≡ false → n ≤ 8000000000)
+bounded_by (PointPoint len) length n is few = ((λ yes'. omega arith), (λ no'. absurd (cc)))
+bounded_by (PointLine len side) length n is few = ((λ yes'. omega arith), (λ no'. absurd (cc)))
+bounded_by (LineLine ratio sense) length n is few = ((λ yes'. absurd (cc)), (λ no'. few))
 
 module _ (g : Graph) (sound : IsSoundGraph g) (p : Placed) (exactly : PlacesExactly g p) (k : ConId) (off : OffBy) where
   pub edge_off : (e : Edge) → edge_numbered g k.0 ≡ Some e → off.length ≡ is_length e.measure → IsOffBy p (constraint e) off.off → IsOff p g k off
@@ -59,5 +64,16 @@ module _ (g : Graph) (sound : IsSoundGraph g) (p : Placed) (exactly : PlacesExac
 
   pub block_near : (b : Block) → Contains g.blocks b → off.length ≡ true → IsOffBy p (block b) off.off → IsNear off
   block_near b b_in length by =
+      let few = block_reach p b (block_measurable g p sound exactly b b_in) (unsigned_abs off.off) by.size in
+      record { length = λ is. omega (arith, few); angle = λ is. absurd (cc) }
+
+  pub edge_bounded : (e : Edge) → Contains g.edges e → off.length ≡ is_length e.measure → IsOffBy p (constraint e) off.off → IsBoundedOff off
+  edge_bounded e e_in length by =
+      let few = own_bounded p e (measurable g p sound exactly e e_in) (unsigned_abs off.off) by.size in
+      let bounds = bounded_by e.measure off.length (unsigned_abs off.off) length few in
+      record { length = bounds.0; angle = bounds.1 }
+
+  pub block_bounded : (b : Block) → Contains g.blocks b → off.length ≡ true → IsOffBy p (block b) off.off → IsBoundedOff off
+  block_bounded b b_in length by =
       let few = block_reach p b (block_measurable g p sound exactly b b_in) (unsigned_abs off.off) by.size in
       record { length = λ is. omega (arith, few); angle = λ is. absurd (cc) }

@@ -46,3 +46,8 @@ NormalsHold p g w = (line : Elem) → HasNode g line kinds.Line → Holds p (nor
 pub record IsNear (off : OffBy) : Type 0 where
   pub length : off.length ≡ true → unsigned_abs off.off < 2 ^ 62
   pub angle : off.length ≡ false → unsigned_abs off.off ≤ 1001000000
+
+-- within the bounds of places a length is off by less than 2^63, an angle by at most 8·10^9
+pub record IsBoundedOff (off : OffBy) : Type 0 where
+  pub length : off.length ≡ true → unsigned_abs off.off < 2 ^ 63
+  pub angle : off.length ≡ false → unsigned_abs off.off ≤ 8000000000

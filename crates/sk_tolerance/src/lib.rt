@@ -15,4 +15,4 @@ pub use law::constraints_in_order;
 pub use single::{OffBy, off};
 pub use spotted::{Named, Spotted, earlier};
 pub use tolerance::{Tolerance, least};
-pub use turned::{Turned, Wanted, first_off, first_turned, first_unlike};
+pub use turned::{Turned, Wanted, first_off, first_turned, first_turned_constraint, first_unlike};

@@ -5,7 +5,7 @@ ghost use Rattle.sk_base.specs.SoundSketch.{IsSoundSketch};
 ghost use Rattle.sk_graph.specs.SketchGraph.{graph_of};
 ghost use Rattle.sk_measure.specs.Placing.{PlacesExactly};
 ghost use Rattle.sk_tolerance.specs.Turns.{senses};
-ghost use Rattle.sk_tolerance.specs.Offs.{is_length, IsOff, HasNumber, NormalsHold, IsNear};
+ghost use Rattle.sk_tolerance.specs.Offs.{is_length, IsOff, HasNumber, NormalsHold, IsNear, IsBoundedOff};
 ghost use Rattle.sk_tolerance.specs.Telling.{IsCompared};
 
 use crate::turned::{Turned, turned_sense};
@@ -34,6 +34,7 @@ pub fn off(p: &Placed, s: &Sketch, g: &Graph, c: &Constraint) -> OffBy
     ensures off { IsOff p.now g.now c.now.number result }
     ensures turned { IsCompared (senses s.now p.now c.now.number c.now.rule) result.turned }
     ensures near { NormalsHold p.now g.now 1000000 → IsNear result }
+    ensures bounded { IsBoundedOff result }
 {
     off_with(p, g, c.number, turned_sense(p, s, c))
 }
@@ -46,6 +47,7 @@ fn off_with(p: &Placed, g: &Graph, number: ConId, turned: Option<Turned>) -> Off
     ensures off { IsOff p.now g.now number result }
     ensures turned { result.turned ≡ turned }
     ensures near { NormalsHold p.now g.now 1000000 → IsNear result }
+    ensures bounded { IsBoundedOff result }
 {
     match g.edge(number) {
         Some(edge) => OffBy {

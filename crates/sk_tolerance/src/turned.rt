@@ -77,6 +77,17 @@ pub fn first_unlike(p: &Placed, s: &Sketch, plan: &Plan, wanted: Wanted) -> Opti
     }
 }
 
+/// The first sign of a constraint that isn't placed as it is drawn, in order of number: the sense of an angle or the
+/// turn of a block. It needs no plan: no step is looked at.
+pub fn first_turned_constraint(p: &Placed, s: &Sketch) -> Option<Turned>
+    requires sketch { IsSoundSketch s.now }
+    requires placed { PlacesExactly (graph_of s.now) p.now }
+    ensures none { IsNone result ↔ AllAsDrawn (constraint_signs s.now p.now s.now.constraints) }
+    ensures some { IfSome result (IsFirst IsTurned (constraint_signs s.now p.now s.now.constraints)) }
+{
+    turned_constraint(p, s, s.constraints.as_slice())
+}
+
 /// The first constraint, an angle or a block, whose sign is turned over.
 fn turned_constraint(p: &Placed, s: &Sketch, constraints: &[Constraint]) -> Option<Turned>
     requires sketch { IsSoundSketch s.now }
