@@ -62,16 +62,16 @@ abbrev IsOfCircle : Sketch → Radius → Type 0
 IsOfCircle s r = (x : Element) × Contains s.elements x × (x.number ≡ r.elem) × (is_circle x.shape ≡ true)
 
 -- what was read so far fits
-record Fits (s : Sketch) (c : SoFar) : Type 0 where
-  spots : (spot : Spot) → Contains c.at.spots spot → (n : Node) × Contains (graph_of s).nodes n × IsSpotOf n spot
-  spots_differ : AllPairs (λ (x y : Spot). x.elem ≢ y.elem) c.at.spots
-  radii_placed : (r : Radius) → Contains c.radii r → (spot : Spot) × Contains c.at.spots spot × (spot.elem ≡ r.elem)
-  radii_differ : AllPairs (λ (x y : Radius). x.elem ≢ y.elem) c.radii
-  circles : (r : Radius) → Contains c.radii r → IsOfCircle s r
-  told : (spot : Spot) → Contains c.at.spots spot → IsSpotWithRadius s c.radii spot
-  bounded : IfSome c.tolerances (λ t. (t.t ≤ 2 ^ 62) × (t.w ≤ 2 ^ 62))
+pub record Fits (s : Sketch) (c : SoFar) : Type 0 where
+  pub spots : (spot : Spot) → Contains c.at.spots spot → (n : Node) × Contains (graph_of s).nodes n × IsSpotOf n spot
+  pub spots_differ : AllPairs (λ (x y : Spot). x.elem ≢ y.elem) c.at.spots
+  pub radii_placed : (r : Radius) → Contains c.radii r → (spot : Spot) × Contains c.at.spots spot × (spot.elem ≡ r.elem)
+  pub radii_differ : AllPairs (λ (x y : Radius). x.elem ≢ y.elem) c.radii
+  pub circles : (r : Radius) → Contains c.radii r → IsOfCircle s r
+  pub told : (spot : Spot) → Contains c.at.spots spot → IsSpotWithRadius s c.radii spot
+  pub bounded : IfSome c.tolerances (λ t. (t.t ≤ 2 ^ 62) × (t.w ≤ 2 ^ 62))
 
-fits_first : (s : Sketch) → Fits s nothing_yet
+pub fits_first : (s : Sketch) → Fits s nothing_yet
 fits_first s = record {
   spots = λ spot h. absurd (contains_none spot h);
   spots_differ = pairs_none (λ (x y : Spot). x.elem ≢ y.elem);
@@ -263,7 +263,7 @@ module _ (s : Sketch) (c : SoFar) (fits : Fits s c) where
       let free = passed (is_placed s c.at name) E5 _ number.1 in
       record { count = count.0; known = known.0; of_kind = of_kind.0; free = free.0 }
 
-  fits_place : (kind : Figure) (rest : List (List ℕ)) → first_code (element_rows s c.at kind rest) ≡ None → Fits s (with_words s c (Some (begins.Element kind)) rest)
+  pub fits_place : (kind : Figure) (rest : List (List ℕ)) → first_code (element_rows s c.at kind rest) ≡ None → Fits s (with_words s c (Some (begins.Element kind)) rest)
   fits_place kind [] is = cc
   fits_place kind (name ∷ numbers) is = by kind numbers (passes kind name numbers is)
     where
@@ -321,7 +321,7 @@ fits_along s [] c fits clean = fits
 fits_along s (line ∷ lines) c fits clean =
     fits_along s lines (claimed_after s c line) (fits_words s c fits (words_in line) (none_behind (byte_rows line) (word_rows s c (words_in line)) clean.0)) clean.1
 
-fitting : (s : Sketch) (c : SoFar) (claim : Claim) → Fits s c → IsClaimOf c claim → IsFitting (graph_of s) claim
+pub fitting : (s : Sketch) (c : SoFar) (claim : Claim) → Fits s c → IsClaimOf c claim → IsFitting (graph_of s) claim
 fitting s c claim fits of =
     let bounds = subst (λ (o : Option Tolerances). IfSome o (λ t. (t.t ≤ 2 ^ 62) × (t.w ≤ 2 ^ 62))) of.tolerances fits.bounded in
     record {
@@ -360,7 +360,7 @@ same_element s sound x y x_in y_in same =
       | inr (inr more) ↦ absurd (omega arith)
     ]
 
-telling : (s : Sketch) (c : SoFar) → Fits s c → IsSoundSketch s → (claim : Claim) → IsClaimOf c claim → TellsCircles s claim
+pub telling : (s : Sketch) (c : SoFar) → Fits s c → IsSoundSketch s → (claim : Claim) → IsClaimOf c claim → TellsCircles s claim
 telling s c fits sound claim of = record {
   of_circles = λ r there.
       let from = subst (λ (radii : List Radius). Contains radii r) of.radii there in

@@ -9,3 +9,6 @@ pub mod WrittenSteps
 pub mod WrittenPlaces
 pub mod WrittenClaims
 pub mod SaidSteps
+pub mod ReadPlaces
+pub mod FittingPlaces
+pub mod PlacesBack

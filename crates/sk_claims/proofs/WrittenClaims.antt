@@ -54,10 +54,10 @@ leads_first s from mid to words lines here rest =
     }
 
 -- the element of a place, which it fits
-record IsPlaceable (s : Sketch) (spot : Spot) : Type 0 where
-  declared : IsDeclared s spot.elem
-  kind : HasKind (kind_of (drawn_as s spot.elem)) spot.at
-  bounded : IsBounded spot.at
+pub record IsPlaceable (s : Sketch) (spot : Spot) : Type 0 where
+  pub declared : IsDeclared s spot.elem
+  pub kind : HasKind (kind_of (drawn_as s spot.elem)) spot.at
+  pub bounded : IsBounded spot.at
 
 module _ (s : Sketch) (sound : IsSoundSketch s) (to : SoFar) (more : List (List (List ℕ))) where
   steps_along : (todo done : List PlanStep) (spots : List Spot) (radii : List Radius) → ((x : PlanStep) → Contains todo x → CanBeSaid s x)
@@ -70,12 +70,12 @@ module _ (s : Sketch) (sound : IsSoundSketch s) (to : SoFar) (more : List (List 
       (steps_along todo (done ++ x ∷ []) spots radii (λ y there. can y (contains_later x todo y there))
       (subst (λ (steps : List PlanStep). Leads s (so_far steps spots radii) to more) step rest))
 
-  radii_push : (done : List Spot) (spot : Spot) → radii_drawn s (done ++ spot ∷ []) ≡ radii_drawn s done ++ radius_drawn spot.elem (drawn_as s spot.elem)
+  pub radii_push : (done : List Spot) (spot : Spot) → radii_drawn s (done ++ spot ∷ []) ≡ radii_drawn s done ++ radius_drawn spot.elem (drawn_as s spot.elem)
   radii_push done spot =
       flat_map-append (λ (x : Spot). radius_drawn x.elem (drawn_as s x.elem)) done (spot ∷ [])
       ∙ ap (λ (last : List Radius). radii_drawn s done ++ last) (append-nil (radius_drawn spot.elem (drawn_as s spot.elem)))
 
-  differs_before : (done todo : List Spot) (spot x : Spot) → AllPairs (λ (p q : Spot). p.elem ≢ q.elem) (done ++ spot ∷ todo) → Contains done x → x.elem ≢ spot.elem
+  pub differs_before : (done todo : List Spot) (spot x : Spot) → AllPairs (λ (p q : Spot). p.elem ≢ q.elem) (done ++ spot ∷ todo) → Contains done x → x.elem ≢ spot.elem
   differs_before [] todo spot x differ there = absurd (contains_none x there)
   differs_before (d ∷ done) todo spot x differ there =
       elim (contains_cases d done x there) [
@@ -83,7 +83,7 @@ module _ (s : Sketch) (sound : IsSoundSketch s) (to : SoFar) (more : List (List 
         | inr later ↦ differs_before done todo spot x (pairs_tail (λ (p q : Spot). p.elem ≢ q.elem) d (done ++ spot ∷ todo) differ) later
       ]
 
-  place_here : (steps : List PlanStep) (spots : List Spot) (radii : List Radius) (spot : Spot) → IsPlaceable s spot → ((x : Spot) → Contains spots x → x.elem ≢ spot.elem)
+  pub place_here : (steps : List PlanStep) (spots : List Spot) (radii : List Radius) (spot : Spot) → IsPlaceable s spot → ((x : Spot) → Contains spots x → x.elem ≢ spot.elem)
       → ReadsOn s (so_far steps spots radii) (so_far steps (spots ++ spot ∷ []) (radii ++ radius_drawn spot.elem (drawn_as s spot.elem))) (spot_words s spot)
   place_here steps spots radii spot can none =
       place_reads s steps spots radii spot.elem (name_of s spot.elem) (called s sound spot.elem can.declared) (no_place spots spot.elem none) spot.at can.kind can.bounded
@@ -127,7 +127,7 @@ module _ (s : Sketch) (sound : IsSoundSketch s) (c : Claim) (fits : IsFitting (g
   abbrev whole : SoFar
   whole = record { steps = c.steps; at = c.at; radii = radii_drawn s c.at.spots; tolerances = Some (record { t = c.t; w = c.w }) }
 
-  placeable : (spot : Spot) → Contains c.at.spots spot → IsPlaceable s spot
+  pub placeable : (spot : Spot) → Contains c.at.spots spot → IsPlaceable s spot
   placeable spot there =
       let known = fits.spots spot there in
       let of = mapped_from node_of s.elements known.0 known.1 in

@@ -146,14 +146,18 @@ abbrev pub tolerance_rows : List (List ℕ) → List (Bool × Code)
 tolerance_rows (t ∷ w ∷ []) = (is_none (count_of tolerance_limit t) || is_none (count_of tolerance_limit w), E8) ∷ []
 tolerance_rows _ = (true, E3) ∷ []
 
+-- what a line places by its first word
+abbrev pub figure_of : List ℕ → Option Figure
+figure_of word =
+    if bytes_eq word (codes "point") then Some figure.Point
+    else (if bytes_eq word (codes "circle") then Some figure.Circle
+    else (if bytes_eq word (codes "line") then Some figure.Line else None))
+
 -- what the first word of a line says of it
 abbrev pub first_of : List ℕ → Option First
 first_of word =
     if bytes_eq word (codes "step") then Some begins.Step
-    else (if bytes_eq word (codes "point") then Some (begins.Element figure.Point)
-    else (if bytes_eq word (codes "circle") then Some (begins.Element figure.Circle)
-    else (if bytes_eq word (codes "line") then Some (begins.Element figure.Line)
-    else (if bytes_eq word (codes "tolerance") then Some begins.Tolerance else None))))
+    else (if bytes_eq word (codes "tolerance") then Some begins.Tolerance else option_map begins.Element (figure_of word))
 
 -- the codes of the words behind the first
 abbrev pub rows_behind : Sketch → SoFar → Option First → List (List ℕ) → List (Bool × Code)

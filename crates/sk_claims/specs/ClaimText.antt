@@ -1,4 +1,4 @@
--- The text of a claim: a line for each step, each place, and the tolerances.
+-- The text of a claim: a line for each step, each place, and the tolerances; and of places alone.
 use Rattle.std.specs.Prelude.{◌≡◌, ℕ, ℤ, List, [], ◌∷◌, ◌++◌, map, codes, Contains}
 use Rattle.std.specs.List.{flat_map}
 use Rattle.std.specs.Fmt.{decimal}
@@ -6,6 +6,7 @@ use Rattle.sk_base.specs.declared.At.{At}
 use Rattle.sk_base.specs.declared.At.TheVariants as at
 use Rattle.sk_base.specs.declared.Elem.{Elem}
 use Rattle.sk_base.specs.declared.Element.{Element}
+use Rattle.sk_base.specs.declared.Placed.{Placed}
 use Rattle.sk_base.specs.declared.Shape.{Shape}
 use Rattle.sk_base.specs.declared.Shape.TheVariants.{Point, Line, Circle}
 use Rattle.sk_base.specs.declared.Sign.TheVariants.{Plus, Minus}
@@ -62,6 +63,13 @@ claim_words s c = map (step_words s) c.steps ++ (map (spot_words s) c.at.spots +
 abbrev pub claim_text : Sketch → Claim → List ℕ
 claim_text s c = ended_lines (map spaced (claim_words s c))
 
+-- the words of all lines of places, up to their end
+abbrev pub place_words : Sketch → Placed → List (List (List ℕ))
+place_words s p = map (spot_words s) p.spots ++ (codes "end" ∷ []) ∷ []
+
+abbrev pub places_text : Sketch → Placed → List ℕ
+places_text s p = ended_lines (map spaced (place_words s p))
+
 -- the radius that is drawn, of a circle
 abbrev pub radius_drawn : Elem → Shape → List Radius
 radius_drawn e (Point x y) = []
@@ -71,6 +79,10 @@ radius_drawn e (Circle x y r) = record { elem = e; nm = radius_nm r.0 } ∷ []
 -- those of all circles that have a place
 abbrev pub radii_drawn : Sketch → List Spot → List Radius
 radii_drawn s spots = flat_map (λ (spot : Spot). radius_drawn spot.elem (drawn_as s spot.elem)) spots
+
+-- these places with the radii that are drawn, as a claim without steps and within no tolerance
+abbrev pub places_drawn : Sketch → Placed → Claim
+places_drawn s p = record { steps = []; at = p; radii = radii_drawn s p.spots; t = 0; w = 0 }
 
 -- the sketch declares the element
 abbrev pub IsDeclared : Sketch → Elem → Type 0

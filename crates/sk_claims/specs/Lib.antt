@@ -3,3 +3,5 @@ pub mod ClaimLines
 pub mod ClaimReading
 pub mod Printed
 pub mod ClaimText
+pub mod PlaceLines
+pub mod PlaceReading

@@ -112,7 +112,7 @@ fn with_step(
 }
 
 /// The claim with the place of a further element.
-fn with_element(
+pub(crate) fn with_element(
     s: &Sketch,
     so_far: SoFar,
     figure: Figure,

@@ -1,6 +1,6 @@
 // The first words of the lines of a claim.
 ghost use Rattle.std.specs.Prelude.{◌≡◌};
-ghost use Rattle.sk_claims.specs.ClaimLines.{first_of, fits_shape};
+ghost use Rattle.sk_claims.specs.ClaimLines.{figure_of, first_of, fits_shape};
 
 use sk_base::Shape;
 use sk_lines::is_word;
@@ -27,14 +27,23 @@ pub(crate) fn first_of(word: &[u8]) -> Option<First>
 {
     if is_word(word, "step") {
         Some(First::Step)
-    } else if is_word(word, "point") {
-        Some(First::Element(Figure::Point))
-    } else if is_word(word, "circle") {
-        Some(First::Element(Figure::Circle))
-    } else if is_word(word, "line") {
-        Some(First::Element(Figure::Line))
     } else if is_word(word, "tolerance") {
         Some(First::Tolerance)
+    } else {
+        Some(First::Element(figure_of(word)?))
+    }
+}
+
+/// What a line places by its first word.
+pub(crate) fn figure_of(word: &[u8]) -> Option<Figure>
+    ensures { result ≡ figure_of word.now }
+{
+    if is_word(word, "point") {
+        Some(Figure::Point)
+    } else if is_word(word, "circle") {
+        Some(Figure::Circle)
+    } else if is_word(word, "line") {
+        Some(Figure::Line)
     } else {
         None
     }

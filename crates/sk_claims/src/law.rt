@@ -10,6 +10,7 @@ ghost use Rattle.sk_lines.specs.ClusterWords.{cluster_named};
 ghost use Rattle.sk_text.specs.ClusterName.{cluster_name};
 ghost use Rattle.sk_claims.specs.ClaimLines.{whole_of, count_of, tolerance_limit};
 ghost use Rattle.sk_claims.specs.Printed.{HasPlainNumber};
+ghost use Rattle.sk_base.specs.declared.Placed.{Placed};
 ghost use Rattle.sk_base.specs.declared.Sketch.{Sketch};
 ghost use Rattle.sk_graph.specs.SketchGraph.{graph_of};
 ghost use Rattle.sk_tree.specs.declared.Plan.{Plan};
@@ -19,7 +20,8 @@ ghost use Rattle.sk_claims.specs.Claims.{IsFitting};
 ghost use Rattle.sk_base.specs.SoundSketch.{IsSoundSketch};
 ghost use Rattle.sk_tree.specs.declared.PlanStep.{PlanStep};
 ghost use Rattle.sk_claims.specs.ClaimReading.{ReadsClaim};
-ghost use Rattle.sk_claims.specs.ClaimText.{CanBeSaid, claim_text, radii_drawn};
+ghost use Rattle.sk_claims.specs.ClaimText.{CanBeSaid, claim_text, places_text, places_drawn, radii_drawn};
+ghost use Rattle.sk_claims.specs.PlaceReading.{ReadsPlaces};
 
 /// What is printed of a number within its limit, of a tolerance and of the name of a cluster reads as that
 /// in a claim.
@@ -34,6 +36,11 @@ pub fn printed_words_read_back()
 pub fn written_claims_read_back()
     ensures { (s : Sketch) (c : Claim) → IsSoundSketch s → IsFitting (graph_of s) c → ((x : PlanStep) → Contains c.steps x → CanBeSaid s x)
         → c.radii ≡ radii_drawn s c.at.spots → ReadsClaim s (claim_text s c) c }
+{}
+
+/// The text of places, with the radii that are drawn, reads as those places, where they fit the graph.
+pub fn written_places_read_back()
+    ensures { (s : Sketch) (p : Placed) → IsSoundSketch s → IsFitting (graph_of s) (places_drawn s p) → ReadsPlaces s (places_text s p) (places_drawn s p) }
 {}
 
 /// The steps of a legal plan can be said in a claim, where its constraints and its steps have numbers of at

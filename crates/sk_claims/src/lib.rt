@@ -9,8 +9,14 @@ mod element_line;
 mod first_word;
 mod law;
 mod number;
+mod place_line;
+mod place_reading;
 mod step_line;
 
 pub use claim::{Claim, Radius};
 pub use claim_reading::{one_reading_of_claims, read_claim};
-pub use law::{legal_steps_can_be_said, printed_words_read_back, written_claims_read_back};
+pub use law::{
+    legal_steps_can_be_said, printed_words_read_back, written_claims_read_back,
+    written_places_read_back,
+};
+pub use place_reading::{one_reading_of_places, read_places};
