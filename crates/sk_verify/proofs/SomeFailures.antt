@@ -1,5 +1,5 @@
 -- A claim is accepted, or something of it fails first.
-use Rattle.std.proofs.Common.{◌≡◌, ◌⊎◌, inl, inr, refl, ℕ, ◌≤◌, ◌<◌, ℤ, pos, ◌*ℤ◌, List, [], ◌∷◌, length, Option, None, Some, ap, sym, subst, ◌∙◌, arith}
+use Rattle.std.proofs.Common.{◌≡◌, ◌⊎◌, inl, inr, refl, ℕ, ◌≤◌, ℤ, pos, ◌*ℤ◌, List, [], ◌∷◌, length, Option, None, Some, ap, sym, subst, ◌∙◌, arith}
 use Rattle.std.specs.Prelude.{Contains, IsSome}
 use Rattle.sk_base.specs.declared.At.{At}
 use Rattle.sk_base.specs.declared.Element.{Element}
@@ -19,7 +19,7 @@ use Rattle.sk_base.specs.Places.{place_of}
 use Rattle.sk_base.specs.SoundGraph.{IsSoundGraph, HasNode}
 use Rattle.sk_base.proofs.Members.{Settles, nat_settles}
 use Rattle.sk_base.proofs.Unions.{which}
-use Rattle.sk_tree.specs.DrawnChoice.{HasDrawnChoice, drawn_choice, shapes_of}
+use Rattle.sk_tree.specs.DrawnChoice.{drawn_choice, shapes_of}
 use Rattle.sk_family.specs.declared.Cluster.{Cluster}
 use Rattle.sk_family.specs.Clusters.{Clusters, IsNamed, initial_clusters}
 use Rattle.sk_base.proofs.Deciding.{elem_settles, Decided, both, either, three, moved, denied, implied, is_in, each_decided, node_settles, below_decided, name_below, name_settles}
@@ -27,7 +27,6 @@ use Rattle.sk_graph.specs.SketchGraph.{graph_of}
 use Rattle.sk_tolerance.specs.declared.Spotted.{Spotted}
 use Rattle.sk_tolerance.specs.declared.Spotted.TheVariants as spotted
 use Rattle.sk_measure.specs.Holding.{tolerance_of}
-use Rattle.sk_tolerance.specs.First.{IsFirst}
 use Rattle.sk_measure.specs.Items.{Item, normal, constraint, block, Holds, IsOwnLeast}
 use Rattle.sk_tolerance.specs.Tolerances.{spotted_as, everything}
 use Rattle.sk_tolerance.specs.Turns.{signs}
@@ -44,7 +43,7 @@ use Rattle.sk_verify.specs.declared.failure.Failure.{Failure}
 use Rattle.sk_verify.specs.declared.failure.Failure.TheVariants.{Step, Parts, Element as OfElement, Line as OfLine, Con as OfCon, Sign as OfSign}
 use Rattle.sk_claims.specs.Claims.{IsFitting}
 use Rattle.sk_verify.specs.AsClaimed.{HasItsRadius, IsTold, HoldsAsClaimed, plan_claimed}
-use Rattle.sk_verify.specs.Failing.{IsComplete, IsAccepted, IsFirstOff, FailsFirst}
+use Rattle.sk_verify.specs.Failing.{AllTold, IsFirstUntold, IsComplete, IsAccepted, IsFirstOff, FailsFirst}
 use Rattle.sk_verify.specs.RightSteps.{IsRightStep, AreRight, IsFirstWrong, after}
 use Rattle.sk_verify.proofs.Complete.{told_exactly}
 use Rattle.sk_tolerance.proofs.Firsts.{all_or_first}
@@ -185,6 +184,11 @@ told_decided c x =
     moved (λ h. record { placed = h.0; radius = h.1 }) (λ (t : IsTold c x). (t.placed, t.radius))
     (both (placed_decided (place_of c.at x.number)) (radius_decided c.radii x.number x.shape))
 
+-- each element is told, or one is the first that isn't
+pub told_or_first : (c : Claim) (elements : List Element) → AllTold c elements ⊎ ((e : Elem) × IsFirstUntold c elements e)
+told_or_first c elements =
+    elim (all_or_first (IsTold c) elements (λ x h. told_decided c x)) [ inl told ↦ inl told | inr (x, first) ↦ inr (x.number, (x, first, refl)) ]
+
 -- ---- tolerances
 
 within_decided : (c : Claim) (item : Item) (limit : ℕ) → (n : ℕ) × IsOwnLeast c.at item n → Decided (Holds c.at item limit)
@@ -211,8 +215,8 @@ accepted_or_failing s g is sound c fits =
       | inr (n, wrong) ↦ inr (Step n, wrong)
       | inl right ↦ elim (whole_decided g (after (initial_clusters g) c.steps)) [
         | inr never ↦ inr (Parts, (right, never))
-        | inl whole ↦ elim (all_or_first (IsTold c) s.elements (λ x h. told_decided c x)) [
-          | inr (x, first) ↦ inr (OfElement x.number, (record { steps = right; whole = whole }, (x, first, refl)))
+        | inl whole ↦ elim (told_or_first c s.elements) [
+          | inr (e, first) ↦ inr (OfElement e, (record { steps = right; whole = whole }, first))
           | inl told ↦ (
               let complete : IsComplete s g c = record { joined = record { steps = right; whole = whole }; told = told } in
               let exactly = told_exactly s g is sound c fits told in

@@ -10,7 +10,7 @@ ghost use Rattle.sk_verify.specs.Failing.{IsJoined, IsComplete, IsMet, IsAccepte
 use crate::failure::{Failure, VerifyError};
 use crate::holding::first_unmet;
 use crate::stepping::family_after;
-use crate::told::first_untold;
+use crate::told::unplaced;
 use crate::whole::is_whole;
 use sk_base::{Graph, List, NoMemory, Sketch};
 use sk_claims::Claim;
@@ -56,7 +56,7 @@ fn check_elements(s: &Sketch, g: &Graph, claim: &Claim) -> Result<(), VerifyErro
     ensures ok { IfOk result (λ _. IsComplete s.now g.now claim.now) }
     ensures fails { IfErr result (IsFirstFailure s.now g.now claim.now) }
 {
-    match first_untold(claim, s.elements.as_slice()) {
+    match unplaced(s, claim) {
         Some(elem) => Err(VerifyError::Fails(Failure::Element(elem))),
         None => Ok(()),
     }

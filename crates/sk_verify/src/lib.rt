@@ -17,3 +17,4 @@ pub use checking::verify;
 pub use failure::{Failure, VerifyError};
 pub use law::{accepted, accepted_so, one_answer};
 pub use texts::{failure_text, verified_text};
+pub use told::unplaced;

@@ -1,17 +1,27 @@
 // Whether each element of a sketch is told in a claim, a circle with its radius.
-ghost use Rattle.std.specs.Prelude.{◌↔◌, IsTrue, IsSome, Contains};
+ghost use Rattle.std.specs.Prelude.{◌↔◌, IsTrue, IsSome, IsNone, IfSome, Contains};
 ghost use Rattle.sk_base.specs.declared.Element.{Element as AnyElement};
 ghost use Rattle.sk_base.specs.Places.{place_of};
-ghost use Rattle.sk_base.specs.SoundSketch.{IsSoundShape, IsLength};
+ghost use Rattle.sk_base.specs.SoundSketch.{IsSoundSketch, IsSoundShape, IsLength};
 ghost use Rattle.sk_claims.specs.Claims.{radius_nm};
 ghost use Rattle.sk_verify.specs.AsClaimed.{HasItsRadius, IsTold};
+ghost use Rattle.sk_verify.specs.Failing.{AllTold, IsFirstUntold};
 ghost use Rattle.sk_verify.specs.Stepping.{IsTelling};
 
-use sk_base::{Elem, Element, Shape, Um};
+use sk_base::{Elem, Element, Shape, Sketch, Um};
 use sk_claims::{Claim, Radius};
 
+/// The first element, by number, that has no place in the claim, or is a circle and has another radius there than its own.
+pub fn unplaced(s: &Sketch, claim: &Claim) -> Option<Elem>
+    requires { IsSoundSketch s.now }
+    ensures none { IsNone result ↔ AllTold claim.now s.now.elements }
+    ensures some { IfSome result (IsFirstUntold claim.now s.now.elements) }
+{
+    first_untold(claim, s.elements.as_slice())
+}
+
 /// The first element that isn't told.
-pub(crate) fn first_untold(claim: &Claim, elements: &[Element]) -> Option<Elem>
+fn first_untold(claim: &Claim, elements: &[Element]) -> Option<Elem>
     requires { (x : AnyElement) → Contains elements.now x → IsSoundShape x.shape }
     ensures { IsTelling claim.now elements.now result }
 {
