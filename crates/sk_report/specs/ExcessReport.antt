@@ -41,10 +41,13 @@ abbrev pub turned_words : Option Turned → List ℕ
 turned_words None = []
 turned_words (Some t) = (codes " turned drawn " ++ (sign_text t.drawn ++ codes " placed")) ++ 32 ∷ whole_text t.placed
 
--- the constraint, what it is to the others, by how much it is off, and its sign where that is turned over
+-- the constraint, these words, by how much it is off, and its sign where that is turned over
+abbrev pub line_of_off : Sketch → List ℕ → ConId → OffBy → List ℕ
+line_of_off s words k off = ((((left_words s k ++ words) ++ 32 ∷ whole_text off.off) ++ off_unit off.length) ++ turned_words off.turned) ++ codes "\n"
+
+-- that of a constraint that is left out says what it is to the others
 abbrev pub off_line : Sketch → ℕ → ConId → OffBy → List ℕ
-off_line s limit k off =
-    ((((left_words s k ++ repeat_word (is_repeat limit off)) ++ 32 ∷ whole_text off.off) ++ off_unit off.length) ++ turned_words off.turned) ++ codes "\n"
+off_line s limit k off = line_of_off s (repeat_word (is_repeat limit off)) k off
 
 -- without the constraints that are left out the part is over still
 abbrev pub stays_over : List ℕ

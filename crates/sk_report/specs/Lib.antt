@@ -4,6 +4,7 @@ pub mod ExcessReport
 pub mod WhyLines
 pub mod FaultLines
 pub mod GrowReport
+pub mod MeasureReport
 pub mod PlanReport
 pub mod RefusalLine
 pub mod ReplyLines

@@ -1,6 +1,6 @@
 // The lines on what a drawing says too much.
 ghost use Rattle.std.specs.Prelude.{◌≡◌, ◌++◌, OnOk};
-ghost use Rattle.sk_report.specs.ExcessReport.{left_words, left_lines, is_repeat, repeat_word, off_unit, turned_words, off_line};
+ghost use Rattle.sk_report.specs.ExcessReport.{left_words, left_lines, is_repeat, repeat_word, off_unit, turned_words, line_of_off, off_line};
 
 use crate::fault::sign_text;
 use crate::solve::put_number;
@@ -46,8 +46,22 @@ pub fn put_off(
 ) -> Result<(), NoMemory>
     ensures { OnOk result (text.new ≡ text.old ++ off_line s.now limit number off.now) }
 {
+    put_line_of_off(alloc, text, s, repeat_word(limit, off), number, off)
+}
+
+/// Puts the line of a constraint: these words, by how much it is off, and its sign where that is turned over.
+pub(crate) fn put_line_of_off(
+    alloc: Global,
+    text: &mut Text,
+    s: &Sketch,
+    words: &str,
+    number: ConId,
+    off: &OffBy,
+) -> Result<(), NoMemory>
+    ensures { OnOk result (text.new ≡ text.old ++ line_of_off s.now words.now number off.now) }
+{
     put_left_words(alloc, text, s, number)?;
-    text.put(repeat_word(limit, off).as_bytes())?;
+    text.put(words.as_bytes())?;
     put_number(text, i128::from(off.off))?;
     text.put(off_unit(off.length).as_bytes())?;
     put_turned(alloc, text, off.turned)?;

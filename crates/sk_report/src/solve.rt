@@ -176,7 +176,7 @@ pub(crate) fn put_number(text: &mut Text, n: i128) -> Result<(), NoMemory>
 }
 
 /// Puts the two lines that tell the tolerance.
-pub(crate) fn put_tolerance(
+pub fn put_tolerance(
     alloc: Global,
     text: &mut Text,
     s: &Sketch,

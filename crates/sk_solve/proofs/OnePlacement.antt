@@ -53,7 +53,7 @@ one_constraint None (Some k) same = cc
 one_constraint (Some j) None same = cc
 one_constraint (Some j) (Some k) same = cc
 
-same_tolerance : (at : Placed) (g : Graph) (t u : Tolerance) → IsTolerance at g t → IsTolerance at g u → t ≡ u
+pub same_tolerance : (at : Placed) (g : Graph) (t u : Tolerance) → IsTolerance at g t → IsTolerance at g u → t ≡ u
 same_tolerance at g t u first second =
     let lengths = one_least (AllHold at (lengthwise g)) t.t u.t first.lengths second.lengths in
     let angles = one_least (AllHold at (anglewise g)) t.w u.w first.angles second.angles in
