@@ -3,7 +3,7 @@ use Rattle.std.proofs.Common.{◌≡◌, ◌==◌, ◌<◌, ◌+◌, ℕ, List, 
 use Rattle.std.specs.Prelude.{if◌then◌else◌, fold, Option, None, Some, Contains, true, false}
 use Rattle.sk_request.specs.declared.command.Account.TheVariants as accounts
 use Rattle.sk_request.specs.declared.command.Command.{Command}
-use Rattle.sk_request.specs.declared.command.Command.TheVariants.{Tell, Plan, Solve, Dxf, Offers, Session, Grow, Verify, Flips, Live}
+use Rattle.sk_request.specs.declared.command.Command.TheVariants.{Tell, Plan, Solve, Dxf, Offers, Session, Grow, Verify, Flips, Live, Complete, Measure}
 use Rattle.sk_request.specs.Commands.{command_word, commands, without_size}
 use Rattle.sk_request.specs.Asking.{traits, makes, size_in}
 
@@ -16,7 +16,8 @@ abbrev by_letters : ℕ → Command
 by_letters n =
     if n == 510 then Tell accounts.Judged else (if n == 427 then Plan else (if n == 553 then Solve else (if n == 322 then Dxf else (if n == 645 then Offers else (if n == 772 then Session else (
     if n == 447 then Grow 0 else (if n == 745 then Tell accounts.Migrated else (if n == 661 then Verify else (if n == 539 then Tell accounts.Spares else (
-    if n == 542 then Flips else (if n == 554 then Tell accounts.Shapes else (if n == 432 then Live else (if n == 651 then Tell accounts.Excesses else Tell accounts.Derived)))))))))))))
+    if n == 542 then Flips else (if n == 554 then Tell accounts.Shapes else (if n == 432 then Live else (if n == 651 then Tell accounts.Excesses else (
+    if n == 857 then Complete else (if n == 754 then Measure else (if n == 344 then Tell accounts.Reasons else Tell accounts.Derived))))))))))))))))
 
 abbrev letters : List ℕ → ℕ
 letters word = fold (λ n c. n + c) 0 word
@@ -28,6 +29,7 @@ by_word (Tell accounts.Spares) = refl
 by_word (Tell accounts.Derived) = refl
 by_word (Tell accounts.Shapes) = refl
 by_word (Tell accounts.Excesses) = refl
+by_word (Tell accounts.Reasons) = refl
 by_word Plan = refl
 by_word Solve = refl
 by_word Dxf = refl
@@ -37,6 +39,8 @@ by_word (Grow n) = refl
 by_word Verify = refl
 by_word Flips = refl
 by_word Live = refl
+by_word Complete = refl
+by_word Measure = refl
 
 -- each is listed
 pub command_listed : (c : Command) → Contains commands (without_size c)
@@ -55,6 +59,9 @@ command_listed (Tell accounts.Derived) = (11, omega arith, refl)
 command_listed (Tell accounts.Shapes) = (12, omega arith, refl)
 command_listed Live = (13, omega arith, refl)
 command_listed (Tell accounts.Excesses) = (14, omega arith, refl)
+command_listed Complete = (15, omega arith, refl)
+command_listed Measure = (16, omega arith, refl)
+command_listed (Tell accounts.Reasons) = (17, omega arith, refl)
 
 -- a word names a command but for its size
 pub one_without_size : (c d : Command) → command_word c ≡ command_word d → without_size c ≡ without_size d

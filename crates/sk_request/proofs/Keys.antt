@@ -18,7 +18,7 @@ use Rattle.sk_request.specs.declared.command.Traits.{Traits}
 use Rattle.sk_request.specs.Commands.{command_word}
 use Rattle.sk_request.specs.declared.request.Request.{Request}
 use Rattle.sk_request.specs.declared.settings.Settings.{Settings}
-use Rattle.sk_request.specs.Asking.{Key, OrderKey, BitsKey, WithinKey, PlaceKey, FrameKey, SizeKey, key_name, orders_by, places_by, traits, makes, takes, behind, values_of, IsKeyOf, IsOrder, IsBits, IsLimit, IsPlace, IsFrame, IsSize, IsSet, size_in, IsSized, LacksSize, Says, HasKeys}
+use Rattle.sk_request.specs.Asking.{Key, OrderKey, BitsKey, WithinKey, PlaceKey, FrameKey, SizeKey, key_name, orders_by, limits_by, places_by, traits, makes, takes, behind, values_of, IsKeyOf, IsOrder, IsBits, IsLimit, IsPlace, IsFrame, IsSize, IsSet, size_in, IsSized, LacksSize, Says, HasKeys}
 use Rattle.sk_request.specs.Settings.{AreSet, Adds}
 use Rattle.sk_request.proofs.KeyValues.{values_more, set_more, set_back, set_back_alone, said, one_set}
 use Rattle.sk_request.proofs.Numbers.{one_size}
@@ -29,7 +29,7 @@ use Rattle.sk_request.proofs.OtherKeys.{apart}
 same_takes : (c d : Command) → traits c ≡ traits d → (key : Key) → takes c key ≡ takes d key
 same_takes c d same OrderKey = ap (λ (t : Traits). orders_by t.keys) same
 same_takes c d same BitsKey = ap (λ (t : Traits). places_by t.keys) same
-same_takes c d same WithinKey = ap (λ (t : Traits). places_by t.keys) same
+same_takes c d same WithinKey = ap (λ (t : Traits). limits_by t.keys) same
 same_takes c d same PlaceKey = ap (λ (t : Traits). places_by t.keys) same
 same_takes c d same FrameKey = ap (λ (t : Traits). places_by t.keys) same
 same_takes c d same SizeKey = ap (λ (t : Traits). t.makes) same

@@ -13,9 +13,9 @@ use Rattle.sk_request.specs.declared.bits.Bits.TheVariants.{Sixteen, TwentySeven
 use Rattle.sk_request.specs.declared.command.Account.{Account}
 use Rattle.sk_request.specs.declared.command.Account.TheVariants as accounts
 use Rattle.sk_request.specs.declared.command.Command.{Command}
-use Rattle.sk_request.specs.declared.command.Command.TheVariants.{Tell, Plan, Solve, Dxf, Offers, Session, Grow, Verify, Flips, Live}
+use Rattle.sk_request.specs.declared.command.Command.TheVariants.{Tell, Plan, Solve, Dxf, Offers, Session, Grow, Verify, Flips, Live, Complete, Measure}
 use Rattle.sk_request.specs.declared.command.KeySet.{KeySet}
-use Rattle.sk_request.specs.declared.command.KeySet.TheVariants.{NoKeys, Ordering, Placing}
+use Rattle.sk_request.specs.declared.command.KeySet.TheVariants.{NoKeys, Limiting, Ordering, Placing}
 use Rattle.sk_request.specs.declared.command.Traits.{Traits}
 use Rattle.sk_request.specs.declared.request.Request.{Request}
 use Rattle.sk_request.specs.Commands.{command_word}
@@ -70,14 +70,22 @@ key_name PlaceKey = codes "place="
 key_name FrameKey = codes "frame="
 key_name SizeKey = codes "n="
 
--- which keys take an order, and which tell how elements are placed
+-- which keys take an order, which a limit, and which tell how elements are placed
 abbrev pub orders_by : KeySet → Bool
 orders_by NoKeys = false
+orders_by Limiting = false
 orders_by Ordering = true
 orders_by Placing = true
 
+abbrev pub limits_by : KeySet → Bool
+limits_by NoKeys = false
+limits_by Limiting = true
+limits_by Ordering = false
+limits_by Placing = true
+
 abbrev pub places_by : KeySet → Bool
 places_by NoKeys = false
+places_by Limiting = false
 places_by Ordering = false
 places_by Placing = true
 
@@ -89,6 +97,7 @@ account_keys accounts.Spares = NoKeys
 account_keys accounts.Derived = Ordering
 account_keys accounts.Shapes = Placing
 account_keys accounts.Excesses = Placing
+account_keys accounts.Reasons = NoKeys
 
 -- which keys a command takes beside its size, and whether it makes its sketch
 abbrev pub traits : Command → Traits
@@ -102,10 +111,16 @@ traits (Grow n) = record { keys = Placing; makes = true }
 traits Verify = record { keys = NoKeys; makes = false }
 traits Flips = record { keys = Placing; makes = false }
 traits Live = record { keys = Placing; makes = false }
+traits Complete = record { keys = NoKeys; makes = false }
+traits Measure = record { keys = Limiting; makes = false }
 
 -- it is told in which order to merge
 abbrev pub orders : Command → Bool
 orders command = orders_by (traits command).keys
+
+-- it measures where elements lie, or places them
+abbrev pub limits : Command → Bool
+limits command = limits_by (traits command).keys
 
 -- it places the elements of a sketch
 abbrev pub places : Command → Bool
@@ -115,11 +130,12 @@ places command = places_by (traits command).keys
 abbrev pub makes : Command → Bool
 makes command = (traits command).makes
 
--- the keys of a command: all but `migrate`, `verify` and `spare` take an order, those that place elements a grid, a limit, what places are and their frame, one that makes a sketch its size
+-- the keys of a command: all but `migrate`, `verify`, `spare`, `complete`, `measure` and `why` take an order, those that place elements
+-- a grid, what places are and their frame, these and `measure` a limit, one that makes a sketch its size
 abbrev pub takes : Command → Key → Bool
 takes command OrderKey = orders command
 takes command BitsKey = places command
-takes command WithinKey = places command
+takes command WithinKey = limits command
 takes command PlaceKey = places command
 takes command FrameKey = places command
 takes command SizeKey = makes command

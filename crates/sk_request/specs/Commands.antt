@@ -4,7 +4,7 @@ use Rattle.std.specs.List.{join_with_byte}
 use Rattle.sk_request.specs.declared.command.Account.{Account}
 use Rattle.sk_request.specs.declared.command.Account.TheVariants as accounts
 use Rattle.sk_request.specs.declared.command.Command.{Command}
-use Rattle.sk_request.specs.declared.command.Command.TheVariants.{Tell, Plan, Solve, Dxf, Offers, Session, Grow, Verify, Flips, Live}
+use Rattle.sk_request.specs.declared.command.Command.TheVariants.{Tell, Plan, Solve, Dxf, Offers, Session, Grow, Verify, Flips, Live, Complete, Measure}
 
 abbrev pub account_word : Account → List ℕ
 account_word accounts.Judged = codes "check"
@@ -13,6 +13,7 @@ account_word accounts.Spares = codes "spare"
 account_word accounts.Derived = codes "derive"
 account_word accounts.Shapes = codes "parts"
 account_word accounts.Excesses = codes "excess"
+account_word accounts.Reasons = codes "why"
 
 abbrev pub command_word : Command → List ℕ
 command_word (Tell account) = account_word account
@@ -25,6 +26,8 @@ command_word (Grow n) = codes "grow"
 command_word Verify = codes "verify"
 command_word Flips = codes "flips"
 command_word Live = codes "live"
+command_word Complete = codes "complete"
+command_word Measure = codes "measure"
 
 -- a command without its size
 abbrev pub without_size : Command → Command
@@ -35,7 +38,7 @@ without_size command = command
 abbrev pub commands : List Command
 commands =
     Tell accounts.Judged ∷ Plan ∷ Solve ∷ Dxf ∷ Offers ∷ Session ∷ Grow 0 ∷ Tell accounts.Migrated ∷ Verify ∷ Tell accounts.Spares ∷ Flips ∷ Tell accounts.Derived ∷ Tell accounts.Shapes ∷ Live
-    ∷ Tell accounts.Excesses ∷ []
+    ∷ Tell accounts.Excesses ∷ Complete ∷ Measure ∷ Tell accounts.Reasons ∷ []
 
 -- how a call is spelled: the word of a command, a bar between two, and the keys, each with its values
 abbrev pub usage_line : List ℕ

@@ -1,6 +1,6 @@
 // The commands by their words, and what each takes.
 ghost use Rattle.std.specs.Prelude.{◌≡◌, IfSome, IfNone};
-ghost use Rattle.sk_request.specs.Asking.{orders, places, makes, traits, account_keys, orders_by, places_by};
+ghost use Rattle.sk_request.specs.Asking.{orders, limits, places, makes, traits, account_keys, orders_by, limits_by, places_by};
 ghost use Rattle.sk_request.specs.declared.command.Command.{Command as AnyCommand};
 ghost use Rattle.sk_request.specs.Commands.{command_word};
 
@@ -19,6 +19,8 @@ pub enum Account {
     Shapes,
     /// Its parts that are over, and by how much each says too much.
     Excesses,
+    /// Its parts that are over, and against which constraints each that is left out is too many.
+    Reasons,
 }
 
 /// What the program does.
@@ -44,6 +46,10 @@ pub enum Command {
     Flips,
     /// Answers commands that edit a sketch, each before the next is asked for.
     Live,
+    /// Adds the constraints that a sketch lacks, with the values that are drawn.
+    Complete,
+    /// Measures how far the places behind a sketch are off.
+    Measure,
 }
 
 /// Which keys a command takes beside the size of a sketch that it makes.
@@ -51,6 +57,8 @@ pub enum Command {
 pub(crate) enum KeySet {
     /// No key.
     NoKeys,
+    /// The limit of tolerance.
+    Limiting,
     /// The order in which to merge.
     Ordering,
     /// The order, and how elements are placed: the grid, the limit, what places are, and their frame.
@@ -62,8 +70,17 @@ impl KeySet {
         ensures { result ≡ orders_by self }
     {
         match self {
-            KeySet::NoKeys => false,
+            KeySet::NoKeys | KeySet::Limiting => false,
             KeySet::Ordering | KeySet::Placing => true,
+        }
+    }
+
+    fn limits(self) -> bool
+        ensures { result ≡ limits_by self }
+    {
+        match self {
+            KeySet::NoKeys | KeySet::Ordering => false,
+            KeySet::Limiting | KeySet::Placing => true,
         }
     }
 
@@ -71,7 +88,7 @@ impl KeySet {
         ensures { result ≡ places_by self }
     {
         match self {
-            KeySet::NoKeys | KeySet::Ordering => false,
+            KeySet::NoKeys | KeySet::Limiting | KeySet::Ordering => false,
             KeySet::Placing => true,
         }
     }
@@ -92,7 +109,7 @@ impl Account {
     {
         match self {
             Account::Judged | Account::Derived => KeySet::Ordering,
-            Account::Migrated | Account::Spares => KeySet::NoKeys,
+            Account::Migrated | Account::Spares | Account::Reasons => KeySet::NoKeys,
             Account::Shapes | Account::Excesses => KeySet::Placing,
         }
     }
@@ -109,7 +126,8 @@ impl Command {
             Command::Solve | Command::Dxf | Command::Flips => (KeySet::Placing, false),
             Command::Session | Command::Live => (KeySet::Placing, false),
             Command::Grow(_) => (KeySet::Placing, true),
-            Command::Verify => (KeySet::NoKeys, false),
+            Command::Verify | Command::Complete => (KeySet::NoKeys, false),
+            Command::Measure => (KeySet::Limiting, false),
         };
         Traits { keys, makes }
     }
@@ -121,7 +139,14 @@ impl Command {
         self.traits().keys.orders()
     }
 
-    /// Whether it places elements, and so takes a grid, a limit, what places are and their frame.
+    /// Whether it measures where elements lie, and so takes a limit.
+    pub(crate) fn limits(self) -> bool
+        ensures { result ≡ limits self }
+    {
+        self.traits().keys.limits()
+    }
+
+    /// Whether it places elements, and so takes a grid, what places are and their frame.
     pub(crate) fn places(self) -> bool
         ensures { result ≡ places self }
     {
@@ -171,6 +196,12 @@ pub(crate) fn command_of(word: &str) -> Option<Command>
         Some(Command::Live)
     } else if word == "excess" {
         Some(Command::Tell(Account::Excesses))
+    } else if word == "complete" {
+        Some(Command::Complete)
+    } else if word == "measure" {
+        Some(Command::Measure)
+    } else if word == "why" {
+        Some(Command::Tell(Account::Reasons))
     } else {
         None
     }

@@ -75,16 +75,19 @@ impl Settings {
             let size = filled(self.size, size_of(value))?;
             return Some(Settings { size, ..self });
         }
+        if let Some(value) = behind(word, "within=") {
+            if !command.limits() {
+                return None;
+            }
+            let within = filled(self.within, limit_of(value))?;
+            return Some(Settings { within, ..self });
+        }
         if !command.places() {
             return None;
         }
         if let Some(value) = behind(word, "bits=") {
             let bits = filled(self.bits, bits_named(value))?;
             return Some(Settings { bits, ..self });
-        }
-        if let Some(value) = behind(word, "within=") {
-            let within = filled(self.within, limit_of(value))?;
-            return Some(Settings { within, ..self });
         }
         if let Some(value) = behind(word, "place=") {
             let place = filled(self.place, place_named(value))?;
