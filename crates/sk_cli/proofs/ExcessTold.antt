@@ -1,6 +1,7 @@
 -- What is told of the parts that are over, one behind another, and how far off each constraint is that is left out.
-use Rattle.std.proofs.Common.{◌≡◌, inl, inr, refl, ℕ, suc, ◌+◌, ◌<◌, List, [], ◌∷◌, ◌++◌, length, get_or, take, ap, sym, subst, ◌∙◌, arith, append_assoc}
+use Rattle.std.proofs.Common.{◌≡◌, ◌==◌, inl, inr, refl, ℕ, suc, ◌+◌, ◌<◌, List, [], ◌∷◌, ◌++◌, length, get_or, take, ap, sym, subst, ◌∙◌, arith, append_assoc}
 use Rattle.std.specs.Prelude.{Contains, Some}
+use Rattle.std.proofs.lemmas.Bool.Decides.{nat_tests}
 use Rattle.std.proofs.lemmas.List.{append-nil, length-take-le}
 use Rattle.std.proofs.Math.Seq.{take-suc}
 use Rattle.sk_base.specs.declared.ConId.{ConId}
@@ -9,7 +10,9 @@ use Rattle.sk_base.specs.declared.Elem.{Elem}
 use Rattle.sk_base.specs.declared.Placed.{Placed}
 use Rattle.sk_base.specs.declared.Sketch.{Sketch}
 use Rattle.sk_base.specs.SoundSketch.{IsSoundSketch}
-use Rattle.sk_base.proofs.Finding.{found_rising}
+use Rattle.sk_base.specs.declared.Graph.{Graph}
+use Rattle.sk_base.specs.Numbering.{con_exact}
+use Rattle.sk_base.proofs.Finding.{found_in, found_rising}
 use Rattle.sk_base.proofs.Members.{contains_head, contains_later, filtered_from}
 use Rattle.sk_family.specs.Body.{Start}
 use Rattle.sk_family.proofs.GraphStarts.{start_comes}
@@ -27,7 +30,7 @@ use Rattle.sk_tree.specs.declared.Plan.{Plan as ThePlan}
 use Rattle.sk_entry.specs.NumberedConstraint.{constraint_of}
 use Rattle.sk_tolerance.specs.declared.OffBy.{OffBy}
 use Rattle.sk_tolerance.specs.declared.Tolerance.{Tolerance}
-use Rattle.sk_tolerance.specs.Offs.{HasNumber}
+use Rattle.sk_tolerance.specs.Offs.{IsOff, HasNumber}
 use Rattle.sk_tolerance.specs.Telling.{IsCompared}
 use Rattle.sk_tolerance.specs.Turns.{senses}
 use Rattle.sk_tolerance.proofs.Numbered.{number_there}
@@ -37,11 +40,11 @@ use Rattle.sk_excess.specs.LeftOut.{AreLeftOut}
 use Rattle.sk_excess.specs.KeptSketch.{kept_sketch}
 use Rattle.sk_excess.proofs.Choosing.{left_has}
 use Rattle.sk_excess.proofs.KeptSketches.{kept_is_sound}
-use Rattle.sk_report.specs.ExcessReport.{off_line}
 use Rattle.sk_request.specs.declared.Request.{Request}
 use Rattle.sk_cli.specs.declared.solving.Report.TheVariants.{Shape}
 use Rattle.sk_cli.specs.declared.status.Status.TheVariants.{Done}
-use Rattle.sk_cli.specs.ExcessReport.{IsOffThere, AreOffsTold, StandsForOver, EachOverStands, IsPartExcess, AreExcessesTold}
+use Rattle.sk_cli.specs.OffsThere.{IsOffThere, AreOffsPut}
+use Rattle.sk_cli.specs.ExcessReport.{StandsForOver, EachOverStands, IsPartExcess, AreExcessesTold}
 use Rattle.sk_cli.specs.Solved.{IsPlacedPlan}
 use Rattle.sk_cli.proofs.Printed.{held_so}
 
@@ -81,29 +84,41 @@ module _ (own : Sketch) (sound : IsSoundSketch own) where
         let off = some_off (graph_of own) (graph_is_sound own sound) at exactly k has turned.0 in
         (off.0, record { constraint = c; numbered = numbered c c_in k named; by = off.1; turned = subst (λ o. IsCompared (senses own at k c.rule) o) (sym off.2) turned.1 })
 
+-- what is measured of the constraint of that number
+pub off_there : (at : Placed) (own : Sketch) (g : Graph) (k : ConId) (x : Constraint) (off : OffBy) → g ≡ graph_of own → constraint_of own k ≡ Some x → IsOff at g x.number off
+    → IsCompared (senses own at x.number x.rule) off.turned → IsOffThere at own k off
+off_there at own g k x off g_is numbered by turned =
+    let found = found_in (λ (y : Constraint). y.number.0 == k.0) own.constraints x numbered in
+    let named : x.number ≡ k = con_exact x.number k (grind (arith, nat_tests, found.1)) in record {
+      constraint = x;
+      numbered = numbered;
+      by = subst (λ (j : ConId). IsOff at (graph_of own) j off) named (subst (λ (h : Graph). IsOff at h x.number off) g_is by);
+      turned = subst (λ (j : ConId). IsCompared (senses own at j x.rule) off.turned) named turned;
+    }
+
 -- one line more
-offs_more : (limit : ℕ) (s : Sketch) (at : Placed) (left : List ConId) (k : ConId) (off : OffBy) (lines : List ℕ) → AreOffsTold limit s at left lines → IsOffThere at s k off
-    → AreOffsTold limit s at (left ++ k ∷ []) (lines ++ off_line s limit k off)
-offs_more limit s at [] k off lines none there = (off, [], there, refl, ap (λ l. l ++ off_line s limit k off) none ∙ sym (append-nil (off_line s limit k off)))
-offs_more limit s at (j ∷ left) k off lines (first, more, first_there, rest, is) there = (
+pub offs_more : (line : ConId → OffBy → List ℕ) (s : Sketch) (at : Placed) (left : List ConId) (k : ConId) (off : OffBy) (lines : List ℕ) → AreOffsPut line s at left lines → IsOffThere at s k off
+    → AreOffsPut line s at (left ++ k ∷ []) (lines ++ line k off)
+offs_more line s at [] k off lines none there = (off, [], there, refl, ap (λ l. l ++ line k off) none ∙ sym (append-nil (line k off)))
+offs_more line s at (j ∷ left) k off lines (first, more, first_there, rest, is) there = (
   first,
-  more ++ off_line s limit k off,
+  more ++ line k off,
   first_there,
-  offs_more limit s at left k off more rest there,
-  ap (λ l. l ++ off_line s limit k off) is ∙ append_assoc (off_line s limit j first) more (off_line s limit k off),
+  offs_more line s at left k off more rest there,
+  ap (λ l. l ++ line k off) is ∙ append_assoc (line j first) more (line k off),
 )
 
 -- the text so far, with a line more
-pub put_line : (limit : ℕ) (s : Sketch) (at : Placed) (left : List ConId) (i : ℕ) (d : ConId) → i < length left → (start old new : List ℕ)
-    → (lines : List ℕ) × AreOffsTold limit s at (take i left) lines × (old ≡ start ++ lines)
-    → (off : OffBy) × IsOffThere at s (get_or left i d) off × (new ≡ old ++ off_line s limit (get_or left i d) off)
-    → (lines : List ℕ) × AreOffsTold limit s at (take (i + 1) left) lines × (new ≡ start ++ lines)
-put_line limit s at left i d i_in start old new (lines, told, old_is) (off, there, new_is) =
+pub put_line : (line : ConId → OffBy → List ℕ) (s : Sketch) (at : Placed) (left : List ConId) (i : ℕ) (d : ConId) → i < length left → (start old new : List ℕ)
+    → (lines : List ℕ) × AreOffsPut line s at (take i left) lines × (old ≡ start ++ lines)
+    → (off : OffBy) × IsOffThere at s (get_or left i d) off × (new ≡ old ++ line (get_or left i d) off)
+    → (lines : List ℕ) × AreOffsPut line s at (take (i + 1) left) lines × (new ≡ start ++ lines)
+put_line line s at left i d i_in start old new (lines, told, old_is) (off, there, new_is) =
     let k = get_or left i d in
     let front_is : take (i + 1) left ≡ take i left ++ k ∷ [] = (let next_is : i + 1 ≡ suc i = omega arith in ap (λ n. take n left) next_is ∙ take-suc left i d i_in) in (
-      lines ++ off_line s limit k off,
-      subst (λ ks. AreOffsTold limit s at ks (lines ++ off_line s limit k off)) (sym front_is) (offs_more limit s at (take i left) k off lines told there),
-      new_is ∙ ap (λ t. t ++ off_line s limit k off) old_is ∙ append_assoc start lines (off_line s limit k off),
+      lines ++ line k off,
+      subst (λ ks. AreOffsPut line s at ks (lines ++ line k off)) (sym front_is) (offs_more line s at (take i left) k off lines told there),
+      new_is ∙ ap (λ t. t ++ line k off) old_is ∙ append_assoc start lines (line k off),
     )
 
 -- one part more
@@ -145,14 +160,14 @@ some_excesses request s (p ∷ parts) each number =
     (here.0 ++ rest.0, (here.0, rest.0, here.1, rest.1, refl))
 
 -- how far off each is that is left out
-pub some_offs : (limit : ℕ) (own : Sketch) → IsSoundSketch own → (at : Placed) → PlacesExactly (graph_of own) at → (left : List ConId)
-    → ((k : ConId) → Contains left k → (c : Constraint) × Contains own.constraints c × (c.number ≡ k)) → (text : List ℕ) × AreOffsTold limit own at left text
-some_offs limit own sound at exactly [] each = ([], refl)
-some_offs limit own sound at exactly (k ∷ left) each =
+pub some_offs : (line : ConId → OffBy → List ℕ) (own : Sketch) → IsSoundSketch own → (at : Placed) → PlacesExactly (graph_of own) at → (left : List ConId)
+    → ((k : ConId) → Contains left k → (c : Constraint) × Contains own.constraints c × (c.number ≡ k)) → (text : List ℕ) × AreOffsPut line own at left text
+some_offs line own sound at exactly [] each = ([], refl)
+some_offs line own sound at exactly (k ∷ left) each =
     let (c, c_in, named) = each k (contains_head k left) in
     let off = some_there own sound at exactly c c_in k named in
-    let rest = some_offs limit own sound at exactly left (λ j j_in. each j (contains_later k left j j_in)) in
-    (off_line own limit k off.0 ++ rest.0, (off.0, rest.0, off.1, rest.1, refl))
+    let rest = some_offs line own sound at exactly left (λ j j_in. each j (contains_later k left j j_in)) in
+    (line k off.0 ++ rest.0, (off.0, rest.0, off.1, rest.1, refl))
 
 -- what is told of each part that is over, in other words
 pub over_each : (Told Other : Sketch → List ℕ → Type 0) (s : Sketch) → ((xs : List Elem) (text : List ℕ) → Told (part_sketch s xs) text → Other (part_sketch s xs) text)

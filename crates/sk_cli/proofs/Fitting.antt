@@ -40,7 +40,7 @@ use Rattle.sk_excess.specs.KeptSketch.{kept_sketch}
 use Rattle.sk_excess.proofs.SomeLess.{number_in}
 use Rattle.sk_excess.proofs.KeptSketches.{kept_graph_is, kept_is_sound}
 use Rattle.sk_report.specs.ExcessReport.{is_repeat}
-use Rattle.sk_cli.specs.ExcessReport.{IsOffThere}
+use Rattle.sk_cli.specs.OffsThere.{IsOffThere}
 use Rattle.sk_cli.specs.Repeats.{AllFit}
 use Rattle.sk_cli.proofs.ExcessTold.{numbered}
 

@@ -1,10 +1,13 @@
+pub mod AcceptedOffs
 pub mod Answering
 pub mod Behind
+pub mod CompleteTold
 pub mod FlipsAnswered
 pub mod FlipsTold
 pub mod GapsNamed
 pub mod LiveAsSession
 pub mod LiveEnds
+pub mod MeasureTold
 pub mod Migrating
 pub mod OneLive
 pub mod OneOffering
@@ -25,9 +28,12 @@ pub mod Runs
 pub mod SessionTelling
 pub mod Sessions
 pub mod SomeAnswers
+pub mod SomeCompletions
+pub mod SomeMeasures
 pub mod SomeOutcomes
 pub mod SomePlacements
 pub mod SomeSessions
 pub mod SomeSpares
 pub mod Telling
 pub mod WhyEnds
+pub mod WhyMeasured

@@ -8,13 +8,14 @@ use Rattle.sk_lang.specs.Renumbered.{renumbered}
 use Rattle.sk_request.specs.declared.Account.{Account}
 use Rattle.sk_request.specs.declared.Account.TheVariants.{Migrated}
 use Rattle.sk_request.specs.declared.Command.{Command}
-use Rattle.sk_request.specs.declared.Command.TheVariants.{Tell, Plan, Solve, Dxf, Offers, Session, Grow, Verify, Flips, Live}
+use Rattle.sk_request.specs.declared.Command.TheVariants.{Tell, Plan, Solve, Dxf, Offers, Session, Grow, Verify, Flips, Live, Complete, Measure}
 use Rattle.sk_request.specs.declared.Request.{Request}
 use Rattle.sk_cli.specs.declared.solving.Report.{Report}
 use Rattle.sk_cli.specs.declared.solving.Report.TheVariants.{Places, Drawing}
 use Rattle.sk_cli.specs.declared.status.Status.{Status}
 use Rattle.sk_cli.specs.declared.status.Status.TheVariants.{Done, Refused}
 use Rattle.sk_cli.specs.Accounts.{IsAccount}
+use Rattle.sk_cli.specs.CompleteAnswer.{IsCompletedOrNot}
 use Rattle.sk_cli.specs.Outcome.{IsAccountAnswer, IsPlanOrReport, IsSolveAnswer, IsSolved, IsAnswerOf, IsOutcome}
 use Rattle.sk_cli.specs.Migration.{ReadsOneSketch, AskOfOneSketch, IsMigrated}
 use Rattle.sk_request.proofs.OneRequest.{same_request}
@@ -63,6 +64,9 @@ module _ (laws : LawsOfText) where
     answer_moved (Grow n) request one status text answer = absurd one
     answer_moved Verify request one status text answer = absurd one
     answer_moved Flips request one status text answer = absurd one
+    answer_moved Measure request one status text answer = absurd one
+    answer_moved Complete request one Refused text (r, refuses, is) = absurd (laws.not_both a s r.line r.code reads_a refuses)
+    answer_moved Complete request one status text (t, reads, told) = (s, reads_b, subst (λ (z : Sketch). IsCompletedOrNot z status text) (laws.one_sketch a t s reads reads_a) told)
 
     pub outcome_moved : (words : List (List ℕ)) → AskOfOneSketch words → (status : Status) (text : List ℕ) → IsOutcome words a status text → IsOutcome words b status text
     outcome_moved words (request, asks, one) status text (inr usage) = absurd (usage.0 (request, asks))

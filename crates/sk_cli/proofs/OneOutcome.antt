@@ -1,5 +1,5 @@
 -- Words and an input have one outcome at most.
-use Rattle.std.proofs.Common.{◌≡◌, ◌⊎◌, inl, inr, ℕ, ◌+◌, ◌<◌, ◌≤◌, List, [], ◌∷◌, ◌++◌, length, refl, sym, ap, ◌∙◌, subst, arith, append_assoc}
+use Rattle.std.proofs.Common.{◌≡◌, ◌≢◌, ◌⊎◌, inl, inr, ℕ, ◌+◌, ◌<◌, ◌≤◌, List, [], ◌∷◌, ◌++◌, length, refl, sym, ap, ◌∙◌, subst, arith, append_assoc}
 use Rattle.std.specs.Prelude.{take, drop, ◌==◌, Bool, ℤ, Option}
 use Rattle.sk_base.specs.declared.ConId.{ConId}
 use Rattle.sk_base.specs.declared.Constraint.{Constraint}
@@ -14,14 +14,17 @@ use Rattle.sk_tolerance.specs.declared.OffBy.{OffBy}
 use Rattle.sk_tolerance.specs.declared.Turned.{Turned}
 use Rattle.sk_tolerance.specs.Offs.{HasNumber}
 use Rattle.sk_tolerance.specs.Telling.{IsCompared}
-use Rattle.sk_tolerance.specs.Turns.{senses}
+use Rattle.sk_tolerance.specs.Tolerances.{everything}
+use Rattle.sk_tolerance.specs.Turns.{senses, constraint_signs, IsTurned}
 use Rattle.sk_tolerance.proofs.Numbered.{number_there}
+use Rattle.sk_tolerance.proofs.OneMeasured.{one_beyond, one_first, not_beyond, not_turned}
 use Rattle.sk_tolerance.proofs.OneOff.{one_off, one_compared}
 use Rattle.sk_excess.specs.KeptSketch.{kept_sketch}
 use Rattle.sk_excess.proofs.Choosing.{one_list as one_left}
 use Rattle.sk_excess.proofs.KeptSketches.{kept_is_sound}
 use Rattle.sk_report.specs.ExcessReport.{excess_head, left_lines, off_line}
-use Rattle.sk_cli.specs.ExcessReport.{IsOffThere, AreOffsTold, IsMeasuredLeft, IsFaultyLeft, IsOverLeft, IsExcess, IsPartExcess, AreExcessesTold, over_count}
+use Rattle.sk_cli.specs.OffsThere.{IsOffThere, AreOffsPut}
+use Rattle.sk_cli.specs.ExcessReport.{AreOffsTold, IsMeasuredLeft, IsFaultyLeft, IsOverLeft, IsExcess, IsPartExcess, AreExcessesTold, over_count}
 use Rattle.sk_base.specs.declared.Name.{Name}
 use Rattle.sk_base.specs.declared.Sketch.{Sketch}
 use Rattle.sk_base.specs.declared.Graph.{Graph}
@@ -69,14 +72,21 @@ use Rattle.sk_verify.specs.declared.failure.Failure.{Failure}
 use Rattle.sk_claims.specs.ClaimReading.{ReadsClaim}
 use Rattle.sk_verify.specs.Failing.{IsAccepted, FailsFirst}
 use Rattle.sk_verify.specs.Texts.{failure_line, verified_line}
-use Rattle.sk_verify.proofs.Answering.{not_both as not_both_failing, one_failure}
+use Rattle.sk_verify.proofs.Answering.{not_both as not_both_failing, one_failure, one_untold, untold_or_told}
+use Rattle.sk_claims.specs.PlaceReading.{ReadsPlaces}
+use Rattle.sk_claims.proofs.ReadPlaces.{one_claim as one_places, one_refusal as one_places_refusal, not_both as not_both_places}
+use Rattle.sk_report.specs.FaultLines.{passed_line, turned_line}
+use Rattle.sk_report.specs.MeasureReport.{measured_line, unplaced_line}
+use Rattle.sk_report.specs.SolveReport.{tolerance_lines}
+use Rattle.sk_cli.specs.MeasureAnswer.{HasPlaces, TellsOffs, IsFaultThere, IsMeasuredThere, IsMeasurement, RefusesPlacesBehind, IsMeasureAnswer, all_numbers}
+use Rattle.sk_cli.proofs.MeasureTold.{told_measure, told_measurement, told_fault}
 use Rattle.sk_claims.proofs.ClaimSoFar.{one_claim, one_refusal as one_claim_refusal, not_both as not_both_claims}
 use Rattle.sk_cli.specs.VerifyAnswer.{HasClaim, IsVerified, IsNotVerified, RefusesClaimBehind, IsVerifyRefusal, IsVerifyAnswer}
 use Rattle.sk_close_by_order.specs.declared.Order.{Order}
 use Rattle.sk_request.specs.declared.Account.{Account}
 use Rattle.sk_request.specs.declared.Account.TheVariants as accounts
 use Rattle.sk_request.specs.declared.Command.{Command}
-use Rattle.sk_request.specs.declared.Command.TheVariants.{Tell, Plan, Solve, Dxf, Offers, Session, Grow, Verify, Flips, Live}
+use Rattle.sk_request.specs.declared.Command.TheVariants.{Tell, Plan, Solve, Dxf, Offers, Session, Grow, Verify, Flips, Live, Complete, Measure}
 use Rattle.sk_request.specs.declared.Request.{Request}
 use Rattle.sk_cli.specs.declared.status.Status.{Status}
 use Rattle.sk_cli.specs.declared.status.Status.TheVariants.{Done, Refused, NotWell, NotVerified}
@@ -84,6 +94,7 @@ use Rattle.sk_cli.specs.declared.solving.Report.{Report}
 use Rattle.sk_cli.specs.declared.solving.Report.TheVariants.{Places, Drawing, Sums, Shape}
 use Rattle.sk_request.specs.Asking.{HasFitSize}
 use Rattle.sk_request.proofs.Sizes.{size_fits}
+use Rattle.sk_why.proofs.ReasonsTold.{one_report}
 use Rattle.sk_gen.specs.DatumSketch.{datum_sketch}
 use Rattle.sk_cli.specs.Accounts.{IsAccount}
 use Rattle.sk_cli.specs.PartsReport.{IsShape, IsBelowPart, ArePartsTold}
@@ -93,9 +104,10 @@ use Rattle.sk_verdict.specs.declared.Part.{Part}
 use Rattle.sk_request.specs.Grids.{grid_of, digits_of}
 use Rattle.sk_cli.specs.Solving.{IsPlacement, status_of, placement_words}
 use Rattle.sk_request.proofs.OneRequest.{same_request}
-use Rattle.sk_solve.proofs.OnePlacement.{same_placement, same_alternatives}
+use Rattle.sk_solve.proofs.OnePlacement.{same_placement, same_alternatives, same_tolerance}
 use Rattle.sk_flips.proofs.FlipsSoFar.{same_flips, same_refusal as one_flips_refusal, read_or_refused}
 use Rattle.sk_plan.proofs.PlanTrees.{some_plan_tree}
+use Rattle.sk_cli.specs.CompleteAnswer.{AskToComplete}
 use Rattle.sk_cli.specs.Outcome.{IsAccountOf, IsRefusalText, IsAccountAnswer, IsPlanReport, IsReportNotWell, IsPlanAnswer, IsPlanOrReport, IsSolved, IsSolveAnswer, IsGrowAnswer, IsAnswer, IsAnswerOf, IsOutcome, AreFirstReplies, AreLiveReplies}
 use Rattle.sk_cli.specs.LiveAnswer.{IsLiveAnswer, late_line}
 use Rattle.sk_cli.proofs.OneLive.{told_live, same_live}
@@ -530,7 +542,7 @@ same_parts law laws request s sound (p ∷ parts) number text another (below, mo
     ∙ ap (λ t. (part_line s number p ++ below') ++ t) (same_parts law laws request s sound parts (number + 1) more more' rest rest') ∙ sym is'
 
 -- how far off a constraint is
-same_off : (at : Placed) (own : Sketch) (k : ConId) (off other : OffBy) → IsOffThere at own k off → IsOffThere at own k other → off ≡ other
+pub same_off : (at : Placed) (own : Sketch) (k : ConId) (off other : OffBy) → IsOffThere at own k off → IsOffThere at own k other → off ≡ other
 same_off at own k off other there there' =
     let found = found_in (λ (x : Constraint). x.number.0 == k.0) own.constraints there.constraint there.numbered in
     let named : there.constraint.number ≡ k = con_exact there.constraint.number k (grind (arith, nat_tests, found.1)) in
@@ -542,11 +554,11 @@ same_off at own k off other there there' =
     let make : Bool → ℤ → Option Turned → OffBy = λ l n t. record { length = l; off = n; turned = t } in
     ap (λ l. make l off.off off.turned) same.0 ∙ ap (λ n. make other.length n off.turned) same.1 ∙ ap (λ t. make other.length other.off t) turned
 
-same_offs : (limit : ℕ) (at : Placed) (own : Sketch) (left : List ConId) (text another : List ℕ) → AreOffsTold limit own at left text → AreOffsTold limit own at left another → text ≡ another
-same_offs limit at own [] text another is is' = is ∙ sym is'
-same_offs limit at own (k ∷ left) text another (off, more, there, rest, is) (off', more', there', rest', is') =
-    is ∙ ap (λ o. off_line own limit k o ++ more) (same_off at own k off off' there there')
-    ∙ ap (λ t. off_line own limit k off' ++ t) (same_offs limit at own left more more' rest rest') ∙ sym is'
+same_offs : (line : ConId → OffBy → List ℕ) (at : Placed) (own : Sketch) (left : List ConId) (text another : List ℕ) → AreOffsPut line own at left text → AreOffsPut line own at left another → text ≡ another
+same_offs line at own [] text another is is' = is ∙ sym is'
+same_offs line at own (k ∷ left) text another (off, more, there, rest, is) (off', more', there', rest', is') =
+    is ∙ ap (λ o. line k o ++ more) (same_off at own k off off' there there')
+    ∙ ap (λ t. line k off' ++ t) (same_offs line at own left more more' rest rest') ∙ sym is'
 
 -- what is told of what is left out of a part that is over
 same_left : (request : Request) (own : Sketch) → IsSoundSketch own → (left : List ConId) (text another : List ℕ)
@@ -571,7 +583,7 @@ same_left request own own_sound left text another = by
     by (inl m) (inl n) = (
         let same = same_placed request (kept_sketch left own) sound m.plan n.plan (Holds m.at m.tolerance) (Holds n.at n.tolerance) m.placed n.placed in
         let places : m.at ≡ n.at = (let is = same.1 in cc) in
-        same_offs request.within n.at own left text another (subst (λ (z : Placed). AreOffsTold request.within own z left text) places m.told) n.told)
+        same_offs (off_line own request.within) n.at own left text another (subst (λ (z : Placed). AreOffsTold request.within own z left text) places m.told) n.told)
     by (inl m) (inr (inl f)) = absurd (not_both_ways m f)
     by (inl m) (inr (inr over)) = absurd (over.0 m.placed.plan.well)
     by (inr (inl f)) (inl m) = absurd (nor_so f m)
@@ -596,6 +608,82 @@ same_part_excess request s sound number p text another (inl (over, told)) (inr (
 same_part_excess request s sound number p text another (inr (not, is)) (inl (over, told)) = absurd (not over)
 same_part_excess request s sound number p text another (inr (not, is)) (inr (not', is')) = is ∙ sym is'
 
+-- ---- the places behind a sketch
+
+-- the first fault is one
+same_fault : (limit : ℕ) (s : Sketch) (at : Placed) (status other : Status) (line another : List ℕ) → IsFaultThere limit s at status line → IsFaultThere limit s at other another → (status ≡ other) × (line ≡ another)
+same_fault limit s at status other line another first second =
+    elim (told_fault limit s at status line first) [
+      | inl (is, (all, drawn, none)) ↦ elim (told_fault limit s at other another second) [
+        | inl (is', (all', drawn', none')) ↦ (is ∙ sym is', none ∙ sym none')
+        | inr (inl (is', (b, beyond, line_is))) ↦ absurd (not_beyond at (everything (graph_of s)) limit b all beyond)
+        | inr (inr (is', (all', (sign, turned, line_is)))) ↦ absurd (not_turned (constraint_signs s at s.constraints) sign drawn turned)
+      ]
+      | inr (inl (is, (b, beyond, line_is))) ↦ elim (told_fault limit s at other another second) [
+        | inl (is', (all', drawn', none')) ↦ absurd (not_beyond at (everything (graph_of s)) limit b all' beyond)
+        | inr (inl (is', (d, beyond', line_is'))) ↦ (is ∙ sym is', line_is ∙ ap (passed_line s) (one_beyond at (everything (graph_of s)) limit b d beyond beyond') ∙ sym line_is')
+        | inr (inr (is', (all', (sign, turned, line_is')))) ↦ absurd (not_beyond at (everything (graph_of s)) limit b all' beyond)
+      ]
+      | inr (inr (is, (all, (sign, turned, line_is)))) ↦ elim (told_fault limit s at other another second) [
+        | inl (is', (all', drawn', none')) ↦ absurd (not_turned (constraint_signs s at s.constraints) sign drawn' turned)
+        | inr (inl (is', (b, beyond, line_is'))) ↦ absurd (not_beyond at (everything (graph_of s)) limit b all beyond)
+        | inr (inr (is', (all', (other_sign, turned', line_is')))) ↦ (
+          is ∙ sym is',
+          line_is ∙ ap turned_line (one_first IsTurned (constraint_signs s at s.constraints) sign other_sign turned turned') ∙ sym line_is',
+        )
+      ]
+    ]
+
+same_offs_told : (s : Sketch) (at : Placed) (text another : List ℕ) → TellsOffs s at text → TellsOffs s at another → text ≡ another
+same_offs_told s at text another one other =
+    one.is ∙ ap (λ lines. lines ++ tolerance_lines s one.least) (same_offs (measured_line s) at s (all_numbers s) one.lines other.lines one.offs other.offs)
+    ∙ ap (λ t. other.lines ++ tolerance_lines s t) (same_tolerance at (graph_of s) one.least other.least one.tolerance other.tolerance) ∙ sym other.is
+
+same_there : (limit : ℕ) (s : Sketch) (at : Placed) (status other : Status) (text another : List ℕ) → IsMeasuredThere limit s at status text → IsMeasuredThere limit s at other another → (status ≡ other) × (text ≡ another)
+same_there limit s at status other text another one second =
+    let fault = same_fault limit s at status other one.line second.line one.fault second.fault in
+    (fault.0, one.is ∙ ap (λ offs. offs ++ one.line) (same_offs_told s at one.offs second.offs one.told second.told) ∙ ap (λ line. second.offs ++ line) fault.1 ∙ sym second.is)
+
+same_measurement : (limit : ℕ) (s : Sketch) (c : Claim) (status other : Status) (text another : List ℕ) → IsMeasurement limit s c status text → IsMeasurement limit s c other another → (status ≡ other) × (text ≡ another)
+same_measurement limit s c status other text another first second =
+    elim (told_measurement limit s c status text first) [
+      | inl (fails, (e, untold, is)) ↦ elim (told_measurement limit s c other another second) [
+        | inl (fails', (d, untold', is')) ↦ (fails ∙ sym fails', is ∙ ap (unplaced_line s) (one_untold c s.elements e d untold untold') ∙ sym is')
+        | inr (told, there) ↦ absurd (untold_or_told c s.elements e untold told)
+      ]
+      | inr (told, there) ↦ elim (told_measurement limit s c other another second) [
+        | inl (fails, (e, untold, is)) ↦ absurd (untold_or_told c s.elements e untold told)
+        | inr (told', there') ↦ same_there limit s c.at status other text another there there'
+      ]
+    ]
+
+module _ (laws : LowerLaws) (bytes : List ℕ) where
+  -- one front and the places behind it
+  pub same_places : (P : Sketch → Claim → Type 0) (f g : Front) (c d : Claim) → HasPlaces bytes f c → HasPlaces bytes g d → P f.sketch c → P g.sketch d
+  same_places P f g c d one other h =
+      let front_is : f ≡ g = laws.front.one_front bytes f g one.sketch other.sketch in
+      let claim_is : c ≡ d = one_places g.sketch (drop g.used bytes) c d (subst (λ (z : Front). ReadsPlaces z.sketch (drop z.used bytes) c) front_is one.placed) other.placed in
+      subst (λ (z : Claim). P g.sketch z) claim_is (subst (λ (z : Front). P z.sketch c) front_is h)
+
+  -- places that are read aren't refused
+  pub not_placed_and_refused : (f : Front) (c : Claim) (r : Refusal) → HasPlaces bytes f c → IsRefusedAt RefusesPlacesBehind bytes r → ⊥
+  not_placed_and_refused f c r has =
+      not_refused_at laws RefusesPlacesBehind bytes f r has.sketch (not_both_places f.sketch f.lines (drop f.used bytes) c r.line r.code has.placed)
+
+  same_measure : (limit : ℕ) (status other : Status) (text another : List ℕ) → IsMeasureAnswer limit bytes status text → IsMeasureAnswer limit bytes other another → (status ≡ other) × (text ≡ another)
+  same_measure limit status other text another first second =
+      elim (told_measure limit bytes status text first) [
+        | inl (refused, (r, at, is)) ↦ elim (told_measure limit bytes other another second) [
+          | inl (refused', (q, at', is')) ↦ (refused ∙ sym refused', is ∙ same_refused_at laws RefusesPlacesBehind bytes (λ front. one_places_refusal front.sketch front.lines) r q at at' ∙ sym is')
+          | inr (g, d, has, measured) ↦ absurd (not_placed_and_refused g d r has at)
+        ]
+        | inr (f, c, has, measured) ↦ elim (told_measure limit bytes other another second) [
+          | inl (refused, (r, at, is)) ↦ absurd (not_placed_and_refused f c r has at)
+          | inr (g, d, has', measured') ↦
+              same_measurement limit g.sketch d status other text another (same_places (λ s claim. IsMeasurement limit s claim status text) f g c d has has' measured) measured'
+        ]
+      ]
+
 same_excesses : (request : Request) (s : Sketch) → IsSoundSketch s → (parts : List Part) (number : ℕ) (text another : List ℕ)
     → AreExcessesTold request s number parts text → AreExcessesTold request s number parts another → text ≡ another
 same_excesses request s sound [] number text another is is' = is ∙ sym is'
@@ -618,6 +706,7 @@ same_account law laws accounts.Excesses request s sound text another (j, lines, 
     let same = same_judgement law (graph_of s) j k judged judged' in
     let moved : AreExcessesTold request s 1 k.parts lines = subst (λ (z : Judgement). AreExcessesTold request s 1 z.parts lines) same told in
     is ∙ ap (λ z. excess_head (over_count z.parts) ++ lines) same ∙ ap (λ t. excess_head (over_count k.parts) ++ t) (same_excesses request s sound k.parts 1 lines lines' moved told') ∙ sym is'
+same_account law laws accounts.Reasons request s sound text another told told' = one_report s sound text another told told'
 
 same_account_of : OneSketch → OneJudgement → LowerLaws → (account : Account) (request : Request) (bytes text another : List ℕ) → IsAccountOf account request bytes text → IsAccountOf account request bytes another → text ≡ another
 same_account_of one_sketch law laws account request bytes text another (s, reads, told) (t, reads', told') =
@@ -644,32 +733,34 @@ same_accounted one_sketch one_refusal not_both law laws account request bytes st
       ]
     ]
 
-same_answer : OneSketch → OneRefusal → NotBoth → OneJudgement → LowerLaws → (command : Command) (request : Request) → HasFitSize command → (bytes : List ℕ) (status other : Status) (text another : List ℕ)
+same_answer : OneSketch → OneRefusal → NotBoth → OneJudgement → LowerLaws → (command : Command) → command ≢ Complete → (request : Request) → HasFitSize command → (bytes : List ℕ) (status other : Status) (text another : List ℕ)
     → IsAnswerOf command request bytes status text → IsAnswerOf command request bytes other another → (status ≡ other) × (text ≡ another)
-same_answer one_sketch one_refusal not_both law laws (Tell account) request fit bytes status other text another first second =
+same_answer one_sketch one_refusal not_both law laws (Tell account) other_command request fit bytes status other text another first second =
     same_accounted one_sketch one_refusal not_both law laws account request bytes status other text another first second
-same_answer one_sketch one_refusal not_both law laws Offers request fit bytes status other text another first second = same_offers laws law bytes status other text another first second
-same_answer one_sketch one_refusal not_both law laws Verify request fit bytes status other text another first second = same_verify laws bytes status other text another first second
-same_answer one_sketch one_refusal not_both law laws Flips request fit bytes status other text another first second = same_flips_answer law laws request bytes status other text another first second
-same_answer one_sketch one_refusal not_both law laws Live request fit bytes status other text another first second =
+same_answer one_sketch one_refusal not_both law laws Offers other_command request fit bytes status other text another first second = same_offers laws law bytes status other text another first second
+same_answer one_sketch one_refusal not_both law laws Verify other_command request fit bytes status other text another first second = same_verify laws bytes status other text another first second
+same_answer one_sketch one_refusal not_both law laws Flips other_command request fit bytes status other text another first second = same_flips_answer law laws request bytes status other text another first second
+same_answer one_sketch one_refusal not_both law laws Live other_command request fit bytes status other text another first second =
     same_live laws.reply (one_solved law laws) request bytes status other text another first second
-same_answer one_sketch one_refusal not_both law laws Session request fit bytes status other text another first second = same_session law laws request bytes status other text another first second
-same_answer one_sketch one_refusal not_both law laws Solve request fit bytes status other text another first second =
+same_answer one_sketch one_refusal not_both law laws Session other_command request fit bytes status other text another first second = same_session law laws request bytes status other text another first second
+same_answer one_sketch one_refusal not_both law laws Solve other_command request fit bytes status other text another first second =
     same_solve_answer one_sketch one_refusal not_both law laws Places request bytes status other text another first second
-same_answer one_sketch one_refusal not_both law laws Dxf request fit bytes status other text another first second =
+same_answer one_sketch one_refusal not_both law laws Dxf other_command request fit bytes status other text another first second =
     same_solve_answer one_sketch one_refusal not_both law laws Drawing request bytes status other text another first second
-same_answer one_sketch one_refusal not_both law laws (Grow n) request fit bytes status other text another first second = same_grown law laws n request fit status other text another first second
-same_answer one_sketch one_refusal not_both law laws Plan request fit bytes status other text another first second =
+same_answer one_sketch one_refusal not_both law laws (Grow n) other_command request fit bytes status other text another first second = same_grown law laws n request fit status other text another first second
+same_answer one_sketch one_refusal not_both law laws Plan other_command request fit bytes status other text another first second =
     same_plan_answer one_sketch one_refusal not_both law laws request.order bytes status other text another first second
+same_answer one_sketch one_refusal not_both law laws Measure other_command request fit bytes status other text another first second = same_measure laws bytes request.within status other text another first second
+same_answer one_sketch one_refusal not_both law laws Complete other_command request fit bytes status other text another first second = absurd (other_command refl)
 
-pub same_outcome : OneSketch → OneRefusal → NotBoth → OneJudgement → LowerLaws → (words : List (List ℕ)) (bytes : List ℕ) (status other : Status) (text another : List ℕ)
+pub same_outcome : OneSketch → OneRefusal → NotBoth → OneJudgement → LowerLaws → (words : List (List ℕ)) → ¬ AskToComplete words → (bytes : List ℕ) (status other : Status) (text another : List ℕ)
     → IsOutcome words bytes status text → IsOutcome words bytes other another → (status ≡ other) × (text ≡ another)
-same_outcome one_sketch one_refusal not_both law laws words bytes status other text another first second =
+same_outcome one_sketch one_refusal not_both law laws words other_words bytes status other text another first second =
     elim first [
       | inl asked ↦ elim second [
         | inl asked' ↦
             let request_is = same_request words asked.0 asked'.0 asked.1 asked'.1 in
-            same_answer one_sketch one_refusal not_both law laws asked'.0.command asked'.0 (size_fits words asked'.0 asked'.1) bytes status other text another
+            same_answer one_sketch one_refusal not_both law laws asked'.0.command (λ same. other_words (asked'.0, asked'.1, same)) asked'.0 (size_fits words asked'.0 asked'.1) bytes status other text another
             (subst (λ (z : Request). IsAnswer z bytes status text) request_is asked.2) asked'.2
         | inr usage ↦ absurd (usage.0 (asked.0, asked.1))
       ]

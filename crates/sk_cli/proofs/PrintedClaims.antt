@@ -1,4 +1,4 @@
--- What `plan` and `solve` print of a sketch is a claim that is accepted.
+-- What `plan` and `solve` print of a sketch is a claim that is accepted, and the places alone are read.
 use Rattle.std.proofs.Common.{◌≡◌, ◌≢◌, inl, inr, ℕ, ◌+◌, ◌*◌, ◌-◌, ◌<◌, ◌≤◌, pos, List, [], ◌∷◌, ◌++◌, length, get_or, map, Option, None, Some, refl, sym, ap, subst, ◌∙◌, arith}
 use Rattle.std.specs.Prelude.{AllPairs, Contains, IsSome, unwrap_or}
 use Rattle.std.specs.Option.{option_map}
@@ -45,7 +45,9 @@ use Rattle.sk_claims.specs.declared.claim.Radius.{Radius}
 use Rattle.sk_claims.specs.Claims.{IsFitting, radius_nm}
 use Rattle.sk_verify.specs.AsClaimed.{HasItsRadius}
 use Rattle.sk_claims.specs.ClaimReading.{ReadsClaim}
-use Rattle.sk_claims.specs.ClaimText.{radius_drawn, radii_drawn}
+use Rattle.sk_claims.specs.ClaimText.{radius_drawn, radii_drawn, places_drawn}
+use Rattle.sk_claims.specs.PlaceReading.{ReadsPlaces}
+use Rattle.sk_claims.proofs.PlacesBack.{places_back}
 use Rattle.sk_verify.specs.Failing.{AllTold, IsAccepted}
 use Rattle.sk_claims.specs.Printed.{HasPlainNumber}
 use Rattle.sk_verify.proofs.Accepting.{accepted_so}
@@ -57,9 +59,9 @@ use Rattle.sk_request.specs.Asking.{WithinKey, values_of, IsLimit, Says, Asks}
 use Rattle.sk_request.specs.Grids.{grid_of, digits_of}
 use Rattle.sk_request.specs.declared.Request.{Request}
 use Rattle.sk_cli.specs.Headline.{HoldsAt}
-use Rattle.sk_cli.specs.PrintedClaim.{printed_text, printed_claim}
+use Rattle.sk_cli.specs.PrintedClaim.{printed_text, printed_places, printed_claim}
 use Rattle.sk_cli.proofs.PlacedSpots.{laid_spots}
-use Rattle.sk_cli.proofs.PrintedLines.{IsFound, text_of_claim}
+use Rattle.sk_cli.proofs.PrintedLines.{IsFound, text_of_claim, text_of_places}
 
 -- ---- the limit of tolerance
 
@@ -231,6 +233,15 @@ module _ (s : Sketch) (sound : IsSoundSketch s) (numbered : renumbered s ≡ s) 
       let is = holds.exactly.nodes (node_of x) (contains_mapped node_of s.elements x x_in) in
       let at_spot = spot_of here x.number is.placed in
       record { placed = is.placed; radius = own_radius x x_in x.shape (drawn_so s sound x.number x x_in refl) at_spot.0 at_spot.1 at_spot.2 }
+
+  places_fit : IsFitting (graph_of s) (places_drawn s here)
+  places_fit = record { spots = fits_here.spots; spots_differ = fits_here.spots_differ; radii_differ = fits_here.radii_differ; t = omega arith; w = omega arith }
+
+  pub places_read : ReadsPlaces s (printed_places s here) (places_drawn s here)
+  places_read = subst (λ (text : List ℕ). ReadsPlaces s text (places_drawn s here)) (sym (text_of_places s here are_spots found_element spot_placed)) (places_back s here sound places_fit)
+
+  pub places_told : AllTold (places_drawn s here) s.elements
+  places_told x x_in = (let told = all_told x x_in in record { placed = told.placed; radius = told.radius })
 
   module _ (few : 2 * length p.steps ≡ length (graph_of s).edges + length (graph_of s).blocks - 1) where
     pub printed_reads : ReadsClaim s (printed_text s p here t) (printed_claim s p here t)

@@ -1,4 +1,4 @@
--- What `plan` and `solve` print, and the tolerances, are the lines of a claim.
+-- What `plan` and `solve` print, and the tolerances, are the lines of a claim; the element lines and an `end` are those of places.
 use Rattle.std.proofs.Common.{◌≡◌, ℕ, ℤ, pos, ◌*ℤ◌, List, [], ◌∷◌, ◌++◌, map, Some, codes, refl, sym, ap, ◌∙◌, arith, append_assoc, append-nil}
 use Rattle.std.specs.Prelude.{Contains}
 use Rattle.std.specs.List.{flat_map}
@@ -29,8 +29,8 @@ use Rattle.sk_tree.specs.declared.Choice.TheVariants.{Turn, Advance, Nothing}
 use Rattle.sk_tree.specs.declared.PlanStep.{PlanStep}
 use Rattle.sk_tree.specs.declared.Plan.{Plan as ThePlan}
 use Rattle.sk_claims.specs.Claims.{radius_nm}
-use Rattle.sk_claims.specs.ClaimText.{choice_words, step_words, lying_words, spot_words, tolerance_words, claim_text}
-use Rattle.sk_cli.specs.PrintedClaim.{tolerance_line, printed_text, printed_claim}
+use Rattle.sk_claims.specs.ClaimText.{choice_words, step_words, lying_words, spot_words, tolerance_words, claim_text, places_text as text_of}
+use Rattle.sk_cli.specs.PrintedClaim.{tolerance_line, printed_text, printed_places, printed_claim}
 
 -- the line of the words
 abbrev line_of : List (List ℕ) → List ℕ
@@ -158,3 +158,8 @@ text_of_claim s p at t are found placed =
     ∙ ap (λ (text : List ℕ). ended_lines (map spaced steps) ++ (text ++ tolerance_line t)) (places_text s at s.elements at.spots are found placed)
     ∙ ap (λ (text : List ℕ). ended_lines (map spaced steps) ++ text) (sym (ended_parts places last))
     ∙ sym (ended_parts steps (places ++ last))
+
+pub text_of_places : (s : Sketch) (at : Placed) → AreSpotsOf (map node_of s.elements) at.spots → ((e : Element) → Contains s.elements e → IsFound s e)
+    → ((spot : Spot) → Contains at.spots spot → place_of at spot.elem ≡ Some spot.at) → printed_places s at ≡ text_of s at
+text_of_places s at are found placed =
+    ap (λ (text : List ℕ). text ++ codes "end\n") (places_text s at s.elements at.spots are found placed) ∙ sym (ended_parts (map (spot_words s) at.spots) ((codes "end" ∷ []) ∷ []))

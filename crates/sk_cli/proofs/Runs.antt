@@ -14,11 +14,12 @@ use Rattle.sk_lang.specs.Front.{RefusesFront}
 use Rattle.sk_lang.specs.declared.Front.{Front}
 use Rattle.sk_cli.specs.Fronts.{IsRefusedAt}
 use Rattle.sk_cli.specs.FlipsReport.{RefusesFlipsBehind}
+use Rattle.sk_cli.specs.MeasureAnswer.{RefusesPlacesBehind}
 use Rattle.sk_cli.specs.OffersReport.{RefusesOffersBehind}
 use Rattle.sk_cli.specs.VerifyAnswer.{RefusesClaimBehind}
 use Rattle.sk_request.specs.declared.Account.{Account}
 use Rattle.sk_request.specs.declared.Command.{Command}
-use Rattle.sk_request.specs.declared.Command.TheVariants.{Tell, Plan, Solve, Dxf, Offers, Session, Grow, Verify, Flips, Live}
+use Rattle.sk_request.specs.declared.Command.TheVariants.{Tell, Plan, Solve, Dxf, Offers, Session, Grow, Verify, Flips, Live, Complete, Measure}
 use Rattle.sk_solve.specs.declared.Placement.{Placement}
 use Rattle.sk_request.specs.declared.Request.{Request}
 use Rattle.sk_cli.specs.declared.solving.Report.{Report}
@@ -34,6 +35,7 @@ use Rattle.sk_cli.specs.SessionAnswer.{RepliesToFront}
 use Rattle.sk_cli.specs.LiveEnding.{LiveEnds, AllLiveFit}
 use Rattle.sk_cli.specs.SessionEnding.{SessionEnds}
 use Rattle.sk_cli.specs.Ending.{IsTold, AskForLive, Ends, Sends}
+use Rattle.sk_cli.proofs.CompleteTold.{other_completed}
 
 -- the bytes that are told, or any
 told_bytes : (left : Option (List ℕ)) → (bytes : List ℕ) × IsTold left bytes
@@ -98,6 +100,10 @@ still_answered text bytes long longer Session whole request Done out answer = ab
 still_answered text bytes long longer Session whole request Refused out answer = (omega (arith, longer), answer.1)
 still_answered text bytes long longer Session whole request status out answer = absurd answer
 still_answered text bytes long longer Live whole request status out answer = absurd (whole refl)
+still_answered text bytes long longer Complete whole request Refused out answer = (answer.0, still_refused text bytes long longer answer.0.line answer.0.code answer.1, answer.2)
+still_answered text bytes long longer Complete whole request status out answer = absurd (omega (arith, long, answer.1.fits))
+still_answered text bytes long longer Measure whole request Refused out answer = (answer.0, still_refused_at RefusesPlacesBehind text bytes long longer answer.0 answer.1, answer.2)
+still_answered text bytes long longer Measure whole request status out answer = absurd (omega (arith, long, answer.2.sketch.fits))
 
 -- an answer to what was taken is one to all
 answer_of_front : (text bytes : List ℕ) → text ≡ take 1048577 bytes → (request : Request) → request.command ≢ Live → (status : Status) (out : List ℕ) → IsAnswer request text status out → IsAnswer request bytes status out
@@ -154,6 +160,8 @@ no_read_fault Flips request bytes text answer = answer.3
 no_read_fault Session request bytes text answer = answer
 no_read_fault Verify request bytes text answer = answer
 no_read_fault Live request bytes text answer = answer
+no_read_fault Complete request bytes text answer = other_completed ReadFault answer.2.0 answer.2.2 (λ same. cc) (λ same. cc)
+no_read_fault Measure request bytes text answer = answer.3.1.fault
 
 no_want : (command : Command) (request : Request) (bytes text : List ℕ) → ¬ IsAnswerOf command request bytes NoMemory text
 no_want (Tell account) request bytes text answer = answer
@@ -166,6 +174,8 @@ no_want Flips request bytes text answer = answer.3
 no_want Session request bytes text answer = answer
 no_want Verify request bytes text answer = answer
 no_want Live request bytes text answer = answer
+no_want Complete request bytes text answer = other_completed NoMemory answer.2.0 answer.2.2 (λ same. cc) (λ same. cc)
+no_want Measure request bytes text answer = answer.3.1.fault
 
 no_write_fault : (command : Command) (request : Request) (bytes text : List ℕ) → ¬ IsAnswerOf command request bytes WriteFault text
 no_write_fault (Tell account) request bytes text answer = answer
@@ -178,6 +188,8 @@ no_write_fault Flips request bytes text answer = answer.3
 no_write_fault Session request bytes text answer = answer
 no_write_fault Verify request bytes text answer = answer
 no_write_fault Live request bytes text answer = answer
+no_write_fault Complete request bytes text answer = other_completed WriteFault answer.2.0 answer.2.2 (λ same. cc) (λ same. cc)
+no_write_fault Measure request bytes text answer = answer.3.1.fault
 
 outcome_no_read_fault : (words : List (List ℕ)) (bytes text : List ℕ) → ¬ IsOutcome words bytes ReadFault text
 outcome_no_read_fault words bytes text outcome = elim outcome [ inl asked ↦ no_read_fault asked.0.command asked.0 bytes text asked.2 | inr usage ↦ (let same = usage.1 in cc) ]

@@ -31,10 +31,18 @@ use Rattle.sk_verify.specs.Texts.{failure_line, verified_line}
 use Rattle.sk_claims.proofs.ClaimSoFar.{some_answer as claim_or_refused}
 use Rattle.sk_claims.proofs.FittingClaims.{read_claim_fits}
 use Rattle.sk_verify.proofs.SomeFailures.{accepted_or_failing}
+use Rattle.sk_claims.proofs.ReadPlaces.{some_answer as places_or_refused}
+use Rattle.sk_claims.proofs.FittingPlaces.{read_places_fit}
+use Rattle.sk_complete.specs.CompletionText.{completion_text}
+use Rattle.sk_why.proofs.ReasonsTold.{some_report}
+use Rattle.sk_cli.specs.CompleteAnswer.{completion_status}
+use Rattle.sk_cli.proofs.MeasureTold.{as_answer}
+use Rattle.sk_cli.proofs.SomeMeasures.{some_measurement}
+use Rattle.sk_cli.proofs.SomeCompletions.{some_completion, given_so}
 use Rattle.sk_request.specs.declared.Account.{Account}
 use Rattle.sk_request.specs.declared.Account.TheVariants as accounts
 use Rattle.sk_request.specs.declared.Command.{Command}
-use Rattle.sk_request.specs.declared.Command.TheVariants.{Tell, Plan, Solve, Dxf, Offers, Session, Grow, Verify, Flips, Live}
+use Rattle.sk_request.specs.declared.Command.TheVariants.{Tell, Plan, Solve, Dxf, Offers, Session, Grow, Verify, Flips, Live, Complete, Measure}
 use Rattle.sk_tolerance.specs.declared.Wanted.TheVariants.{Drawn}
 use Rattle.sk_solve.specs.declared.Placement.{Placement}
 use Rattle.sk_cli.specs.Solved.{IsPlacedPlan}
@@ -71,7 +79,7 @@ use Rattle.sk_excess.specs.KeptSketch.{kept_sketch}
 use Rattle.sk_excess.proofs.Choosing.{some_left_out}
 use Rattle.sk_excess.proofs.KeptSketches.{kept_is_sound}
 use Rattle.sk_parts.proofs.OverParts.{over_is_one}
-use Rattle.sk_report.specs.ExcessReport.{excess_head, left_lines, stays_over}
+use Rattle.sk_report.specs.ExcessReport.{excess_head, left_lines, off_line, stays_over}
 use Rattle.sk_parts.specs.OwnSketch.{part_sketch}
 use Rattle.sk_parts.proofs.Drawing.{part_is_sound}
 use Rattle.sk_parts.proofs.Sharing.{some_judged}
@@ -153,7 +161,7 @@ some_left request own sound some left are =
     placed_so p (Beyond b) placed = fails p (Beyond b) placed (λ e. cc)
     placed_so p (Turned t) placed = fails p (Turned t) placed (λ e. cc)
     placed_so p (Holds at t) placed = (
-        let told = some_offs request.within own sound at (kept_places own sound request left p at t placed) left (left_numbered own sound left are) in
+        let told = some_offs (off_line own request.within) own sound at (kept_places own sound request left p at t placed) left (left_numbered own sound left are) in
         (told.0, inl (record { plan = p; at = at; tolerance = t; placed = placed; told = told.1 })))
 
 -- what is told of a part
@@ -183,6 +191,7 @@ some_account accounts.Excesses request s sketch =
     let j = the_judgement_of s sketch in
     let told = some_excesses request s j.0.parts (λ p number p_in. some_part request s sketch j.0 j.1 p p_in number) 1 in
     (excess_head (over_count j.0.parts) ++ told.0, (j.0, told.0, j.1, told.1, refl))
+some_account accounts.Reasons request s sketch = some_report s sketch
 
 accounted : LawsBelow → (account : Account) (request : Request) (bytes : List ℕ) → (status : Status) × (text : List ℕ) × IsAccountAnswer account request bytes status text
 accounted laws account request bytes =
@@ -293,6 +302,35 @@ flips_answer laws request bytes =
               ))
         ]
 
+-- the places behind a sketch are measured, or an element has none
+measure_answer : LawsBelow → (request : Request) (bytes : List ℕ) → Answered Measure request bytes
+measure_answer laws request bytes =
+    elim (laws.front bytes) [
+      | inr (n, (code, refuses)) ↦ (let r : Refusal = record { line = n; code = code } in (Refused, refusal_line r, (r, inl refuses, refl)))
+      | inl (f, front) ↦ elim (places_or_refused f.sketch f.lines (drop f.used bytes)) [
+        | inr (n, (code, refuses)) ↦ (let r : Refusal = record { line = n; code = code } in (Refused, refusal_line r, (r, inr (f, front, refuses), refl)))
+        | inl (claim, reads) ↦ (
+            let s = f.sketch in
+            let sketch = laws.sound (take f.used bytes) s front.reads in
+            let fits = read_places_fit s (drop f.used bytes) claim reads in
+            let found = some_measurement request.within s sketch claim fits in
+            (found.0, found.1, as_answer request.within bytes found.0 found.1 (f, claim, record { sketch = front; placed = reads }, found.2)))
+      ]
+    ]
+
+-- the sketch is completed, or it is told why not
+complete_answer : LawsBelow → (request : Request) (bytes : List ℕ) → Answered Complete request bytes
+complete_answer laws request bytes =
+    elim (laws.answer bytes) [
+      | inr (n, (code, refuses)) ↦ (let r : Refusal = record { line = n; code = code } in (Refused, refusal_line r, (r, refuses, refl)))
+      | inl (s, reads) ↦ (
+          let sketch = laws.sound bytes s reads in
+          let j = the_judgement_of s sketch in
+          let c = some_completion s sketch (laws.some bytes s reads) j.0 j.1 in
+          let text = completion_text s j.0 c.0 in
+          (completion_status c.0, text, given_so bytes text s reads c.0 (record { judgement = j.0; judged = j.1; given = c.1; is = refl })))
+    ]
+
 answered : LawsBelow → (command : Command) (request : Request) → HasFitSize command → (bytes : List ℕ) → Answered command request bytes
 answered laws (Tell account) request size bytes = accounted laws account request bytes
 answered laws Verify request size bytes = verify_answer laws request bytes
@@ -305,6 +343,8 @@ answered laws Session request size bytes =
     some_session laws.language laws.to_solve (λ asked s sound some. (let found = solved Places asked s sound some in (found.0, found.1, found.3))) request bytes
 answered laws Live request size bytes =
     some_live laws.language laws.to_solve (λ asked s sound some. (let found = solved Places asked s sound some in (found.0, found.1, found.3))) request bytes
+answered laws Complete request size bytes = complete_answer laws request bytes
+answered laws Measure request size bytes = measure_answer laws request bytes
 answered laws (Grow n) request size bytes = let found = solved Sums request (datum_sketch n) (laws.made n size.0 size.1) (omega arith) in (found.0, found.1, found.3)
 
 pub some_outcome : LawsBelow → (words : List (List ℕ)) (bytes : List ℕ) → (status : Status) × (text : List ℕ) × IsOutcome words bytes status text

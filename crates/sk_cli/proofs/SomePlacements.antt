@@ -1,5 +1,6 @@
 -- Each legal plan is placed somehow on a grid, and something comes of each list of steps.
 use Rattle.std.proofs.Common.{◌≡◌, inl, inr, refl, ℕ, ◌≤◌, List, [], ◌∷◌, Option, None, Some, Result, Ok, Err, arith}
+use Rattle.sk_base.specs.declared.Graph.{Graph}
 use Rattle.sk_base.specs.declared.Name.{Name}
 use Rattle.sk_base.specs.declared.Placed.{Placed}
 use Rattle.sk_base.specs.declared.Sketch.{Sketch}
@@ -22,6 +23,7 @@ use Rattle.sk_frame.proofs.SoundFrames.{frame_is_sound}
 use Rattle.sk_request.specs.declared.Bits.{Bits}
 use Rattle.sk_request.specs.declared.Bits.TheVariants.{Sixteen, TwentySeven, ThirtyEight}
 use Rattle.sk_request.specs.Grids.{digits_of}
+use Rattle.sk_tolerance.specs.declared.Tolerance.{Tolerance}
 use Rattle.sk_tolerance.specs.declared.Wanted.{Wanted}
 use Rattle.sk_tolerance.specs.declared.Wanted.TheVariants.{Chosen}
 use Rattle.sk_measure.specs.Placing.{PlacesExactly}
@@ -35,13 +37,27 @@ use Rattle.sk_solve.specs.declared.Placement.{Placement}
 use Rattle.sk_solve.specs.declared.Placement.TheVariants.{Fault, Uncarried, Beyond, Turned, Holds}
 use Rattle.sk_solve.specs.Alternatives.{alternative_of, IsAlternative, AreAlternatives}
 use Rattle.sk_flips.specs.Flipping.{first_without_choice, flipped}
-use Rattle.sk_solve.specs.Placements.{midpoints, IsCarried, IsLaid, IsMeasured, IsPlacement}
+use Rattle.sk_solve.specs.Placements.{midpoints, IsCarried, IsLaid, IsTolerance, IsMeasured, IsPlacement}
 use Rattle.sk_flips.proofs.FlippedPlans.{flipped_is_legal}
 use Rattle.sk_solve.proofs.InTurn.{is_alternative}
 use Rattle.sk_solve.proofs.SpotsPlaced.{measured_there}
 use Rattle.sk_cli.proofs.PlacedSpots.{laid_exactly}
 use Rattle.sk_tolerance.proofs.SomeMeasures.{own_everything, own_lengthwise, own_anglewise, some_told, searched, compared}
 use Rattle.sk_place.proofs.SomePlaces.{some_places}
+
+-- placed elements have least tolerances
+pub some_tolerance : (at : Placed) (g : Graph) → IsSoundGraph g → PlacesExactly g at → (t : Tolerance) × IsTolerance at g t
+some_tolerance at g sound exactly =
+    let lengths = some_told at (lengthwise g) (own_lengthwise g at sound exactly) in
+    let angles = some_told at (anglewise g) (own_anglewise g at sound exactly) in (
+      record { t = lengths.0; w = angles.0; worst_t = spotted_constraint lengths.1; worst_w = angles.1 },
+      record {
+        lengths = lengths.2.least;
+        angles = angles.2.least;
+        worst_length = worst_lengthwise_named at g lengths.0 lengths.1 lengths.2.at;
+        worst_angle = angles.2.at;
+      },
+    )
 
 some_measured : (wanted : Wanted) (limit : ℕ) (s : Sketch) (p : ThePlan) (at : Placed) → IsSoundGraph (graph_of s) → PlacesExactly (graph_of s) at → (q : Placement) × IsMeasured wanted limit s p at q
 some_measured wanted limit s p at sound exactly =
@@ -50,22 +66,7 @@ some_measured wanted limit s p at sound exactly =
       | inr (b, first) ↦ (Beyond b, first)
       | inl all ↦ elim (compared (signs_wanted wanted s at p)) [
         | inr (t, first) ↦ (Turned t, (all, first))
-        | inl drawn ↦ (
-            let lengths = some_told at (lengthwise g) (own_lengthwise g at sound exactly) in
-            let angles = some_told at (anglewise g) (own_anglewise g at sound exactly) in (
-              Holds at (record { t = lengths.0; w = angles.0; worst_t = spotted_constraint lengths.1; worst_w = angles.1 }),
-              (
-                refl,
-                all,
-                drawn,
-                record {
-                  lengths = lengths.2.least;
-                  angles = angles.2.least;
-                  worst_length = worst_lengthwise_named at g lengths.0 lengths.1 lengths.2.at;
-                  worst_angle = angles.2.at;
-                },
-              ),
-            ))
+        | inl drawn ↦ (let t = some_tolerance at g sound exactly in (Holds at t.0, (refl, all, drawn, t.1)))
       ]
     ]
 

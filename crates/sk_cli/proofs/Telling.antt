@@ -28,7 +28,7 @@ use Rattle.sk_close_by_order.specs.declared.Order.{Order}
 use Rattle.sk_request.specs.declared.Account.{Account}
 use Rattle.sk_request.specs.declared.Account.TheVariants as accounts
 use Rattle.sk_request.specs.declared.Command.{Command}
-use Rattle.sk_request.specs.declared.Command.TheVariants.{Tell, Plan, Solve, Dxf, Offers, Session, Grow, Verify, Flips, Live}
+use Rattle.sk_request.specs.declared.Command.TheVariants.{Tell, Plan, Solve, Dxf, Offers, Session, Grow, Verify, Flips, Live, Complete, Measure}
 use Rattle.sk_request.specs.declared.Request.{Request}
 use Rattle.sk_cli.specs.declared.solving.Report.{Report}
 use Rattle.sk_cli.specs.declared.solving.Report.TheVariants.{Shape}
@@ -65,6 +65,8 @@ IsSaid Flips request s status text = (lists : List (List Name)) × IsFlipped req
 IsSaid Session request s status text = ⊥
 IsSaid Live request s status text = ⊥
 IsSaid Verify request s status text = Unit {0}
+IsSaid Complete request s status text = Unit {0}
+IsSaid Measure request s status text = Unit {0}
 IsSaid Solve request s status text = IsSolvedFor Solve request s status text
 IsSaid Dxf request s status text = IsSolvedFor Dxf request s status text
 IsSaid (Grow n) request s status text = IsSolvedFor (Grow n) request s status text
@@ -109,6 +111,8 @@ said_about one_sketch not_both some_read laws Flips request bytes text status s 
 said_about one_sketch not_both some_read laws Session request bytes text status s answer about = absurd about
 said_about one_sketch not_both some_read laws Live request bytes text status s answer about = absurd about
 said_about one_sketch not_both some_read laws Verify request bytes text status s answer about = tt
+said_about one_sketch not_both some_read laws Complete request bytes text status s answer about = tt
+said_about one_sketch not_both some_read laws Measure request bytes text status s answer about = tt
 said_about one_sketch not_both some_read laws Solve request bytes text status s answer about = solved_about one_sketch not_both Solve request bytes text status s answer refl about
 said_about one_sketch not_both some_read laws Dxf request bytes text status s answer about = solved_about one_sketch not_both Dxf request bytes text status s answer refl about
 said_about one_sketch not_both some_read laws (Grow n) request bytes text status s answer about = solved_about one_sketch not_both (Grow n) request bytes text status s answer refl about
@@ -336,6 +340,9 @@ module _ (normal : OneNormal) (plans : LegalPlans) (law : OneJudgement) (laws : 
   tells Live said = absurd said
   tells (Tell accounts.Migrated) said = nothing_told (Tell accounts.Migrated) request s status text refl refl (λ status writes. writes) (λ same. cc) (λ same. cc) (λ same. cc)
   tells Verify said = nothing_told Verify request s status text refl refl (λ status writes. writes) (λ same. cc) (λ same. cc) (λ same. cc)
+  tells Complete said = nothing_told Complete request s status text refl refl (λ status writes. writes) (λ same. cc) (λ same. cc) (λ same. cc)
+  tells Measure said = nothing_told Measure request s status text refl refl (λ status writes. writes) (λ same. cc) (λ same. cc) (λ same. cc)
+  tells (Tell accounts.Reasons) said = nothing_told (Tell accounts.Reasons) request s status text refl refl (λ status writes. writes) (λ same. cc) (λ same. cc) (λ same. cc)
   tells (Tell accounts.Spares) said = nothing_told (Tell accounts.Spares) request s status text refl refl (λ status writes. writes) (λ same. cc) (λ same. cc) (λ same. cc)
   tells (Tell accounts.Derived) said = nothing_told (Tell accounts.Derived) request s status text refl refl (λ status writes. writes) (λ same. cc) (λ same. cc) (λ same. cc)
   tells (Tell accounts.Shapes) (sketch, report) = parts_tell sketch report

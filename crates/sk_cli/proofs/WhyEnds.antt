@@ -20,7 +20,7 @@ use Rattle.sk_tolerance.proofs.Firsts.{first_inside}
 use Rattle.sk_tolerance.proofs.OneMeasured.{not_beyond}
 use Rattle.sk_request.specs.declared.Account.{Account}
 use Rattle.sk_request.specs.declared.Command.{Command}
-use Rattle.sk_request.specs.declared.Command.TheVariants.{Tell, Plan, Solve, Dxf, Offers, Session, Grow, Verify, Flips, Live}
+use Rattle.sk_request.specs.declared.Command.TheVariants.{Tell, Plan, Solve, Dxf, Offers, Session, Grow, Verify, Flips, Live, Complete, Measure}
 use Rattle.sk_lang.specs.declared.Front.{Front}
 use Rattle.sk_tolerance.specs.declared.Wanted.TheVariants.{Drawn}
 use Rattle.sk_solve.specs.declared.Placement.{Placement}
@@ -41,7 +41,9 @@ use Rattle.sk_cli.specs.Outcome.{IsPlanOrReport, IsSolved, IsAnswer, IsAnswerOf,
 use Rattle.sk_cli.specs.Causes.{plans, solves, IsReportOf, IsSketchOf, EndsInTime, IsRefusedInput, IsItsPlan, HasFault, LieAt, NonePasses, SomePasses, SomeTurned}
 use Rattle.sk_solve.proofs.OnePlacement.{laid_measured, same_placement}
 use Rattle.sk_request.proofs.OneRequest.{same_request}
-use Rattle.sk_cli.proofs.OneOutcome.{OneSketch, NotBoth, OneJudgement, LowerLaws, still_well, one_solved, told_account, told_plan, told_planned, told_solve, told_offers, told_session, told_claim, told_flips, told_flipped, not_read_and_refused, not_accepted_and_failing, not_claimed_and_refused, not_flips_and_refused}
+use Rattle.sk_cli.proofs.OneOutcome.{OneSketch, NotBoth, OneJudgement, LowerLaws, still_well, one_solved, told_account, told_plan, told_planned, told_solve, told_offers, told_session, told_claim, told_flips, told_flipped, not_read_and_refused, not_accepted_and_failing, not_claimed_and_refused, not_flips_and_refused, not_placed_and_refused}
+use Rattle.sk_cli.proofs.CompleteTold.{told_complete, other_completed}
+use Rattle.sk_cli.proofs.MeasureTold.{told_measure, told_measurement, told_fault}
 use Rattle.sk_cli.proofs.Runs.{solved_told}
 use Rattle.sk_cli.specs.VerifyAnswer.{HasClaim}
 use Rattle.sk_lines.specs.declared.Refusal.{Refusal}
@@ -157,6 +159,7 @@ pub sound_about : LowerLaws → (command : Command) (request : Request) (bytes :
 sound_about laws (Grow n) request bytes s fit is = subst (λ z. IsSoundGraph (graph_of z)) (sym is) (graph_is_sound (datum_sketch n) (laws.made n fit.0 fit.1))
 sound_about laws Offers request bytes s fit (front, reads, is) = subst (λ z. IsSoundGraph (graph_of z)) (sym is) (graph_is_sound front.sketch (laws.sound (take front.used bytes) front.sketch reads.reads))
 sound_about laws Verify request bytes s fit (front, reads, is) = subst (λ z. IsSoundGraph (graph_of z)) (sym is) (graph_is_sound front.sketch (laws.sound (take front.used bytes) front.sketch reads.reads))
+sound_about laws Measure request bytes s fit (front, reads, is) = subst (λ z. IsSoundGraph (graph_of z)) (sym is) (graph_is_sound front.sketch (laws.sound (take front.used bytes) front.sketch reads.reads))
 sound_about laws Flips request bytes s fit (front, lists, reads, is) =
     subst (λ z. IsSoundGraph (graph_of z)) (sym is) (graph_is_sound front.sketch (laws.sound (take front.used bytes) front.sketch reads.0.reads))
 sound_about laws Session request bytes s fit about = absurd about
@@ -171,6 +174,8 @@ solved_about one_sketch not_both Plan request bytes text status s answer placed 
 solved_about one_sketch not_both Offers request bytes text status s answer placed reads = cc
 solved_about one_sketch not_both Verify request bytes text status s answer placed about = cc
 solved_about one_sketch not_both Flips request bytes text status s answer placed about = cc
+solved_about one_sketch not_both Complete request bytes text status s answer placed about = cc
+solved_about one_sketch not_both Measure request bytes text status s answer placed about = cc
 solved_about one_sketch not_both Session request bytes text status s answer placed about = absurd about
 solved_about one_sketch not_both Live request bytes text status s answer placed about = absurd about
 solved_about one_sketch not_both Solve request bytes text status s answer placed reads =
@@ -264,6 +269,8 @@ pub not_well_about : OneSketch → NotBoth → OneJudgement → LowerLaws → (c
 not_well_about one_sketch not_both law laws (Tell account) request bytes text status s answer planned about = cc
 not_well_about one_sketch not_both law laws Offers request bytes text status s answer planned about = cc
 not_well_about one_sketch not_both law laws Verify request bytes text status s answer planned about = cc
+not_well_about one_sketch not_both law laws Complete request bytes text status s answer planned about = cc
+not_well_about one_sketch not_both law laws Measure request bytes text status s answer planned about = cc
 not_well_about one_sketch not_both law laws Flips request bytes text status s answer planned about =
     let told = flips_about laws request bytes text status s answer about in flipped_not_well law request s told.0 status text told.1
 not_well_about one_sketch not_both law laws Session request bytes text status s answer planned about = absurd about
@@ -285,37 +292,62 @@ no_other_account : (account : Account) (request : Request) (bytes text : List �
 no_other_account account request bytes text status answer done refused =
     elim (told_account account request bytes status text answer) [ inl told ↦ done told.0 | inr line ↦ refused line.0 ]
 
+-- `complete` and `measure` have causes of their own
+abbrev pub HasOtherCauses : Command → Status → Type 0
+HasOtherCauses Complete NotWell = Unit {0}
+HasOtherCauses Measure StepFault = Unit {0}
+HasOtherCauses Measure Tolerance = Unit {0}
+HasOtherCauses Measure NotVerified = Unit {0}
+HasOtherCauses command status = ⊥
+
 -- a status that tells neither that the command did its work nor that the input is refused, nor that a claim fails, comes only of a sketch that is planned
 planned_sketch : (command : Command) (request : Request) (bytes text : List ℕ) (status : Status) → IsAnswerOf command request bytes status text → status ≢ Done → status ≢ Refused → (command ≡ Verify → status ≢ NotVerified)
-    → IsTrue (plans command) × ((s : Sketch) × IsSketchOf command request bytes s)
-planned_sketch (Tell account) request bytes text status answer done refused unless = absurd (no_other_account account request bytes text status answer done refused)
-planned_sketch Verify request bytes text status answer done refused unless =
+    → ¬ HasOtherCauses command status → IsTrue (plans command) × ((s : Sketch) × IsSketchOf command request bytes s)
+planned_sketch (Tell account) request bytes text status answer done refused unless others = absurd (no_other_account account request bytes text status answer done refused)
+planned_sketch Verify request bytes text status answer done refused unless others =
     elim (told_claim bytes status text answer) [
       | inl verified ↦ absurd (done verified.0)
       | inr (inl failing) ↦ absurd (unless refl failing.0)
       | inr (inr line) ↦ absurd (refused line.0)
     ]
-planned_sketch Offers request bytes text status answer done refused unless =
+planned_sketch Offers request bytes text status answer done refused unless others =
     elim (told_offers bytes status text answer) [ inl report ↦ absurd (done report.0) | inr line ↦ absurd (refused line.0) ]
-planned_sketch Flips request bytes text status answer done refused unless =
+planned_sketch Flips request bytes text status answer done refused unless others =
     elim (told_flips request bytes status text answer) [ inl (is, line) ↦ absurd (refused is) | inr (front, lists, reads, told) ↦ (refl, (front.sketch, (front, lists, reads, refl))) ]
-planned_sketch Session request bytes text status answer done refused unless =
+planned_sketch Session request bytes text status answer done refused unless others =
     elim (told_session request bytes status text answer) [ inl ended ↦ absurd (done ended.0) | inr long ↦ absurd (refused long.0) ]
-planned_sketch Live request bytes text status answer done refused unless =
+planned_sketch Live request bytes text status answer done refused unless others =
     elim (told_live request bytes status text answer) [ inl ended ↦ absurd (done ended.0) | inr long ↦ absurd (refused long.0) ]
-planned_sketch Plan request bytes text status answer done refused unless =
+planned_sketch Plan request bytes text status answer done refused unless others =
     elim (told_plan request.order bytes status text answer) [ inl (is, line) ↦ absurd (refused is) | inr (s, reads, told) ↦ (refl, (s, reads)) ]
-planned_sketch Solve request bytes text status answer done refused unless =
+planned_sketch Solve request bytes text status answer done refused unless others =
     elim (told_solve Places request bytes status text answer) [ inl (is, line) ↦ absurd (refused is) | inr (s, reads, solved) ↦ (refl, (s, reads)) ]
-planned_sketch Dxf request bytes text status answer done refused unless =
+planned_sketch Dxf request bytes text status answer done refused unless others =
     elim (told_solve Drawing request bytes status text answer) [ inl (is, line) ↦ absurd (refused is) | inr (s, reads, solved) ↦ (refl, (s, reads)) ]
-planned_sketch (Grow n) request bytes text status solved done refused unless = (refl, (datum_sketch n, refl))
+planned_sketch (Grow n) request bytes text status solved done refused unless others = (refl, (datum_sketch n, refl))
+planned_sketch Complete request bytes text status answer done refused unless others =
+    elim (told_complete bytes status text answer) [
+      | inl (is, line) ↦ absurd (refused is)
+      | inr (s, reads, (c, given, is)) ↦ absurd (other_completed status c is done (λ short. others (subst (λ z. HasOtherCauses Complete z) (sym short) tt)))
+    ]
+planned_sketch Measure request bytes text status answer done refused unless others =
+    elim (told_measure request.within bytes status text answer) [
+      | inl (is, line) ↦ absurd (refused is)
+      | inr (f, c, has, measured) ↦ elim (told_measurement request.within f.sketch c status text measured) [
+        | inl (is, untold) ↦ absurd (others (subst (λ z. HasOtherCauses Measure z) (sym is) tt))
+        | inr (told, there) ↦ elim (told_fault request.within f.sketch c.at status there.line there.fault) [
+          | inl (is, fault) ↦ absurd (done is)
+          | inr (inl (is, fault)) ↦ absurd (others (subst (λ z. HasOtherCauses Measure z) (sym is) tt))
+          | inr (inr (is, fault)) ↦ absurd (others (subst (λ z. HasOtherCauses Measure z) (sym is) tt))
+        ]
+      ]
+    ]
 
 -- and where it tells not even that the verdict isn't well, the sketch is solved
 placed_sketch : (command : Command) (request : Request) (bytes text : List ℕ) (status : Status) → IsAnswerOf command request bytes status text → status ≢ Done → status ≢ Refused → status ≢ NotVerified → status ≢ NotWell
-    → IsTrue (solves command) × ((s : Sketch) × IsSketchOf command request bytes s)
-placed_sketch command request bytes text status answer done refused fails short =
-    let there = planned_sketch command request bytes text status answer done refused (λ same. fails) in (placed command answer there.0, there.1)
+    → ¬ HasOtherCauses command status → IsTrue (solves command) × ((s : Sketch) × IsSketchOf command request bytes s)
+placed_sketch command request bytes text status answer done refused fails short others =
+    let there = planned_sketch command request bytes text status answer done refused (λ same. fails) others in (placed command answer there.0, there.1)
   where
     placed : (command : Command) → IsAnswerOf command request bytes status text → IsTrue (plans command) → IsTrue (solves command)
     placed (Tell account) answer planned = cc
@@ -323,6 +355,8 @@ placed_sketch command request bytes text status answer done refused fails short 
     placed Verify answer planned = cc
     placed Session answer planned = cc
     placed Live answer planned = cc
+    placed Complete answer planned = cc
+    placed Measure answer planned = cc
     placed Plan answer planned =
         elim (told_plan request.order bytes status text answer) [
           | inl (is, line) ↦ absurd (refused is)
@@ -338,36 +372,58 @@ placed_sketch command request bytes text status answer done refused fails short 
     placed (Grow n) answer planned = refl
 
 module _ (one_sketch : OneSketch) (not_both_read : NotBoth) (law : OneJudgement) (laws : LowerLaws) (command : Command) (request : Request) (bytes text : List ℕ) (status : Status) (answer : IsAnswerOf command request bytes status text) where
-  pub not_well_exactly : (status ≡ NotWell) ↔ (IsTrue (plans command) × ((s : Sketch) × IsSketchOf command request bytes s × ¬ IsWell (graph_of s)))
-  not_well_exactly = (
+  -- `complete` ends so for a cause of its own
+  no_other_short : command ≢ Complete → ¬ HasOtherCauses command NotWell
+  no_other_short other = by command other
+    where
+      by : (any : Command) → any ≢ Complete → ¬ HasOtherCauses any NotWell
+      by Complete never h = never refl
+      by any never h = h
+
+  pub not_well_exactly : command ≢ Complete → (status ≡ NotWell) ↔ (IsTrue (plans command) × ((s : Sketch) × IsSketchOf command request bytes s × ¬ IsWell (graph_of s)))
+  not_well_exactly other = (
     (λ is. (
-        let there = planned_sketch command request bytes text status answer (λ done. (let clash : NotWell ≡ Done = sym is ∙ done in cc)) (λ refused. (let clash : NotWell ≡ Refused = sym is ∙ refused in cc)) (λ same fails. (let clash : NotWell ≡ NotVerified = sym is ∙ fails in cc)) in
+        let there = planned_sketch command request bytes text status answer (λ done. (let clash : NotWell ≡ Done = sym is ∙ done in cc)) (λ refused. (let clash : NotWell ≡ Refused = sym is ∙ refused in cc)) (λ same fails. (let clash : NotWell ≡ NotVerified = sym is ∙ fails in cc)) (λ h. no_other_short other (subst (λ z. HasOtherCauses command z) is h)) in
         (there.0, (there.1.0, there.1.1, (not_well_about one_sketch not_both_read law laws command request bytes text status there.1.0 answer there.0 there.1.1).0 is))
         )),
     (λ (planned, (s, about, not_well)). ((not_well_about one_sketch not_both_read law laws command request bytes text status s answer planned about).1 not_well)),
   )
 
   -- a status of a sketch that is placed comes exactly where its cause stands of that sketch
-  placed_exactly : (want : Status) → want ≢ Done → want ≢ Refused → want ≢ NotVerified → want ≢ NotWell → (Why : Sketch → Type 0)
+  placed_exactly : (want : Status) → want ≢ Done → want ≢ Refused → want ≢ NotVerified → want ≢ NotWell → ¬ HasOtherCauses command want → (Why : Sketch → Type 0)
       → ((s : Sketch) → IsTrue (solves command) → IsSketchOf command request bytes s → (status ≡ want) ↔ Why s)
       → (status ≡ want) ↔ (IsTrue (solves command) × ((s : Sketch) × IsSketchOf command request bytes s × Why s))
-  placed_exactly want done refused fails short Why both = (
+  placed_exactly want done refused fails short others Why both = (
     (λ is. (
-        let there = placed_sketch command request bytes text status answer (λ e. done (sym is ∙ e)) (λ e. refused (sym is ∙ e)) (λ e. fails (sym is ∙ e)) (λ e. short (sym is ∙ e)) in
+        let there = placed_sketch command request bytes text status answer (λ e. done (sym is ∙ e)) (λ e. refused (sym is ∙ e)) (λ e. fails (sym is ∙ e)) (λ e. short (sym is ∙ e)) (λ h. others (subst (λ z. HasOtherCauses command z) is h)) in
         (there.0, (there.1.0, there.1.1, (both there.1.0 there.0 there.1.1).0 is))
         )),
     (λ (placed, (s, about, why)). ((both s placed about).1 why)),
   )
 
-  module _ (fit : HasFitSize command) where
+  module _ (fit : HasFitSize command) (other : command ≢ Measure) where
+    no_other_fault : ¬ HasOtherCauses command StepFault
+    no_other_fault = by command other
+      where
+        by : (any : Command) → any ≢ Measure → ¬ HasOtherCauses any StepFault
+        by Measure never h = never refl
+        by any never h = h
+
+    no_other_passing : ¬ HasOtherCauses command Tolerance
+    no_other_passing = by command other
+      where
+        by : (any : Command) → any ≢ Measure → ¬ HasOtherCauses any Tolerance
+        by Measure never h = never refl
+        by any never h = h
+
     pub fault_exactly : (status ≡ StepFault) ↔ (IsTrue (solves command) × ((s : Sketch) × IsSketchOf command request bytes s × ((p : ThePlan) × IsItsPlan request s p × IsFault request s p)))
-    fault_exactly = placed_exactly StepFault (λ e. cc) (λ e. cc) (λ e. cc) (λ e. cc) (λ s. (p : ThePlan) × IsItsPlan request s p × IsFault request s p) (λ s placed about. (
+    fault_exactly = placed_exactly StepFault (λ e. cc) (λ e. cc) (λ e. cc) (λ e. cc) no_other_fault (λ s. (p : ThePlan) × IsItsPlan request s p × IsFault request s p) (λ s placed about. (
         let solved = solved_about one_sketch not_both_read command request bytes text status s answer placed about in
         fault_both law laws solved.0 request s status text solved.2 (sound_about laws command request bytes s fit about)
         ))
 
     pub beyond_exactly : (status ≡ Tolerance) ↔ (IsTrue (solves command) × ((s : Sketch) × IsSketchOf command request bytes s × ((p : ThePlan) × IsItsPlan request s p × IsBeyond request s p)))
-    beyond_exactly = placed_exactly Tolerance (λ e. cc) (λ e. cc) (λ e. cc) (λ e. cc) (λ s. (p : ThePlan) × IsItsPlan request s p × IsBeyond request s p) (λ s placed about. (
+    beyond_exactly = placed_exactly Tolerance (λ e. cc) (λ e. cc) (λ e. cc) (λ e. cc) no_other_passing (λ s. (p : ThePlan) × IsItsPlan request s p × IsBeyond request s p) (λ s placed about. (
         let solved = solved_about one_sketch not_both_read command request bytes text status s answer placed about in
         beyond_both law laws solved.0 request s status text solved.2 (sound_about laws command request bytes s fit about)
         ))
@@ -383,6 +439,8 @@ no_usage Flips request bytes text answer = answer.3
 no_usage Session request bytes text answer = answer
 no_usage Verify request bytes text answer = answer
 no_usage Live request bytes text answer = answer
+no_usage Complete request bytes text answer = other_completed Usage answer.2.0 answer.2.2 (λ same. cc) (λ same. cc)
+no_usage Measure request bytes text answer = answer.3.1.fault
 no_usage (Grow n) request bytes text answer = solved_told Sums request (datum_sketch n) Usage text answer
 
 pub usage_both : (words : List (List ℕ)) (bytes text : List ℕ) (status : Status) → IsOutcome words bytes status text → (status ≡ Usage) ↔ ¬ AreOfForm words
@@ -398,6 +456,8 @@ refused_so law laws Solve request bytes text (r, refuses, is) = (r, refuses)
 refused_so law laws Dxf request bytes text (r, refuses, is) = (r, refuses)
 refused_so law laws Offers request bytes text (r, at, is) = (r, at)
 refused_so law laws Flips request bytes text (r, at, is) = (r, at)
+refused_so law laws Measure request bytes text (r, at, is) = (r, at)
+refused_so law laws Complete request bytes text (r, refuses, is) = (r, refuses)
 refused_so law laws Session request bytes text (long, is) = long
 refused_so law laws (Grow n) request bytes text answer = absurd (solved_told Sums request (datum_sketch n) Refused text answer)
 refused_so law laws Live request bytes text (replies, (all, none, long, is)) = (
@@ -439,6 +499,10 @@ so_refused one_sketch not_both laws Verify request bytes text status answer (r, 
     ]
 so_refused one_sketch not_both laws Flips request bytes text status answer (r, at) =
     elim (told_flips request bytes status text answer) [ inl refused ↦ refused.0 | inr (front, lists, reads, told) ↦ absurd (not_flips_and_refused laws bytes (refusal_line r) front lists reads (r, at, refl)) ]
+so_refused one_sketch not_both laws Measure request bytes text status answer (r, at) =
+    elim (told_measure request.within bytes status text answer) [ inl refused ↦ refused.0 | inr (f, c, has, measured) ↦ absurd (not_placed_and_refused laws bytes f c r has at) ]
+so_refused one_sketch not_both laws Complete request bytes text status answer (r, refuses) =
+    elim (told_complete bytes status text answer) [ inl refused ↦ refused.0 | inr (s, reads, told) ↦ absurd (not_both bytes s r.line r.code reads refuses) ]
 so_refused one_sketch not_both laws Session request bytes text status answer long = too_long request bytes text status answer long
 so_refused one_sketch not_both laws (Grow n) request bytes text status answer refused = absurd refused
 so_refused one_sketch not_both laws Live request bytes text status answer (long, never) = late_live request bytes text status answer long never
@@ -448,12 +512,17 @@ pub refused_both : OneSketch → NotBoth → OneJudgement → LowerLaws → (com
 refused_both one_sketch not_both law laws command request bytes text status answer =
     ((λ same. refused_so law laws command request bytes text (subst (λ z. IsAnswerOf command request bytes z text) same answer)), so_refused one_sketch not_both laws command request bytes text status answer)
 
--- a command that plans no sketch and checks no claim does its work exactly where its input isn't refused
+no_others : (command : Command) (status : Status) → command ≢ Complete → command ≢ Measure → ¬ HasOtherCauses command status
+no_others Complete status never other h = never refl
+no_others Measure status never other h = other refl
+no_others command status never other h = h
+
+-- a command that plans no sketch, checks no claim, completes and measures nothing does its work exactly where its input isn't refused
 pub done_unless_refused : OneSketch → NotBoth → OneJudgement → LowerLaws → (command : Command) (request : Request) (bytes text : List ℕ) (status : Status) → IsAnswerOf command request bytes status text
-    → ¬ IsTrue (plans command) → command ≢ Verify → (status ≡ Done) ↔ ¬ IsRefusedInput command request bytes
-done_unless_refused one_sketch not_both law laws command request bytes text status answer no_plan other_command = (
+    → ¬ IsTrue (plans command) → command ≢ Verify → command ≢ Complete → command ≢ Measure → (status ≡ Done) ↔ ¬ IsRefusedInput command request bytes
+done_unless_refused one_sketch not_both law laws command request bytes text status answer no_plan other_command not_complete not_measure = (
   (λ done refused. (let clash : Done ≡ Refused = sym done ∙ both.1 refused in cc)),
-  (λ not_refused. done_at_last status (λ other. no_plan (planned_sketch command request bytes text status answer other (λ refused. not_refused (both.0 refused)) (λ same. absurd (other_command same))).0)),
+  (λ not_refused. done_at_last status (λ other. no_plan (planned_sketch command request bytes text status answer other (λ refused. not_refused (both.0 refused)) (λ same. absurd (other_command same)) (no_others command status not_complete not_measure)).0)),
 )
   where
     both : (status ≡ Refused) ↔ IsRefusedInput command request bytes
@@ -526,24 +595,26 @@ module _ (laws : LowerLaws) (request : Request) (bytes text : List ℕ) (status 
         )
       ]
 
--- no other command answers that a claim fails
-only_verify : (command : Command) (request : Request) (bytes text : List ℕ) → IsAnswerOf command request bytes NotVerified text → command ≡ Verify
-only_verify (Tell account) request bytes text answer = absurd answer
-only_verify Plan request bytes text answer = absurd answer.2
-only_verify Solve request bytes text answer = absurd (solved_told Places request answer.0 NotVerified text answer.2)
-only_verify Dxf request bytes text answer = absurd (solved_told Drawing request answer.0 NotVerified text answer.2)
-only_verify Offers request bytes text answer = absurd answer
-only_verify Session request bytes text answer = absurd answer
-only_verify Verify request bytes text answer = refl
-only_verify Flips request bytes text answer = absurd answer.3
-only_verify Live request bytes text answer = absurd answer
-only_verify (Grow n) request bytes text answer = absurd (solved_told Sums request (datum_sketch n) NotVerified text answer)
+-- no other command but `measure` answers that a claim fails
+only_verify : (command : Command) → command ≢ Measure → (request : Request) (bytes text : List ℕ) → IsAnswerOf command request bytes NotVerified text → command ≡ Verify
+only_verify (Tell account) other request bytes text answer = absurd answer
+only_verify Plan other request bytes text answer = absurd answer.2
+only_verify Solve other request bytes text answer = absurd (solved_told Places request answer.0 NotVerified text answer.2)
+only_verify Dxf other request bytes text answer = absurd (solved_told Drawing request answer.0 NotVerified text answer.2)
+only_verify Offers other request bytes text answer = absurd answer
+only_verify Session other request bytes text answer = absurd answer
+only_verify Verify other request bytes text answer = refl
+only_verify Flips other request bytes text answer = absurd answer.3
+only_verify Live other request bytes text answer = absurd answer
+only_verify (Grow n) other request bytes text answer = absurd (solved_told Sums request (datum_sketch n) NotVerified text answer)
+only_verify Complete other request bytes text answer = absurd (other_completed NotVerified answer.2.0 answer.2.2 (λ same. cc) (λ same. cc))
+only_verify Measure other request bytes text answer = absurd (other refl)
 
-pub failing_exactly : LowerLaws → (command : Command) (request : Request) (bytes text : List ℕ) (status : Status) → IsAnswerOf command request bytes status text
+pub failing_exactly : LowerLaws → (command : Command) → command ≢ Measure → (request : Request) (bytes text : List ℕ) (status : Status) → IsAnswerOf command request bytes status text
     → (status ≡ NotVerified) ↔ ((command ≡ Verify) × ((f : Front) × (c : Claim) × (h : Failure) × HasClaim bytes f c × FailsFirst f.sketch (graph_of f.sketch) c h))
-failing_exactly laws command request bytes text status answer = (
+failing_exactly laws command other request bytes text status answer = (
   (λ fails.
-      let is : command ≡ Verify = only_verify command request bytes text (subst (λ z. IsAnswerOf command request bytes z text) fails answer) in
+      let is : command ≡ Verify = only_verify command other request bytes text (subst (λ z. IsAnswerOf command request bytes z text) fails answer) in
       (is, (failing_so laws request bytes text status (subst (λ (c : Command). IsAnswerOf c request bytes status text) is answer)).0 fails)),
   (λ (is, found). (failing_so laws request bytes text status (subst (λ (c : Command). IsAnswerOf c request bytes status text) is answer)).1 found),
 )
@@ -577,6 +648,8 @@ plans_alone Offers planned other = cc
 plans_alone Session planned other = cc
 plans_alone Verify planned other = cc
 plans_alone Live planned other = cc
+plans_alone Complete planned other = cc
+plans_alone Measure planned other = cc
 
 -- it does its work exactly where its input is read, and the sketch that it is about is well
 pub done_where_well : OneSketch → NotBoth → OneJudgement → LowerLaws → (command : Command) (request : Request) (bytes text : List ℕ) (status : Status) → IsAnswerOf command request bytes status text

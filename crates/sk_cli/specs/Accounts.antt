@@ -10,6 +10,7 @@ use Rattle.sk_plan.specs.Judged.{IsTheJudgement}
 use Rattle.sk_report.specs.CheckReport.{check_report}
 use Rattle.sk_spare.specs.Sparing.{AreSpares}
 use Rattle.sk_spare.specs.SpareReport.{spare_report}
+use Rattle.sk_why.specs.WhyReport.{IsWhyReport}
 use Rattle.sk_close_by_angles.specs.WideReach.{IsWideNormal}
 use Rattle.sk_close_by_angles.specs.DerivedText.{derived_text}
 use Rattle.sk_request.specs.declared.Request.{Request}
@@ -38,3 +39,4 @@ IsAccount accounts.Spares request s text = IsSpareReport s text
 IsAccount accounts.Derived request s text = IsDerivedText s text
 IsAccount accounts.Shapes request s text = IsPartsReport request s text
 IsAccount accounts.Excesses request s text = IsExcessReport request s text
+IsAccount accounts.Reasons request s text = IsWhyReport s text

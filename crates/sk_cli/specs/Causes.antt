@@ -22,7 +22,7 @@ use Rattle.sk_measure.specs.Items.{Item}
 use Rattle.sk_tolerance.specs.Tolerances.{AllHold, IsAbove, everything}
 use Rattle.sk_tolerance.specs.Turns.{signs, IsTurned}
 use Rattle.sk_request.specs.declared.Command.{Command}
-use Rattle.sk_request.specs.declared.Command.TheVariants.{Tell, Plan, Solve, Dxf, Offers, Session, Grow, Verify, Flips, Live}
+use Rattle.sk_request.specs.declared.Command.TheVariants.{Tell, Plan, Solve, Dxf, Offers, Session, Grow, Verify, Flips, Live, Complete, Measure}
 use Rattle.sk_request.specs.declared.Request.{Request}
 use Rattle.sk_cli.specs.declared.solving.Report.{Report}
 use Rattle.sk_cli.specs.declared.solving.Report.TheVariants.{Places, Drawing, Sums}
@@ -32,6 +32,7 @@ use Rattle.sk_cli.specs.Fronts.{IsRefusedAt}
 use Rattle.sk_cli.specs.LiveAnswer.{RepliesInTime}
 use Rattle.sk_cli.specs.SessionAnswer.{EndsSession}
 use Rattle.sk_live_lines.specs.Answering.{HasEnded}
+use Rattle.sk_cli.specs.MeasureAnswer.{RefusesPlacesBehind}
 use Rattle.sk_cli.specs.OffersReport.{RefusesOffersBehind}
 use Rattle.sk_cli.specs.Solving.{midpoints}
 use Rattle.sk_cli.specs.VerifyAnswer.{RefusesClaimBehind}
@@ -48,6 +49,8 @@ plans (Grow n) = true
 plans Verify = false
 plans Flips = true
 plans Live = false
+plans Complete = false
+plans Measure = false
 
 -- it ends as the plan of a sketch is placed
 abbrev pub solves : Command → Bool
@@ -61,6 +64,8 @@ solves (Grow n) = true
 solves Verify = false
 solves Flips = false
 solves Live = false
+solves Complete = false
+solves Measure = false
 
 -- the report that a command writes where it places all elements
 abbrev pub IsReportOf : Command → Report → Type 0
@@ -75,6 +80,7 @@ abbrev pub IsSketchOf : Command → Request → List ℕ → Sketch → Type 0
 IsSketchOf (Grow n) request bytes s = s ≡ datum_sketch n
 IsSketchOf Offers request bytes s = (front : Front) × ReadsFront bytes front × (s ≡ front.sketch)
 IsSketchOf Verify request bytes s = (front : Front) × ReadsFront bytes front × (s ≡ front.sketch)
+IsSketchOf Measure request bytes s = (front : Front) × ReadsFront bytes front × (s ≡ front.sketch)
 IsSketchOf Flips request bytes s = (front : Front) × (lists : List (List Name)) × ReadsSketchAndFlips bytes front lists × (s ≡ front.sketch)
 IsSketchOf Session request bytes s = ⊥
 IsSketchOf Live request bytes s = ⊥
@@ -89,6 +95,7 @@ abbrev pub IsRefusedInput : Command → Request → List ℕ → Type 0
 IsRefusedInput Offers request bytes = (r : Refusal) × IsRefusedAt RefusesOffersBehind bytes r
 IsRefusedInput Flips request bytes = (r : Refusal) × IsRefusedAt RefusesFlipsBehind bytes r
 IsRefusedInput Verify request bytes = (r : Refusal) × IsRefusedAt RefusesClaimBehind bytes r
+IsRefusedInput Measure request bytes = (r : Refusal) × IsRefusedAt RefusesPlacesBehind bytes r
 IsRefusedInput Session request bytes = 1048576 < length bytes
 IsRefusedInput Live request bytes = (4294967295 < length bytes) × ¬ EndsInTime request bytes
 IsRefusedInput (Grow n) request bytes = ⊥

@@ -1,8 +1,7 @@
 -- What is told of the parts that are over: of each one minimal choice of constraints that stay is placed, and those that are
 -- left out are measured there.
-use Rattle.std.specs.Prelude.{◌≡◌, ◌≢◌, ◌⊎◌, ◌+◌, ℕ, List, [], ◌∷◌, ◌++◌, Some, length, filter, nat_lt}
+use Rattle.std.specs.Prelude.{◌≡◌, ◌≢◌, ◌⊎◌, ◌+◌, ℕ, List, [], ◌∷◌, ◌++◌, length, filter, nat_lt}
 use Rattle.sk_base.specs.declared.ConId.{ConId}
-use Rattle.sk_base.specs.declared.Constraint.{Constraint}
 use Rattle.sk_base.specs.declared.Placed.{Placed}
 use Rattle.sk_base.specs.declared.Sketch.{Sketch}
 use Rattle.sk_graph.specs.SketchGraph.{graph_of}
@@ -11,12 +10,7 @@ use Rattle.sk_verdict.specs.declared.Part.{Part}
 use Rattle.sk_verdict.specs.Judging.{IsOver}
 use Rattle.sk_tree.specs.declared.Plan.{Plan as ThePlan}
 use Rattle.sk_plan.specs.Judged.{IsTheJudgement, IsWell}
-use Rattle.sk_entry.specs.NumberedConstraint.{constraint_of}
-use Rattle.sk_tolerance.specs.declared.OffBy.{OffBy}
 use Rattle.sk_tolerance.specs.declared.Tolerance.{Tolerance}
-use Rattle.sk_tolerance.specs.Offs.{IsOff}
-use Rattle.sk_tolerance.specs.Telling.{IsCompared}
-use Rattle.sk_tolerance.specs.Turns.{senses}
 use Rattle.sk_solve.specs.declared.Placement.{Placement}
 use Rattle.sk_solve.specs.declared.Placement.TheVariants.{Holds}
 use Rattle.sk_parts.specs.OwnSketch.{part_sketch}
@@ -28,21 +22,13 @@ use Rattle.sk_request.specs.declared.Request.{Request}
 use Rattle.sk_request.specs.Grids.{digits_of}
 use Rattle.sk_cli.specs.declared.solving.Report.TheVariants.{Shape}
 use Rattle.sk_cli.specs.declared.status.Status.TheVariants.{Done}
+use Rattle.sk_cli.specs.OffsThere.{AreOffsPut}
 use Rattle.sk_cli.specs.Solved.{IsPlacedPlan}
 use Rattle.sk_cli.specs.Solving.{status_of, placement_words}
 
--- the constraint of that number is off by so much where the elements of the sketch lie
-pub record IsOffThere (at : Placed) (s : Sketch) (k : ConId) (off : OffBy) : Type 0 where
-  pub constraint : Constraint
-  pub numbered : constraint_of s k ≡ Some constraint
-  pub by : IsOff at (graph_of s) k off
-  pub turned : IsCompared (senses s at k constraint.rule) off.turned
-
--- a line for each of these constraints, in order, with how far off it is
+-- a line for each of these constraints, in order, with how far off it is, and what that makes it to the others
 abbrev pub AreOffsTold : ℕ → Sketch → Placed → List ConId → List ℕ → Type 0
-AreOffsTold limit s at [] text = text ≡ []
-AreOffsTold limit s at (k ∷ left) text =
-    (off : OffBy) × (more : List ℕ) × IsOffThere at s k off × AreOffsTold limit s at left more × (text ≡ off_line s limit k off ++ more)
+AreOffsTold limit s at left text = AreOffsPut (off_line s limit) s at left text
 
 -- the kept sketch is placed and holds, and this tells how far off each constraint is that is left out
 pub record IsMeasuredLeft (request : Request) (own : Sketch) (left : List ConId) (text : List ℕ) : Type 0 where

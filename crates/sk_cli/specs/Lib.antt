@@ -1,5 +1,6 @@
 pub mod Accounts
 pub mod Causes
+pub mod CompleteAnswer
 pub mod Ending
 pub mod ExcessReport
 pub mod FlipsReport
@@ -8,8 +9,10 @@ pub mod Gaps
 pub mod Headline
 pub mod LiveAnswer
 pub mod LiveEnding
+pub mod MeasureAnswer
 pub mod Migration
 pub mod OffersReport
+pub mod OffsThere
 pub mod Outcome
 pub mod PartsReport
 pub mod Planning

@@ -2,7 +2,7 @@
 use Rattle.std.specs.Prelude.{◌≡◌, ℕ, List}
 use Rattle.sk_request.specs.declared.Account.TheVariants.{Migrated}
 use Rattle.sk_request.specs.declared.Command.{Command}
-use Rattle.sk_request.specs.declared.Command.TheVariants.{Tell, Offers, Session, Grow, Verify, Flips, Live}
+use Rattle.sk_request.specs.declared.Command.TheVariants.{Tell, Offers, Session, Grow, Verify, Flips, Live, Measure}
 use Rattle.sk_request.specs.declared.Request.{Request}
 use Rattle.sk_cli.specs.declared.status.Status.TheVariants.{Done}
 use Rattle.sk_request.specs.Asking.{Asks}
@@ -16,6 +16,7 @@ ReadsOneSketch (Grow n) = ⊥
 ReadsOneSketch Verify = ⊥
 ReadsOneSketch Flips = ⊥
 ReadsOneSketch Live = ⊥
+ReadsOneSketch Measure = ⊥
 ReadsOneSketch command = Unit {0}
 
 -- the words ask for such a command

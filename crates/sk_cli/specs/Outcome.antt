@@ -11,7 +11,7 @@ use Rattle.sk_report.specs.PlanReport.{plan_report}
 use Rattle.sk_report.specs.RefusalLine.{refusal_line}
 use Rattle.sk_request.specs.declared.Account.{Account}
 use Rattle.sk_request.specs.declared.Command.{Command}
-use Rattle.sk_request.specs.declared.Command.TheVariants.{Tell, Plan, Solve, Dxf, Offers, Session, Grow, Verify, Flips, Live}
+use Rattle.sk_request.specs.declared.Command.TheVariants.{Tell, Plan, Solve, Dxf, Offers, Session, Grow, Verify, Flips, Live, Complete, Measure}
 use Rattle.sk_request.specs.declared.Request.{Request}
 use Rattle.sk_cli.specs.declared.solving.Report.{Report}
 use Rattle.sk_cli.specs.declared.solving.Report.TheVariants.{Places, Drawing, Sums}
@@ -19,8 +19,10 @@ use Rattle.sk_cli.specs.declared.status.Status.{Status}
 use Rattle.sk_cli.specs.declared.status.Status.TheVariants.{Done, Refused, Usage, NotWell}
 use Rattle.sk_cli.specs.Accounts.{IsAccount}
 use Rattle.sk_request.specs.Asking.{Asks, AreOfForm}
+use Rattle.sk_cli.specs.CompleteAnswer.{IsCompleteAnswer}
 use Rattle.sk_cli.specs.FlipsReport.{IsFlipsAnswer}
 use Rattle.sk_cli.specs.LiveAnswer.{RepliesInTime, IsLiveAnswer}
+use Rattle.sk_cli.specs.MeasureAnswer.{IsMeasureAnswer}
 use Rattle.sk_cli.specs.OffersReport.{IsOffersAnswer}
 use Rattle.sk_cli.specs.SessionAnswer.{IsSessionAnswer, RepliesToFront}
 use Rattle.sk_cli.specs.VerifyAnswer.{IsVerifyAnswer}
@@ -45,7 +47,7 @@ IsPlanOrReport order s Done text = IsPlanReport order s text
 IsPlanOrReport order s NotWell text = IsReportNotWell s text
 IsPlanOrReport order s status text = ⊥
 
--- what `check`, `migrate`, `spare`, `derive`, `parts` and `excess` answer to an input, each with its account
+-- what `check`, `migrate`, `spare`, `derive`, `parts`, `excess` and `why` answer to an input, each with its account
 abbrev pub IsAccountAnswer : Account → Request → List ℕ → Status → List ℕ → Type 0
 IsAccountAnswer account request bytes Done text = IsAccountOf account request bytes text
 IsAccountAnswer account request bytes Refused text = IsRefusalText bytes text
@@ -78,6 +80,8 @@ IsAnswerOf (Grow n) request bytes status text = IsGrowAnswer n request status te
 IsAnswerOf Verify request bytes status text = IsVerifyAnswer bytes status text
 IsAnswerOf Flips request bytes status text = IsFlipsAnswer request bytes status text
 IsAnswerOf Live request bytes status text = IsLiveAnswer request bytes status text
+IsAnswerOf Complete request bytes status text = IsCompleteAnswer bytes status text
+IsAnswerOf Measure request bytes status text = IsMeasureAnswer request.within bytes status text
 
 abbrev pub IsAnswer : Request → List ℕ → Status → List ℕ → Type 0
 IsAnswer request bytes status text = IsAnswerOf request.command request bytes status text

@@ -1,5 +1,5 @@
--- The claim that a user makes of what `plan` and `solve` print.
-use Rattle.std.specs.Prelude.{ℕ, List, [], ◌∷◌, ◌++◌}
+-- The claim that a user makes of what `plan` and `solve` print, and the places alone.
+use Rattle.std.specs.Prelude.{ℕ, List, [], ◌∷◌, ◌++◌, codes}
 use Rattle.std.specs.List.{flat_map}
 use Rattle.sk_base.specs.declared.Placed.{Placed}
 use Rattle.sk_base.specs.declared.Sketch.{Sketch}
@@ -19,6 +19,10 @@ tolerance_line t = ended_lines (spaced (tolerance_words t.t t.w) ∷ [])
 -- the step lines of `plan`, the element lines of `solve`, and the tolerances
 abbrev pub printed_text : Sketch → ThePlan → Placed → Tolerance → List ℕ
 printed_text s p at t = flat_map (step_line s) p.steps ++ (element_lines at s.elements ++ tolerance_line t)
+
+-- the element lines of `solve`, and an `end`
+abbrev pub printed_places : Sketch → Placed → List ℕ
+printed_places s at = element_lines at s.elements ++ codes "end\n"
 
 -- what these say
 abbrev pub printed_claim : Sketch → ThePlan → Placed → Tolerance → Claim

@@ -17,6 +17,7 @@ use sk_plan::judgement_of;
 use sk_report::check_text;
 use sk_request::{Account, Request};
 use sk_spare::{spare, spare_text};
+use sk_why::why_text;
 use std::alloc::Global;
 
 /// The answer that gives this account of the input's sketch. Only `Shapes` and `Excesses` look at the request: how parts
@@ -56,6 +57,7 @@ fn account_text(
         Account::Migrated => write_sketch_2(alloc, sketch),
         Account::Shapes => shapes(alloc, request, sketch),
         Account::Excesses => excesses(alloc, request, sketch),
+        Account::Reasons => why_text(alloc, sketch),
     }
 }
 

@@ -13,7 +13,8 @@ ghost use Rattle.sk_report.specs.ExcessReport.{off_line, left_lines};
 ghost use Rattle.sk_cli.specs.Solved.{IsPlacedPlan};
 ghost use Rattle.sk_cli.specs.Solving.{LiesWithinBounds};
 ghost use Rattle.sk_excess.specs.KeptSketch.{kept_sketch};
-ghost use Rattle.sk_cli.specs.ExcessReport.{IsOffThere, AreOffsTold, IsMeasuredLeft, IsFaultyLeft, IsExcess, IsPartExcess, IsExcessReport};
+ghost use Rattle.sk_cli.specs.OffsThere.{IsOffThere};
+ghost use Rattle.sk_cli.specs.ExcessReport.{AreOffsTold, IsMeasuredLeft, IsFaultyLeft, IsExcess, IsPartExcess, IsExcessReport};
 
 use crate::placing::placed;
 use crate::planning::{Planning, plan_or_report};

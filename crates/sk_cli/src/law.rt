@@ -1,5 +1,5 @@
 // Laws on what words ask for and what is answered.
-ghost use Rattle.std.specs.Prelude.{◌≡◌, ◌↔◌, ◌⊎◌, ◌+◌, ◌<◌, ◌≤◌, length, [], ◌∷◌, ◌++◌, ℕ, List, All, Contains, IsTrue, codes, drop};
+ghost use Rattle.std.specs.Prelude.{◌≡◌, ◌↔◌, ◌⊎◌, ◌+◌, ◌<◌, ◌≤◌, length, [], ◌∷◌, ◌++◌, ℕ, List, All, Contains, IsTrue, None, codes, drop, true, false, unsigned_abs};
 ghost use Rattle.sk_base.specs.declared.ConId.{ConId};
 ghost use Rattle.sk_base.specs.declared.Placed.{Placed};
 ghost use Rattle.sk_base.specs.declared.Sketch.{Sketch};
@@ -19,21 +19,23 @@ ghost use Rattle.sk_rules.specs.Excess.{held, weight_of};
 ghost use Rattle.sk_session.specs.State.{State, sketch_in};
 ghost use Rattle.sk_session.specs.declared.Reply.{Reply};
 ghost use Rattle.sk_report.specs.PlanReport.{plan_report};
-ghost use Rattle.sk_report.specs.SolveReport.{places_report, solve_report};
+ghost use Rattle.sk_report.specs.SolveReport.{places_report, solve_report, tolerance_lines};
 ghost use Rattle.sk_measure.specs.Placing.{PlacesExactly};
 ghost use Rattle.sk_tree.specs.DrawnChoice.{HasDrawnChoice};
 ghost use Rattle.sk_tolerance.specs.Tolerances.{AllHoldWithin};
 ghost use Rattle.sk_tree.specs.LegalPlan.{IsLegalPlan};
 ghost use Rattle.sk_verify.specs.AsClaimed.{plan_claimed};
 ghost use Rattle.sk_tolerance.specs.declared.Tolerance.{Tolerance};
-ghost use Rattle.sk_tolerance.specs.Turns.{signs, AllAsDrawn};
+ghost use Rattle.sk_tolerance.specs.declared.OffBy.{OffBy};
+ghost use Rattle.sk_tolerance.specs.declared.Turned.{Turned};
+ghost use Rattle.sk_tolerance.specs.Turns.{signs, constraint_signs, IsTurned, AllAsDrawn};
 ghost use Rattle.sk_request.specs.declared.Request.{Request};
 ghost use Rattle.sk_cli.specs.declared.status.Status.{Status};
 ghost use Rattle.sk_request.specs.Asking.{Asks, AreOfForm};
 ghost use Rattle.sk_request.specs.declared.Command.{Command};
 ghost use Rattle.sk_request.specs.declared.Account.TheVariants.{Excesses};
 ghost use Rattle.sk_cli.specs.Headline.{Tells, TellsAsAsked, RepliesNext, RepliesNextLive, HoldsAt};
-ghost use Rattle.sk_cli.specs.PrintedClaim.{printed_text, printed_claim};
+ghost use Rattle.sk_cli.specs.PrintedClaim.{printed_text, printed_places, printed_claim};
 ghost use Rattle.sk_lang.specs.Front.{ReadsFront};
 ghost use Rattle.sk_claims.specs.ClaimReading.{ReadsClaim};
 ghost use Rattle.sk_verify.specs.Texts.{verified_line};
@@ -54,10 +56,22 @@ ghost use Rattle.sk_lang.specs.Reading.{Reads};
 ghost use Rattle.sk_lang.specs.declared.Front.{Front};
 ghost use Rattle.sk_claims.specs.declared.claim.Claim.{Claim};
 ghost use Rattle.sk_verify.specs.declared.failure.Failure.{Failure};
-ghost use Rattle.sk_verify.specs.Failing.{IsAccepted, FailsFirst};
+ghost use Rattle.sk_verify.specs.Failing.{AllTold, IsFirstUntold, IsAccepted, FailsFirst};
 ghost use Rattle.sk_cli.specs.VerifyAnswer.{HasClaim};
+ghost use Rattle.sk_base.specs.declared.Elem.{Elem};
+ghost use Rattle.sk_lang.specs.Canonical.{canonical};
+ghost use Rattle.sk_complete.specs.declared.Completion.{Completion};
+ghost use Rattle.sk_complete.specs.declared.Reason.{Reason};
+ghost use Rattle.sk_complete.specs.Completions.{Completes};
+ghost use Rattle.sk_complete.specs.CompletionText.{no_completion};
+ghost use Rattle.sk_report.specs.CheckReport.{check_report};
+ghost use Rattle.sk_report.specs.MeasureReport.{measured_line};
+ghost use Rattle.sk_cli.specs.CompleteAnswer.{AskToComplete, IsCompletionGiven};
+ghost use Rattle.sk_cli.specs.MeasureAnswer.{HasPlaces, TellsOffs, all_numbers};
+ghost use Rattle.sk_cli.specs.OffsThere.{IsOffThere, AreOffsPut};
 
 use sk_close_by_angles::one_derived_text;
+use sk_complete::completed_reads;
 use sk_entry::{entries_keep_soundness, one_entry, what_a_line_says};
 use sk_gen::datum_sketch_is_sound;
 use sk_lang::{one_answer, one_front, readable_is_sound, written_reads_back};
@@ -69,9 +83,10 @@ use sk_spare::one_list_of_spares;
 use sk_verdict::one_judgement;
 use sk_verify::accepted;
 
-/// Words and an input have one outcome at most.
+/// Words and an input have one outcome at most, but where they ask for `complete`: which of the completions that there may be is
+/// given, no clause says; what holds of each, `completions_are_right` says.
 pub fn one_outcome()
-    ensures { (words : List (List ℕ)) (bytes : List ℕ) (status other : Status) (text another : List ℕ)
+    ensures { (words : List (List ℕ)) → (AskToComplete words → ⊥) → (bytes : List ℕ) (status other : Status) (text another : List ℕ)
         → IsOutcome words bytes status text → IsOutcome words bytes other another
         → (status ≡ other) × (text ≡ another) }
 {
@@ -141,9 +156,10 @@ pub fn migrated_reads_the_same()
 }
 
 /// Why each status comes. It is `Usage` exactly where the words aren't of the form, and `Refused` exactly
-/// where the input is. It is `NotWell` exactly where the command plans a sketch whose verdict isn't well,
-/// so never where it is `check`, `offers`, `session`, `live`, `migrate`, `verify`, `spare`, `derive`, `parts` or
-/// `excess`, which don't plan the whole sketch. Where the command is `solve`, `dxf` or `grow`, and nowhere else, it is
+/// where the input is. What follows is said of all commands but `complete` and `measure`, whose other causes
+/// `completions_are_right` and `why_measure_ends` say. It is `NotWell` exactly where the command plans a sketch whose verdict isn't well,
+/// so never where it is `check`, `offers`, `session`, `live`, `migrate`, `verify`, `spare`, `derive`, `parts`,
+/// `excess` or `why`, which don't plan the whole sketch. Where the command is `solve`, `dxf` or `grow`, and nowhere else, it is
 /// `StepFault` exactly where a step has a fault; or none has, and a box can't be carried into the drawn frame
 /// that was asked for; or neither is so, no least number is above the limit and a sign is turned. There it is
 /// `Tolerance` exactly where no step has a fault, each box is carried where it is to be, and some least
@@ -158,24 +174,25 @@ pub fn causes()
     ensures refused { (words : List (List ℕ)) (bytes text : List ℕ) (status : Status) (request : Request) → IsOutcome words bytes status text → Asks words request
         → (status ≡ Status.Refused) ↔ IsRefusedInput request.command request bytes }
     ensures not_well { (words : List (List ℕ)) (bytes text : List ℕ) (status : Status) (request : Request) → IsOutcome words bytes status text → Asks words request
-        → (status ≡ Status.NotWell) ↔ (IsTrue (plans request.command) × ((s : Sketch) × IsSketchOf request.command request bytes s × (IsWell (graph_of s) → ⊥))) }
+        → (request.command ≡ Command.Complete → ⊥) → (status ≡ Status.NotWell) ↔ (IsTrue (plans request.command) × ((s : Sketch) × IsSketchOf request.command request bytes s × (IsWell (graph_of s) → ⊥))) }
     ensures step_fault { (words : List (List ℕ)) (bytes text : List ℕ) (status : Status) (request : Request) → IsOutcome words bytes status text → Asks words request
-        → (status ≡ Status.StepFault) ↔ (IsTrue (solves request.command) × ((s : Sketch) × IsSketchOf request.command request bytes s × ((p : Plan) × IsItsPlan request s p
+        → (request.command ≡ Command.Measure → ⊥) → (status ≡ Status.StepFault) ↔ (IsTrue (solves request.command) × ((s : Sketch) × IsSketchOf request.command request bytes s × ((p : Plan) × IsItsPlan request s p
         × (HasFault request s p ⊎ ((at : Placed) × LieAt request s p at × NonePasses request s at × SomeTurned request s p at))))) }
     ensures tolerance { (words : List (List ℕ)) (bytes text : List ℕ) (status : Status) (request : Request) → IsOutcome words bytes status text → Asks words request
-        → (status ≡ Status.Tolerance) ↔ (IsTrue (solves request.command) × ((s : Sketch) × IsSketchOf request.command request bytes s × ((p : Plan) × IsItsPlan request s p
+        → (request.command ≡ Command.Measure → ⊥) → (status ≡ Status.Tolerance) ↔ (IsTrue (solves request.command) × ((s : Sketch) × IsSketchOf request.command request bytes s × ((p : Plan) × IsItsPlan request s p
         × ((at : Placed) × LieAt request s p at × SomePasses request s at)))) }
     ensures done { (words : List (List ℕ)) (bytes text : List ℕ) (status : Status) (request : Request) (s : Sketch) → IsOutcome words bytes status text → Asks words request
         → IsTrue (solves request.command) → IsSketchOf request.command request bytes s
         → (status ≡ Status.Done) ↔ ((p : Plan) × IsItsPlan request s p × ((at : Placed) × LieAt request s p at × NonePasses request s at × AllAsDrawn (signs s at p))) }
     ensures done_unless_refused { (words : List (List ℕ)) (bytes text : List ℕ) (status : Status) (request : Request) → IsOutcome words bytes status text → Asks words request
-        → (IsTrue (plans request.command) → ⊥) → (request.command ≡ Command.Verify → ⊥) → (status ≡ Status.Done) ↔ (IsRefusedInput request.command request bytes → ⊥) }
+        → (IsTrue (plans request.command) → ⊥) → (request.command ≡ Command.Verify → ⊥) → (request.command ≡ Command.Complete → ⊥) → (request.command ≡ Command.Measure → ⊥)
+        → (status ≡ Status.Done) ↔ (IsRefusedInput request.command request bytes → ⊥) }
     ensures done_where_well { (words : List (List ℕ)) (bytes text : List ℕ) (status : Status) (request : Request) → IsOutcome words bytes status text → Asks words request
         → IsTrue (plans request.command) → (IsTrue (solves request.command) → ⊥) → (status ≡ Status.Done) ↔ ((s : Sketch) × IsSketchOf request.command request bytes s × IsWell (graph_of s)) }
     ensures done_where_accepted { (words : List (List ℕ)) (bytes text : List ℕ) (status : Status) (request : Request) → IsOutcome words bytes status text → Asks words request
         → request.command ≡ Command.Verify → (status ≡ Status.Done) ↔ ((f : Front) × (c : Claim) × HasClaim bytes f c × IsAccepted f.sketch (graph_of f.sketch) c) }
     ensures not_verified { (words : List (List ℕ)) (bytes text : List ℕ) (status : Status) (request : Request) → IsOutcome words bytes status text → Asks words request
-        → (status ≡ Status.NotVerified) ↔ ((request.command ≡ Command.Verify)
+        → (request.command ≡ Command.Measure → ⊥) → (status ≡ Status.NotVerified) ↔ ((request.command ≡ Command.Verify)
         × ((f : Front) × (c : Claim) × (h : Failure) × HasClaim bytes f c × FailsFirst f.sketch (graph_of f.sketch) c h)) }
 {
     one_answer();
@@ -186,6 +203,72 @@ pub fn causes()
     one_list_of_spares();
     one_derived_text();
     datum_sketch_is_sound();
+}
+
+/// Why `measure` ends as it does, where its input isn't refused. It is done exactly where each element has a place, a circle with its
+/// own radius, no least number is above the limit, and neither an angle nor a block is turned. It is `NotVerified` exactly where an
+/// element has no such place, `Tolerance` exactly where each has and some least number is above the limit, and `StepFault` exactly
+/// where each has, none is above it, and an angle or a block is turned.
+pub fn why_measure_ends()
+    ensures done { (words : List (List ℕ)) (bytes text : List ℕ) (status : Status) (request : Request) → IsOutcome words bytes status text → Asks words request → request.command ≡ Command.Measure
+        → (status ≡ Status.Done) ↔ ((f : Front) × (c : Claim) × HasPlaces bytes f c × AllTold c f.sketch.elements × (NonePasses request f.sketch c.at × AllAsDrawn (constraint_signs f.sketch c.at f.sketch.constraints))) }
+    ensures not_verified { (words : List (List ℕ)) (bytes text : List ℕ) (status : Status) (request : Request) → IsOutcome words bytes status text → Asks words request → request.command ≡ Command.Measure
+        → (status ≡ Status.NotVerified) ↔ ((f : Front) × (c : Claim) × HasPlaces bytes f c × ((e : Elem) × IsFirstUntold c f.sketch.elements e)) }
+    ensures tolerance { (words : List (List ℕ)) (bytes text : List ℕ) (status : Status) (request : Request) → IsOutcome words bytes status text → Asks words request → request.command ≡ Command.Measure
+        → (status ≡ Status.Tolerance) ↔ ((f : Front) × (c : Claim) × HasPlaces bytes f c × AllTold c f.sketch.elements × SomePasses request f.sketch c.at) }
+    ensures step_fault { (words : List (List ℕ)) (bytes text : List ℕ) (status : Status) (request : Request) → IsOutcome words bytes status text → Asks words request → request.command ≡ Command.Measure
+        → (status ≡ Status.StepFault) ↔ ((f : Front) × (c : Claim) × HasPlaces bytes f c × AllTold c f.sketch.elements × (NonePasses request f.sketch c.at
+        × ((sign : Turned) × Contains (constraint_signs f.sketch c.at f.sketch.constraints) sign × IsTurned sign))) }
+{
+    readable_is_sound();
+    one_front();
+    one_reply();
+    one_list_of_spares();
+    one_derived_text();
+    datum_sketch_is_sound();
+}
+
+/// Where each element has a place, `measure` tells by how much the places are off each constraint, in order, and the least tolerances
+/// with which all holds there, whatever its status (`offs`). Of one constraint where the elements lie so there is one such answer
+/// (`same`), which `excess` tells too of what is left out. Of the places of a claim that `verify` accepts none is off by more than the
+/// claim's tolerance, and no sign is turned over (`accepted`). With the element lines of `solve`, an `end` behind them and the same limit
+/// it is done, and tells the tolerances that `solve` told (`solved`).
+pub fn given_places_are_measured()
+    ensures offs { (words : List (List ℕ)) (bytes text : List ℕ) (status : Status) (request : Request) (f : Front) (c : Claim) → IsOutcome words bytes status text → Asks words request
+        → request.command ≡ Command.Measure → HasPlaces bytes f c → AllTold c f.sketch.elements → (offs line : List ℕ) × TellsOffs f.sketch c.at offs × (text ≡ offs ++ line) }
+    ensures same { (at : Placed) (s : Sketch) (k : ConId) (one other : OffBy) → IsOffThere at s k one → IsOffThere at s k other → one ≡ other }
+    ensures accepted { (s : Sketch) (c : Claim) (k : ConId) (off : OffBy) → IsSoundSketch s → IsAccepted s (graph_of s) c → IsOffThere c.at s k off
+        → (off.length ≡ true → unsigned_abs off.off ≤ c.t) × (off.length ≡ false → unsigned_abs off.off ≤ c.w) × (off.turned ≡ None) }
+    ensures solved { (words asked : List (List ℕ)) (bytes input : List ℕ) (request measures : Request) (s : Sketch) (p : Plan) (at : Placed) (t : Tolerance) (f : Front)
+        → Asks words request → Reads bytes s → HoldsAt request s p at t → Asks asked measures → measures.command ≡ Command.Measure → measures.within ≡ request.within
+        → ReadsFront input f → f.sketch ≡ s → drop f.used input ≡ printed_places s at
+        → (lines : List ℕ) × AreOffsPut (measured_line s) s at (all_numbers s) lines × IsOutcome asked input Status.Done (lines ++ tolerance_lines s t) }
+{
+    readable_is_sound();
+    one_front();
+    one_reply();
+    one_list_of_spares();
+    one_derived_text();
+    datum_sketch_is_sound();
+}
+
+/// Where `complete` is done, it writes a text that reads as a sketch with the elements of the one that was read, and behind its
+/// constraints drawn values alone; its verdict is well, and it says besides just as much as is due (`done`). Where it isn't, and its
+/// input isn't refused, the sketch isn't well, and the reason is told (`none`). It is never another status (`ends`). A sketch that is
+/// well is completed (`well`).
+pub fn completions_are_right()
+    ensures done { (words : List (List ℕ)) (bytes text : List ℕ) (request : Request) (s : Sketch) → IsOutcome words bytes Status.Done text → Asks words request → request.command ≡ Command.Complete
+        → Reads bytes s → (t : Sketch) × Completes s t × (text ≡ canonical t) × Reads text t }
+    ensures none { (words : List (List ℕ)) (bytes text : List ℕ) (request : Request) (s : Sketch) → IsOutcome words bytes Status.NotWell text → Asks words request → request.command ≡ Command.Complete
+        → Reads bytes s → (why : Reason) × (j : Judgement) × IsTheJudgement (graph_of s) j × IsCompletionGiven s (Completion.Without why) × (text ≡ no_completion why ++ check_report s j) }
+    ensures ends { (words : List (List ℕ)) (bytes text : List ℕ) (status : Status) (request : Request) → IsOutcome words bytes status text → Asks words request → request.command ≡ Command.Complete
+        → (status ≡ Status.Refused → ⊥) → (status ≡ Status.Done) ⊎ (status ≡ Status.NotWell) }
+    ensures well { (words : List (List ℕ)) (bytes text : List ℕ) (status : Status) (request : Request) (s : Sketch) → IsOutcome words bytes status text → Asks words request → request.command ≡ Command.Complete
+        → Reads bytes s → IsWell (graph_of s) → status ≡ Status.Done }
+{
+    one_answer();
+    readable_is_sound();
+    completed_reads();
 }
 
 /// Where `solve` is done with a sketch, the plan of the run by the order, with nothing turned, finds the very

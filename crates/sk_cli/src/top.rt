@@ -12,9 +12,11 @@ ghost use Rattle.sk_cli.specs.LiveEnding.{LiveTakes};
 use crate::accounts::account_of;
 use crate::answer::{Answer, TOO_LONG, refused};
 use crate::claims::claimed;
+use crate::complete::completed;
 use crate::flips::flips;
 use crate::grow::grow;
 use crate::live::live;
+use crate::measure::measured;
 use crate::offers::offers;
 use crate::plan::plan;
 use crate::session::session;
@@ -27,7 +29,7 @@ use sk_request::{Command, Request, request_of};
 use std::alloc::Global;
 
 const USAGE: &str =
-    "usage: sketch check|plan|solve|dxf|offers|session|grow|migrate|verify|spare|flips|derive|parts|live|excess [order=first|last|0..65535] [bits=16|27|38] [within=1..1000000] [place=boxes|points] [frame=base|drawn] [n=3..1000]\n";
+    "usage: sketch check|plan|solve|dxf|offers|session|grow|migrate|verify|spare|flips|derive|parts|live|excess|complete|measure|why [order=first|last|0..65535] [bits=16|27|38] [within=1..1000000] [place=boxes|points] [frame=base|drawn] [n=3..1000]\n";
 
 /// The most bytes of an input.
 const MOST_BYTES: usize = 1_048_576;
@@ -150,6 +152,8 @@ fn answer(alloc: Global, request: Request, bytes: &[u8]) -> Result<Answer, NoMem
         Command::Grow(n) => grow(alloc, n, request),
         Command::Verify => claimed(alloc, bytes),
         Command::Flips => flips(alloc, request, bytes),
+        Command::Complete => completed(alloc, bytes),
+        Command::Measure => measured(alloc, request.within, bytes),
     }
 }
 

@@ -23,12 +23,12 @@ returns c =
       usage = usage_both;
       refused = λ words bytes text status request outcome asks.
           refused_both one_sketch not_both law laws request.command request bytes text status (answer_about words bytes text status request outcome asks);
-      not_well = λ words bytes text status request outcome asks.
-          not_well_exactly one_sketch not_both law laws request.command request bytes text status (answer_about words bytes text status request outcome asks);
-      step_fault = λ words bytes text status request outcome asks.
-          fault_exactly one_sketch not_both law laws request.command request bytes text status (answer_about words bytes text status request outcome asks) (size_fits words request asks);
-      tolerance = λ words bytes text status request outcome asks.
-          beyond_exactly one_sketch not_both law laws request.command request bytes text status (answer_about words bytes text status request outcome asks) (size_fits words request asks);
+      not_well = λ words bytes text status request outcome asks other.
+          not_well_exactly one_sketch not_both law laws request.command request bytes text status (answer_about words bytes text status request outcome asks) other;
+      step_fault = λ words bytes text status request outcome asks other.
+          fault_exactly one_sketch not_both law laws request.command request bytes text status (answer_about words bytes text status request outcome asks) (size_fits words request asks) other;
+      tolerance = λ words bytes text status request outcome asks other.
+          beyond_exactly one_sketch not_both law laws request.command request bytes text status (answer_about words bytes text status request outcome asks) (size_fits words request asks) other;
       done = λ words bytes text status request s outcome asks placed about.
           (let solved = solved_about one_sketch not_both request.command request bytes text status s (answer_about words bytes text status request outcome asks) placed about in
           held_both law laws solved.0 request s status text solved.2 (sound_about laws request.command request bytes s (size_fits words request asks) about));
@@ -39,6 +39,6 @@ returns c =
       done_where_accepted = λ words bytes text status request outcome asks is.
           verified_exactly laws request bytes text status
           (subst (λ (c : Command). IsAnswerOf c request bytes status text) is (answer_about words bytes text status request outcome asks));
-      not_verified = λ words bytes text status request outcome asks.
-          failing_exactly laws request.command request bytes text status (answer_about words bytes text status request outcome asks);
+      not_verified = λ words bytes text status request outcome asks other.
+          failing_exactly laws request.command other request bytes text status (answer_about words bytes text status request outcome asks);
     }
