@@ -74,11 +74,16 @@ COMMANDS = (
     Command("excess", "a sketch",
             "of each part that is over, the constraints that are left out from the last on, and how far off each is by the"
             " others", PLACING),
+    Command("why", "a sketch",
+            "of each part that is over, for each constraint that is left out the others that it follows from"),
+    Command("complete", "a sketch",
+            "the sketch with the constraints that it lacks, or why there is no such sketch"),
     Command("parts", "a sketch", "the verdict and the parts, each with where its own elements lie", PLACING),
     Command("flips", "a sketch and lists of steps",
             "for each list where the elements lie once the choices of its steps are turned over", PLACING),
     Command("verify", "a sketch and a claim",
             "whether the steps, places and tolerances that are claimed are right, or what fails first"),
+    Command("measure", "a sketch and places", "by how much the places are off each constraint", ("within",)),
     Command("session", "edits and questions, a line each", "a reply to each", PLACING),
     Command("live", "the same, line by line", "a reply to each, before it asks for more", PLACING),
     Command("offers", "a sketch and offered merges", "an answer to each, then the report of `check`", ("order",)),
@@ -144,10 +149,12 @@ STATUSES = (
     Status(3, "standard input failed", "nothing; in `live` the whole replies so far"),
     Status(4, "standard output failed", "what could be written of the text"),
     Status(5, "memory ran out", "nothing; in `session` and `live` the whole replies so far"),
-    Status(6, "`plan`, `solve`, `dxf`, `grow` or `flips` met a verdict other than `well`", "the check report"),
+    Status(6, "`plan`, `solve`, `dxf`, `grow` or `flips` met a verdict other than `well`; or `complete` has no completion to"
+           " give", "the check report, of `complete` behind a line that says why"),
     Status(7, "a step has no places, or a sign isn't as drawn", "the fault line"),
     Status(8, "a tolerance is beyond the limit", "the fault line"),
-    Status(9, "`verify` met something of the claim that fails", "the line that names it"),
+    Status(9, "`verify` met something of the claim that fails, or `measure` an element without its place",
+           "the line that names it"),
     Status(10, "the arguments can't be read", "nothing"),
 )
 

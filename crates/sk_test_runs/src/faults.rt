@@ -253,6 +253,77 @@ end
 excess 1
 part 1 over elements 2 held 2 due 1 : A B
 c2 : distance B A 3 conflict off -500000 nm
+$ complete
+sketch 1
+point A 0 0
+point B 3 4
+end
+> 0
+sketch 1
+point A 0 0
+point B 3 4
+distance A B 5
+end
+$ complete
+sketch 1
+point A 2 2
+circle C 2 2 1
+end
+> 6
+no completion stuck
+verdict open
+elements 2
+constraints 0
+parts 2
+part 1 sound elements 1 held 0 due 0 : A
+part 2 sound elements 1 held 0 due 0 : C
+$ measure
+sketch 1
+point A 0 0
+point B 4 0
+point C 4 3
+distance A B 4
+distance A C 5
+distance B C 3
+end
+point C 4000000 3000000
+point A 0 0
+point B 4000000 0
+end
+> 0
+c1 : distance A B 4 off 0 nm
+c2 : distance A C 5 off 0 nm
+c3 : distance B C 3 off 0 nm
+length tolerance 0 nm at c1
+angle tolerance 0 ppb at none
+$ measure
+sketch 1
+point A 0 0
+point B 4 0
+point C 4 3
+distance A B 4
+distance A C 5
+distance B C 3
+end
+point A 0 0
+point B 4000000 0
+end
+> 9
+measure fails element C
+$ why
+sketch 1
+point A 0 0
+point B 4 0
+point C 4 3
+point D 0 3
+distance A B 4
+distance A C 5
+distance A D 3
+distance B C 3
+distance B D 5
+end
+> 0
+why 0
 ";
 
 /// A call that reads nothing.

@@ -1,8 +1,9 @@
 // Runs the tables of calls.
 use crate::row::rows_pass;
 use sk_test_tables::{
-    blocks, checks, derived, drawn, excess, flips, framed, grown, offers, parts, plans, refusals,
-    refused_claims, sessions, settled, solves, spares, verified, verified_signs, versions,
+    blocks, checks, completed, derived, drawn, excess, flips, framed, grown, measured, offers,
+    parts, plans, reasons, refusals, refused_claims, sessions, settled, solves, spares, verified,
+    verified_signs, versions,
 };
 
 #[test]
@@ -21,6 +22,13 @@ fn texts_get_their_answers(rt: HostRuntime) {
         verified::VERIFIED,
         verified_signs::SIGNS,
         refused_claims::REFUSED_CLAIMS,
+        completed::COMPLETED,
+        completed::NEXT,
+        completed::WITHOUT,
+        measured::MEASURED,
+        measured::REFUSED_PLACES,
+        reasons::REASONS,
+        reasons::REASONS_OF_BLOCKS,
     ];
     for table in tables {
         rows_pass(&rt, rt.alloc(), table);

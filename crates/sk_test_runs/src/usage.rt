@@ -3,7 +3,7 @@ use crate::row::{answer_over, ending_of, ends, rows_of};
 
 /// What such words come to: the one copy of the usage line in the tests, which those in Python read here too.
 pub const USAGE: &str =
-    "2\nusage: sketch check|plan|solve|dxf|offers|session|grow|migrate|verify|spare|flips|derive|parts|live|excess [order=first|last|0..65535] [bits=16|27|38] [within=1..1000000] [place=boxes|points] [frame=base|drawn] [n=3..1000]\n";
+    "2\nusage: sketch check|plan|solve|dxf|offers|session|grow|migrate|verify|spare|flips|derive|parts|live|excess|complete|measure|why [order=first|last|0..65535] [bits=16|27|38] [within=1..1000000] [place=boxes|points] [frame=base|drawn] [n=3..1000]\n";
 
 /// The words of a call behind each line feed, each word behind a blank; the first row has none, and the second one empty
 /// word.
@@ -93,6 +93,24 @@ const NO_FORMS: &str = "
  excess bits=20
  excess within=0
  excess n=3
+ complete complete
+ complete order=first
+ complete bits=16
+ complete within=1
+ complete n=3
+ measure measure
+ measure order=first
+ measure bits=38
+ measure within=0
+ measure within=5 within=5
+ measure place=points
+ measure frame=base
+ measure n=3
+ why why
+ why order=first
+ why bits=16
+ why within=10
+ why n=3
  dxf n=3";
 
 /// The first read would fail, so a call that reads would end with another status.
