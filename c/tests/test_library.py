@@ -10,8 +10,8 @@ HERE = TOP / "c"
 PROGRAM = os.environ.get("PERTXOGAI_SKETCH", str(TOP / "crates/sketch/out/sketch"))
 STRICT = ["-Wall", "-Wextra", "-Wpedantic", "-Werror", "-O2", f"-I{HERE}"]
 SKETCHES = sorted([*(TOP / "examples").glob("*.sketch"), *(TOP / "examples/faults").glob("*.sketch")])
-COMMANDS = ["check", "plan", "plan order=last", "solve", "solve bits=16", "solve place=points", "solve frame=drawn", "dxf", "parts", "excess", "offers",
-            "session", "live", "migrate", "verify", "spare", "flips", "derive", "grow n=9", "nonsense", "", "check  ", "check order="]
+COMMANDS = ["check", "plan", "plan order=last", "solve", "solve bits=16", "solve place=points", "solve frame=drawn", "dxf", "parts", "excess", "why", "complete",
+            "offers", "measure", "session", "live", "migrate", "verify", "spare", "flips", "derive", "grow n=9", "nonsense", "", "check  ", "check order="]
 
 
 def run(*words, **how):
@@ -51,8 +51,8 @@ def test_eight_threads_answer_as_one(room):
     assert done.returncode == 0, done.stdout
 
 
-@pytest.mark.parametrize("command", ["check", "plan", "solve place=points", "solve frame=drawn", "parts", "excess", "flips", "derive",
-                                     "spare", "session", "live"])
+@pytest.mark.parametrize("command", ["check", "plan", "solve place=points", "solve frame=drawn", "parts", "excess", "why", "complete", "flips",
+                                     "derive", "spare", "session", "live"])
 def test_each_request_for_memory_is_refused_in_turn(room, command):
     compiled("cc", "-std=gnu11", *STRICT, HERE / "tests/faults.c", room / "libsketch.a",
              "-Wl,--wrap=malloc,--wrap=realloc,--wrap=free", "-o", room / "faults")

@@ -6,8 +6,8 @@
 #include "sketch.h"
 
 static const char *const commands[] = {"check", "plan", "solve", "solve place=points bits=27", "solve frame=drawn",
-                                       "dxf", "parts", "excess", "offers", "migrate", "spare", "flips", "derive",
-                                       "session", "live", "grow n=20", "nonsense"};
+                                       "dxf", "parts", "excess", "why", "complete", "offers", "migrate", "spare", "flips",
+                                       "derive", "measure", "session", "live", "grow n=20", "nonsense"};
 enum { COMMANDS = sizeof commands / sizeof *commands, FILES = 64, MOST = 65536, THREADS = 64 };
 
 static struct {

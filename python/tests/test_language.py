@@ -10,11 +10,11 @@ import pytest
 from conftest import EXAMPLES, ROWS, TOP, Row
 from pertxogai.language import (
     Angle, Ask, Block, BlockPlace, Circle, Claim, ClusterName, Code, Distance, Drop, Erase, Flip,
-    Flips, Inside, Line, NotAName, NotHeld, Offer, Offers, On, Outside, Point, Refusal, Session,
-    SetLength, SetRatio, Sketch, Tangent, micrometres, mm_text, nearest_ratio)
+    Flips, Given, Inside, Line, NotAName, NotHeld, Offer, Offers, On, Outside, PlacedPoint, Point,
+    Refusal, Session, SetLength, SetRatio, Sketch, Tangent, micrometres, mm_text, nearest_ratio)
 from pertxogai.program import Status
 
-PARSERS = {"flips": Flips, "offers": Offers, "verify": Claim}
+PARSERS = {"flips": Flips, "offers": Offers, "verify": Claim, "measure": Given}
 SKETCH_ROWS = [
     row
     for row in ROWS
@@ -375,6 +375,35 @@ def test_lines_behind_a_sketch() -> None:
 def test_the_code_of_a_flip_line(lines: str, line: int, code: Code) -> None:
     with pytest.raises(Refusal) as refusal:
         Flips.parse("sketch 1\npoint A 0 0\npoint B 4 0\ndistance A B 4\nend\n" + lines)
+    assert (refusal.value.refused.line, refusal.value.refused.code) == (line, code)
+
+
+def test_places_behind_a_sketch() -> None:
+    sketch = Sketch(1, (Point("A", 0, 0), Point("B", 4000, 0)), (Distance("A", "B", 4000),))
+    given = Given(sketch, (PlacedPoint("B", 4_000_000, -1), PlacedPoint("A", 0, 0)))
+    assert given.text() == sketch.text() + "point B 4000000 -1\npoint A 0 0\nend\n"
+    assert Given.parse(given.text()) == given
+
+
+@pytest.mark.parametrize(
+    "lines, line, code",
+    [
+        ("point A 0 0\npoint B 0 1", 8, Code.E16),
+        ("step A 0 0\nend", 6, Code.E2),
+        ("tolerance 0 0\nend", 6, Code.E2),
+        ("end x", 6, Code.E3),
+        ("point A 0\nend", 6, Code.E3),
+        ("point 1 0 0\nend", 6, Code.E4),
+        ("point C 0 0\nend", 6, Code.E6),
+        ("circle A 0 0 1\nend", 6, Code.E7),
+        ("point A 0 0.5\nend", 6, Code.E8),
+        ("point A 0 0\npoint A 0 0\nend", 7, Code.E5),
+        ("end\nend", 7, Code.E17),
+    ],
+)
+def test_the_code_of_a_line_of_places(lines: str, line: int, code: Code) -> None:
+    with pytest.raises(Refusal) as refusal:
+        Given.parse("sketch 1\npoint A 0 0\npoint B 4 0\ndistance A B 4\nend\n" + lines)
     assert (refusal.value.refused.line, refusal.value.refused.code) == (line, code)
 
 

@@ -5,16 +5,18 @@ import pytest
 
 from conftest import EXAMPLES, EXCESS_ROWS, FRAME_ROWS, LARGE_ROWS, ROWS, Row
 from pertxogai.language import (
-    Choice, Claim, ClusterName, Distance, Flip, Flips, Offer, Offers, Point, Session, Sketch)
+    Angle, Choice, Claim, ClusterName, Distance, Flip, Flips, Given, Offer, Offers, Point, Session,
+    Sketch)
 from pertxogai.program import Answer, Status
 from pertxogai.program.reports import (
     Accepted, AtConstraint, AtLine, Cause, CheckReport, CircleEntity, ClaimFails, Code,
-    ConstraintFault, Excessive, Failing, FrameFault, Idle, LineEntity, LineFault, NoAnswer,
-    NoChoice, NotAReport, NumberFault, Off, Part, Phase, PointEntity, RangeFault, Refused,
-    RefusedEdit, Shape, Solved, Spare, Stale, StepAt, Taken, Turned, TurnedFault, Unit, Usage,
-    Verdict, Verified, read_answer, read_check, read_derive, read_dxf, read_excess, read_fault,
-    read_flips, read_offers, read_parts, read_plan, read_session, read_solve, read_spare,
-    read_verify, write_derive, write_dxf, write_spare)
+    ConstraintFault, Excessive, Failing, Follows, FrameFault, Idle, Lack, LineEntity, LineFault,
+    Measured, MeasuredOff, NoAnswer, NoChoice, NoCompletion, NotAReport, NumberFault, Off, Part,
+    Phase, PointEntity, RangeFault, Refused, RefusedEdit, Shape, Solved, Spare, Stale, StepAt,
+    Taken, Tolerances, Turned, TurnedFault, Unit, Unplaced, Usage, Verdict, Verified, read_answer,
+    read_check, read_complete, read_derive, read_dxf, read_excess, read_fault, read_flips,
+    read_measure, read_no_completion, read_offers, read_parts, read_plan, read_session, read_solve,
+    read_spare, read_verify, read_why, write_derive, write_dxf, write_spare)
 
 TRIANGLE = """verdict well
 elements 3
@@ -323,6 +325,141 @@ def test_what_is_no_report_of_excess(text: str) -> None:
         read_excess(text)
 
 
+WHY = "why 1\npart 2 over elements 3 held 6 due 3 : A B C\n"
+
+
+def test_why() -> None:
+    text = (
+        WHY
+        + "c4 : distance follows from 3 follows from c1 c3\n"
+        + "c5 : distance A B 2 follows from c2\n"
+    )
+    (over,) = read_why(text).parts
+    assert (over.part.number, [it.because for it in over.left_out]) == (2, [(1, 3), (2,)])
+    assert over.left_out[0] == Follows(4, Distance("follows", "from", 3000), (1, 3))
+    assert read_why(text).text() == text
+    assert read_why("why 0\n").parts == ()
+
+
+@pytest.mark.parametrize(
+    "text",
+    [
+        "why 1\n",
+        WHY.replace("over", "sound").replace("held 6", "held 3"),
+        WHY + "c4 : distance A B 3 follows from\n",
+        WHY + "c4 : distance A B 3\n",
+        WHY + "c4 : distance A B 3 follows from c2 c2\n",
+        WHY + "c4 : distance A B 3 follows from c3 c2\n",
+        WHY + "c4 : distance A B 3 follows from c4\n",
+        WHY + "c4 : distance A B 3 follows from c5\nc5 : distance A B 4 follows from c1\n",
+        WHY + "c5 : distance A B 3 follows from c1\nc4 : distance A B 4 follows from c1\n",
+        WHY + "c4 : block A 0 0 B 4 0 C 4 3 D 1 1 follows from c1\n",
+        WHY.replace("why 1", "why 2") + "c4 : distance A B 3 follows from c2\n",
+        "why 0\nc4 : distance A B 3 follows from c2\n",
+    ],
+)
+def test_what_is_no_report_of_why(text: str) -> None:
+    with pytest.raises(NotAReport):
+        read_why(text)
+
+
+SPOT = "sketch 1\npoint A 0 0\npoint B 3 4\ndistance A B 5\nend\n"
+STUCK = (
+    "no completion stuck\nverdict open\nelements 2\nconstraints 0\nparts 2\n"
+    "part 1 sound elements 1 held 0 due 0 : A\npart 2 sound elements 1 held 0 due 0 : C\n"
+)
+
+
+def test_complete() -> None:
+    assert read_complete(SPOT) == Sketch.parse(SPOT)
+    assert read_answer(["complete"], Answer(Status.DONE, SPOT)) == Sketch.parse(SPOT)
+    none = read_no_completion(STUCK)
+    assert (none.why, none.check.verdict, none.text()) == (Lack.STUCK, Verdict.OPEN, STUCK)
+    assert isinstance(read_answer(["complete"], Answer(Status.NOT_WELL, STUCK)), NoCompletion)
+
+
+@pytest.mark.parametrize(
+    "text",
+    [
+        STUCK.replace("stuck", "tired"),
+        STUCK.replace("stuck", "over"),
+        STUCK.split("\n", 1)[1],
+        STUCK.split("\n", 1)[0] + "\n",
+        STUCK + "end\n",
+    ],
+)
+def test_what_tells_of_no_completion(text: str) -> None:
+    with pytest.raises(NotAReport):
+        read_no_completion(text)
+
+
+@pytest.mark.parametrize("text", [STUCK, SPOT[:-1], SPOT.replace("5", "05"), SPOT + "\n", ""])
+def test_what_is_no_completion(text: str) -> None:
+    with pytest.raises(NotAReport):
+        read_complete(text)
+
+
+BESIDE = "c1 : distance off off 4 off 500 nm\nc2 : angle L M 1/1 off -7 ppb\n"
+LEAST = "length tolerance 500 nm at c1\nangle tolerance 7 ppb at c2\n"
+TURNED = BESIDE.replace("-7 ppb", "-7 ppb turned drawn + placed 0") + LEAST
+
+
+def test_measure() -> None:
+    at = Tolerances(500, AtConstraint(1), 7, AtConstraint(2))
+    measured = read_measure(BESIDE + LEAST)
+    assert measured == Measured(
+        (
+            MeasuredOff(1, Distance("off", "off", 4000), 500, Unit.NM),
+            MeasuredOff(2, Angle("L", "M", 1, 1), -7, Unit.PPB),
+        ),
+        at,
+    )
+    for fault in (
+        "fault c1 tolerance 500 nm limit 499\n",
+        "fault line L tolerance 2 ppb limit 1\n",
+    ):
+        found = read_answer(["measure"], Answer(Status.TOLERANCE, BESIDE + LEAST + fault))
+        assert isinstance(found, Measured) and found.text() == BESIDE + LEAST + fault
+    turned = read_measure(TURNED + "fault c2 turned drawn + placed 0\n")
+    assert isinstance(turned, Measured) and turned.offs[1].turned == Turned(1, 0)
+    assert read_measure("measure fails element Top\n") == Unplaced("Top")
+    none = "length tolerance 0 nm at none\nangle tolerance 0 ppb at none\n"
+    assert read_measure(none) == Measured((), Tolerances(0, None, 0, None))
+    by_a_line = BESIDE + LEAST.replace("7 ppb at c2", "8 ppb at line L")
+    assert isinstance(read_measure(by_a_line), Measured)
+
+
+@pytest.mark.parametrize(
+    "text",
+    [
+        "",
+        BESIDE,
+        LEAST,
+        TURNED,
+        BESIDE + LEAST + "fault c2 turned drawn + placed 0\n",
+        TURNED + "fault c1 turned drawn + placed 0\n",
+        TURNED + "fault s1 turned drawn + placed 0\n",
+        TURNED + "fault c2 turned drawn - placed 0\n",
+        BESIDE + LEAST + "fault c1 tolerance 499 nm limit 1\n",
+        BESIDE + LEAST + "fault c3 tolerance 500 nm limit 1\n",
+        BESIDE + LEAST + "fault s1 build height C range bits 38\n",
+        BESIDE + LEAST.replace("500", "501"),
+        BESIDE + LEAST.replace("500 nm at c1", "500 nm at none"),
+        BESIDE + LEAST.replace("7 ppb at c2", "8 ppb at c2"),
+        BESIDE + LEAST.replace("7 ppb at c2", "6 ppb at line L"),
+        BESIDE.replace("c2", "c3") + LEAST,
+        BESIDE.replace("500 nm", "500 ppb") + LEAST,
+        BESIDE.replace("500 nm", "500 nm turned drawn + placed 0") + LEAST,
+        TURNED.replace("placed 0", "placed 1") + "fault c2 turned drawn + placed 1\n",
+        "measure fails element\n",
+        "measure fails element Top\n" + LEAST,
+    ],
+)
+def test_what_is_no_report_of_measure(text: str) -> None:
+    with pytest.raises(NotAReport):
+        read_measure(text)
+
+
 def test_verify() -> None:
     assert read_verify("verified steps 1 length 0 nm angle 2 ppb\n") == Verified(1, 0, 2)
     for line, fails in [
@@ -462,7 +599,8 @@ def test_statuses_without_a_report() -> None:
 def test_each_example_in_each_command(path, program) -> None:
     text = path.read_text()
     for command in (
-        "check", "plan", "solve", "dxf", "spare", "excess", "parts", "derive", "migrate"
+        "check", "plan", "solve", "dxf", "spare", "excess", "why", "complete", "parts", "derive",
+        "migrate",
     ):
         answer = program.ask([command], text)
         assert written((command,), read_answer([command], answer)) == answer.text
@@ -484,6 +622,26 @@ def test_what_solve_prints_is_a_claim_that_holds(program) -> None:
     assert answer == Verified(
         len(plan.steps), solved.length_tolerance_nm, solved.angle_tolerance_ppb
     )
+
+
+def test_what_solve_prints_is_measured(program) -> None:
+    text = (EXAMPLES[0].parents[0] / "bracket.sketch").read_text()
+    solved = read_solve(program.ask(["solve"], text).text)
+    given = Given(Sketch.parse(text), solved.places)
+    measured = read_answer(["measure"], program.ask(["measure"], given.text()))
+    assert isinstance(measured, Measured) and measured.fault is None
+    assert measured.tolerances == solved.tolerances
+    lacking = Given(given.sketch, given.places[1:])
+    assert read_measure(program.ask(["measure"], lacking.text()).text) == Unplaced(
+        given.places[0].name
+    )
+
+
+def test_what_is_completed_is_well(program) -> None:
+    text = (EXAMPLES[0].parents[0] / "hinge.sketch").read_text()
+    completed = read_complete(program.ask(["complete"], text).text)
+    assert completed.elements == Sketch.parse(text).elements
+    assert read_check(program.ask(["check"], completed.text()).text).verdict is Verdict.WELL
 
 
 def test_flips_and_offers_of_values(program) -> None:

@@ -18,7 +18,8 @@ MOST_PLACE_NM = 1 << 60
 MOST_NORMAL_PPB = 2_000_000_000
 MOST_TOLERANCE = 1 << 62
 _WHOLE = re.compile("-?[0-9]{1,19}")
-_COUNTS = {"step": (13, 14), "point": (4,), "circle": (5,), "line": (5,), "tolerance": (3,)}
+_PLACE_COUNTS = {"point": (4,), "circle": (5,), "line": (5,)}
+_COUNTS = {**_PLACE_COUNTS, "step": (13, 14), "tolerance": (3,)}
 
 
 @dataclass(frozen=True)
@@ -57,14 +58,14 @@ class _Reader:
 
     def __init__(self, sketch: Sketch) -> None:
         self.sketch = sketch
-        self.kinds = {element.name: type(element) for element in sketch.elements}
         self.steps: list[Step] = []
-        self.places: dict[str, Placed] = {}
+        self.placed = PlacesReader(sketch)
         self.tolerances = (0, 0)
 
     def claim(self) -> Claim:
         """The claim of the lines that were taken."""
-        return Claim(self.sketch, tuple(self.steps), tuple(self.places.values()), *self.tolerances)
+        places = tuple(self.placed.places.values())
+        return Claim(self.sketch, tuple(self.steps), places, *self.tolerances)
 
     def take(self, words: Sequence[str]) -> bool:
         """Adds a line, and returns whether it is that of the tolerances. Raises Faulty."""
@@ -80,7 +81,7 @@ class _Reader:
         if words[0] == "step":
             self.steps.append(self._step(words))
         else:
-            self._place(words)
+            self.placed.take(words)
         return False
 
     def _step(self, words: Sequence[str]) -> Step:
@@ -93,14 +94,26 @@ class _Reader:
         )
         if not number.is_step or not all(map(is_name, words[7:10])):
             raise Faulty(Code.E4)
-        if any(name not in self.kinds for name in words[7:10]):
+        if any(name not in self.placed.kinds for name in words[7:10]):
             raise Faulty(Code.E6)
         return Step(
             number.number, (one, two, three), (words[7], words[8], words[9]), keeps, choices[0]
         )
 
-    def _place(self, words: Sequence[str]) -> None:
-        """Adds a place. Raises Faulty: E4, E6, E7, E8, E5."""
+
+class PlacesReader:
+    """The places so far, by the names of their elements."""
+
+    def __init__(self, sketch: Sketch) -> None:
+        self.kinds = {element.name: type(element) for element in sketch.elements}
+        self.places: dict[str, Placed] = {}
+
+    def take(self, words: Sequence[str]) -> None:
+        """Adds the place of a line. Raises Faulty: E2, E3, E4, E6, E7, E8, E5."""
+        if words[0] not in _PLACE_COUNTS:
+            raise Faulty(Code.E2)
+        if len(words) not in _PLACE_COUNTS[words[0]]:
+            raise Faulty(Code.E3)
         name = words[1]
         if not is_name(name):
             raise Faulty(Code.E4)
