@@ -2,11 +2,10 @@
 use Rattle.std.proofs.Common.{◌≡◌, ◌==◌, inl, inr, refl, ℕ, suc, ◌+◌, ◌<◌, List, [], ◌∷◌, ◌++◌, length, get_or, take, ap, sym, subst, ◌∙◌, arith, append_assoc}
 use Rattle.std.specs.Prelude.{Contains, Some}
 use Rattle.std.proofs.lemmas.Bool.Decides.{nat_tests}
-use Rattle.std.proofs.lemmas.List.{append-nil, length-take-le}
+use Rattle.std.proofs.lemmas.List.{append-nil}
 use Rattle.std.proofs.Math.Seq.{take-suc}
 use Rattle.sk_base.specs.declared.ConId.{ConId}
 use Rattle.sk_base.specs.declared.Constraint.{Constraint}
-use Rattle.sk_base.specs.declared.Elem.{Elem}
 use Rattle.sk_base.specs.declared.Placed.{Placed}
 use Rattle.sk_base.specs.declared.Sketch.{Sketch}
 use Rattle.sk_base.specs.SoundSketch.{IsSoundSketch}
@@ -44,7 +43,6 @@ use Rattle.sk_request.specs.declared.Request.{Request}
 use Rattle.sk_cli.specs.declared.solving.Report.TheVariants.{Shape}
 use Rattle.sk_cli.specs.declared.status.Status.TheVariants.{Done}
 use Rattle.sk_cli.specs.OffsThere.{IsOffThere, AreOffsPut}
-use Rattle.sk_cli.specs.ExcessReport.{StandsForOver, EachOverStands, IsPartExcess, AreExcessesTold}
 use Rattle.sk_cli.specs.Solved.{IsPlacedPlan}
 use Rattle.sk_cli.proofs.Printed.{held_so}
 
@@ -121,44 +119,6 @@ put_line line s at left i d i_in start old new (lines, told, old_is) (off, there
       new_is ∙ ap (λ t. t ++ line k off) old_is ∙ append_assoc start lines (line k off),
     )
 
--- one part more
-told_more : (request : Request) (s : Sketch) (parts : List Part) (number : ℕ) (p : Part) (lines here : List ℕ) → AreExcessesTold request s number parts lines → IsPartExcess request s (number + length parts) p here
-    → AreExcessesTold request s number (parts ++ p ∷ []) (lines ++ here)
-told_more request s [] number p lines here none told =
-    let number_is : number + 0 ≡ number = omega arith in
-    (here, [], subst (λ n. IsPartExcess request s n p here) number_is told, refl, ap (λ l. l ++ here) none ∙ sym (append-nil here))
-told_more request s (q ∷ parts) number p lines here (first, more, first_told, rest, is) told =
-    let number_is : number + length (q ∷ parts) ≡ (number + 1) + length parts = omega arith in (
-      first,
-      more ++ here,
-      first_told,
-      told_more request s parts (number + 1) p more here rest (subst (λ n. IsPartExcess request s n p here) number_is told),
-      ap (λ l. l ++ here) is ∙ append_assoc first more here,
-    )
-
--- the text so far, with a part more
-pub put_excess : (request : Request) (s : Sketch) (parts : List Part) (i : ℕ) (z : Part) → i < length parts → (start old new here : List ℕ)
-    → (lines : List ℕ) × AreExcessesTold request s 1 (take i parts) lines × (old ≡ start ++ lines)
-    → IsPartExcess request s (i + 1) (get_or parts i z) here → new ≡ old ++ here
-    → (lines : List ℕ) × AreExcessesTold request s 1 (take (i + 1) parts) lines × (new ≡ start ++ lines)
-put_excess request s parts i z i_in start old new here (lines, told, old_is) here_told new_is =
-    let p = get_or parts i z in
-    let size : length (take i parts) ≡ i = length-take-le i parts (omega arith) in
-    let number_is : i + 1 ≡ 1 + length (take i parts) = omega (arith, size) in
-    let front_is : take (i + 1) parts ≡ take i parts ++ p ∷ [] = (let next_is : i + 1 ≡ suc i = omega arith in ap (λ n. take n parts) next_is ∙ take-suc parts i z i_in) in (
-      lines ++ here,
-      subst (λ ps. AreExcessesTold request s 1 ps (lines ++ here)) (sym front_is) (told_more request s (take i parts) 1 p lines here told (subst (λ n. IsPartExcess request s n p here) number_is here_told)),
-      new_is ∙ ap (λ t. t ++ here) old_is ∙ append_assoc start lines here,
-    )
-
--- each list of parts is told of
-pub some_excesses : (request : Request) (s : Sketch) → (parts : List Part) → ((p : Part) (number : ℕ) → Contains parts p → (here : List ℕ) × IsPartExcess request s number p here) → (number : ℕ) → (lines : List ℕ) × AreExcessesTold request s number parts lines
-some_excesses request s [] each number = ([], refl)
-some_excesses request s (p ∷ parts) each number =
-    let here = each p number (contains_head p parts) in
-    let rest = some_excesses request s parts (λ q n q_in. each q n (contains_later p parts q q_in)) (number + 1) in
-    (here.0 ++ rest.0, (here.0, rest.0, here.1, rest.1, refl))
-
 -- how far off each is that is left out
 pub some_offs : (line : ConId → OffBy → List ℕ) (own : Sketch) → IsSoundSketch own → (at : Placed) → PlacesExactly (graph_of own) at → (left : List ConId)
     → ((k : ConId) → Contains left k → (c : Constraint) × Contains own.constraints c × (c.number ≡ k)) → (text : List ℕ) × AreOffsPut line own at left text
@@ -168,16 +128,6 @@ some_offs line own sound at exactly (k ∷ left) each =
     let off = some_there own sound at exactly c c_in k named in
     let rest = some_offs line own sound at exactly left (λ j j_in. each j (contains_later k left j j_in)) in
     (line k off.0 ++ rest.0, (off.0, rest.0, off.1, rest.1, refl))
-
--- what is told of each part that is over, in other words
-pub over_each : (Told Other : Sketch → List ℕ → Type 0) (s : Sketch) → ((xs : List Elem) (text : List ℕ) → Told (part_sketch s xs) text → Other (part_sketch s xs) text)
-    → (parts : List Part) (number : ℕ) (text : List ℕ) → EachOverStands Told s number parts text → EachOverStands Other s number parts text
-over_each Told Other s each [] number text none = none
-over_each Told Other s each (p ∷ parts) number text (here, more, told, rest, is) = (here, more, one told, over_each Told Other s each parts (number + 1) more rest, is)
-  where
-    one : StandsForOver Told s number p here → StandsForOver Other s number p here
-    one (inl (over, (below, written, below_is))) = inl (over, (below, each p.elements below written, below_is))
-    one (inr not_over) = inr not_over
 
 -- of two parts none has what is left out of the other
 pub once_left : (s : Sketch) → IsSoundSketch s → (j : Judgement) → IsTheJudgement (graph_of s) j → (p q : Part) → Contains j.parts p → Contains j.parts q → (ps qs : List ConId)

@@ -48,7 +48,8 @@ use Rattle.sk_cli.specs.Outcome.{IsAccountAnswer}
 use Rattle.sk_cli.specs.Repeats.{IsByKept, FitsWhereRepeated, FitWhereRepeated}
 use Rattle.sk_cli.specs.Solved.{IsPlacedPlan}
 use Rattle.sk_cli.specs.Solving.{status_of, placement_words}
-use Rattle.sk_cli.proofs.ExcessTold.{kept_places, over_each}
+use Rattle.sk_why.proofs.OverTold.{over_each}
+use Rattle.sk_cli.proofs.ExcessTold.{kept_places}
 use Rattle.sk_cli.proofs.Fitting.{all_fit}
 use Rattle.sk_cli.proofs.OneOutcome.{OneSketch, NotBoth, told_account}
 use Rattle.sk_cli.proofs.Printed.{held_so}

@@ -24,7 +24,7 @@ use Rattle.sk_excess.proofs.Choosing.{one_list as one_left}
 use Rattle.sk_excess.proofs.KeptSketches.{kept_is_sound}
 use Rattle.sk_report.specs.ExcessReport.{excess_head, left_lines, off_line}
 use Rattle.sk_cli.specs.OffsThere.{IsOffThere, AreOffsPut}
-use Rattle.sk_cli.specs.ExcessReport.{AreOffsTold, IsMeasuredLeft, IsFaultyLeft, IsOverLeft, IsExcess, IsPartExcess, AreExcessesTold, over_count}
+use Rattle.sk_cli.specs.ExcessReport.{AreOffsTold, IsMeasuredLeft, IsFaultyLeft, IsOverLeft, IsExcess, AreExcessesTold, over_count}
 use Rattle.sk_base.specs.declared.Name.{Name}
 use Rattle.sk_base.specs.declared.Sketch.{Sketch}
 use Rattle.sk_base.specs.declared.Graph.{Graph}
@@ -94,6 +94,7 @@ use Rattle.sk_cli.specs.declared.solving.Report.{Report}
 use Rattle.sk_cli.specs.declared.solving.Report.TheVariants.{Places, Drawing, Sums, Shape}
 use Rattle.sk_request.specs.Asking.{HasFitSize}
 use Rattle.sk_request.proofs.Sizes.{size_fits}
+use Rattle.sk_why.proofs.OverTold.{one_each}
 use Rattle.sk_why.proofs.ReasonsTold.{one_report}
 use Rattle.sk_gen.specs.DatumSketch.{datum_sketch}
 use Rattle.sk_cli.specs.Accounts.{IsAccount}
@@ -601,13 +602,6 @@ same_excess request own sound text another (left, are, told) (left', are', told'
     let same = one_left (graph_of own) (graph_is_sound own sound) left left' are are' in
     same_left request own sound left' text another (subst (λ (z : List ConId). IsMeasuredLeft request own z text ⊎ (IsFaultyLeft request own z text ⊎ IsOverLeft own z text)) same told) told'
 
-same_part_excess : (request : Request) (s : Sketch) → IsSoundSketch s → (number : ℕ) (p : Part) (text another : List ℕ) → IsPartExcess request s number p text → IsPartExcess request s number p another → text ≡ another
-same_part_excess request s sound number p text another (inl (over, (below, told, is))) (inl (over', (below', told', is'))) =
-    is ∙ ap (λ t. part_line s number p ++ t) (same_excess request (part_sketch s p.elements) (part_is_sound s p.elements sound) below below' told told') ∙ sym is'
-same_part_excess request s sound number p text another (inl (over, told)) (inr (not, is)) = absurd (not over)
-same_part_excess request s sound number p text another (inr (not, is)) (inl (over, told)) = absurd (not over)
-same_part_excess request s sound number p text another (inr (not, is)) (inr (not', is')) = is ∙ sym is'
-
 -- ---- the places behind a sketch
 
 -- the first fault is one
@@ -684,13 +678,6 @@ module _ (laws : LowerLaws) (bytes : List ℕ) where
         ]
       ]
 
-same_excesses : (request : Request) (s : Sketch) → IsSoundSketch s → (parts : List Part) (number : ℕ) (text another : List ℕ)
-    → AreExcessesTold request s number parts text → AreExcessesTold request s number parts another → text ≡ another
-same_excesses request s sound [] number text another is is' = is ∙ sym is'
-same_excesses request s sound (p ∷ parts) number text another (here, more, told, rest, is) (here', more', told', rest', is') =
-    is ∙ ap (λ t. t ++ more) (same_part_excess request s sound number p here here' told told')
-    ∙ ap (λ t. here' ++ t) (same_excesses request s sound parts (number + 1) more more' rest rest') ∙ sym is'
-
 -- an account of a sketch
 same_account : OneJudgement → LowerLaws → (account : Account) (request : Request) (s : Sketch) → IsSoundSketch s → (text another : List ℕ) → IsAccount account request s text → IsAccount account request s another → text ≡ another
 same_account law laws accounts.Judged request s sound text another (j, judged, is) (k, judged', is') = is ∙ ap (λ z. check_report s z) (same_judgement law (graph_of s) j k judged judged') ∙ sym is'
@@ -705,7 +692,8 @@ same_account law laws accounts.Shapes request s sound text another (j, lines, ju
 same_account law laws accounts.Excesses request s sound text another (j, lines, judged, told, is) (k, lines', judged', told', is') =
     let same = same_judgement law (graph_of s) j k judged judged' in
     let moved : AreExcessesTold request s 1 k.parts lines = subst (λ (z : Judgement). AreExcessesTold request s 1 z.parts lines) same told in
-    is ∙ ap (λ z. excess_head (over_count z.parts) ++ lines) same ∙ ap (λ t. excess_head (over_count k.parts) ++ t) (same_excesses request s sound k.parts 1 lines lines' moved told') ∙ sym is'
+    is ∙ ap (λ z. excess_head (over_count z.parts) ++ lines) same ∙ ap (λ t. excess_head (over_count k.parts) ++ t)
+    (one_each (IsExcess request) s (λ xs one other. same_excess request (part_sketch s xs) (part_is_sound s xs sound) one other) k.parts 1 lines lines' moved told') ∙ sym is'
 same_account law laws accounts.Reasons request s sound text another told told' = one_report s sound text another told told'
 
 same_account_of : OneSketch → OneJudgement → LowerLaws → (account : Account) (request : Request) (bytes text another : List ℕ) → IsAccountOf account request bytes text → IsAccountOf account request bytes another → text ≡ another

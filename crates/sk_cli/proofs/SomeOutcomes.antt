@@ -1,5 +1,5 @@
 -- Words and an input have an outcome.
-use Rattle.std.proofs.Common.{◌≡◌, ◌≢◌, ◌⊎◌, inl, inr, refl, ℕ, ◌≤◌, ◌<◌, List, [], ◌++◌, length, take, arith}
+use Rattle.std.proofs.Common.{◌≢◌, ◌⊎◌, inl, inr, refl, ℕ, ◌≤◌, ◌<◌, List, [], ◌++◌, length, take, arith}
 use Rattle.std.specs.Prelude.{drop, Contains}
 use Rattle.sk_base.specs.declared.Name.{Name}
 use Rattle.sk_base.specs.declared.ConId.{ConId}
@@ -34,6 +34,7 @@ use Rattle.sk_verify.proofs.SomeFailures.{accepted_or_failing}
 use Rattle.sk_claims.proofs.ReadPlaces.{some_answer as places_or_refused}
 use Rattle.sk_claims.proofs.FittingPlaces.{read_places_fit}
 use Rattle.sk_complete.specs.CompletionText.{completion_text}
+use Rattle.sk_why.proofs.OverTold.{some_each}
 use Rattle.sk_why.proofs.ReasonsTold.{some_report}
 use Rattle.sk_cli.specs.CompleteAnswer.{completion_status}
 use Rattle.sk_cli.proofs.MeasureTold.{as_answer}
@@ -72,8 +73,8 @@ use Rattle.sk_close_by_angles.proofs.SomeWide.{some_wide}
 use Rattle.sk_session.proofs.SomeReplies.{GivenByLanguage, well_or_not}
 use Rattle.sk_cli.specs.PartsReport.{IsBelowPart}
 use Rattle.sk_cli.proofs.PartsTold.{never_reported, below_sound, over_or_not, some_told}
-use Rattle.sk_cli.proofs.ExcessTold.{left_numbered, kept_places, some_offs, some_excesses}
-use Rattle.sk_cli.specs.ExcessReport.{IsMeasuredLeft, IsFaultyLeft, IsOverLeft, IsPartExcess, over_count}
+use Rattle.sk_cli.proofs.ExcessTold.{left_numbered, kept_places, some_offs}
+use Rattle.sk_cli.specs.ExcessReport.{IsExcess, IsMeasuredLeft, IsFaultyLeft, IsOverLeft, IsPartExcess, over_count}
 use Rattle.sk_excess.specs.LeftOut.{AreLeftOut}
 use Rattle.sk_excess.specs.KeptSketch.{kept_sketch}
 use Rattle.sk_excess.proofs.Choosing.{some_left_out}
@@ -189,7 +190,7 @@ some_account accounts.Shapes request s sketch =
     (parts_head j.0 ++ told.0, (j.0, told.0, j.1, told.1, refl))
 some_account accounts.Excesses request s sketch =
     let j = the_judgement_of s sketch in
-    let told = some_excesses request s j.0.parts (λ p number p_in. some_part request s sketch j.0 j.1 p p_in number) 1 in
+    let told = some_each (IsExcess request) s j.0.parts (λ p number p_in. some_part request s sketch j.0 j.1 p p_in number) 1 in
     (excess_head (over_count j.0.parts) ++ told.0, (j.0, told.0, j.1, told.1, refl))
 some_account accounts.Reasons request s sketch = some_report s sketch
 

@@ -49,7 +49,7 @@ use Rattle.sk_cli.specs.Solved.{IsPlacedPlan}
 use Rattle.sk_cli.specs.Solving.{status_of, placement_words}
 use Rattle.sk_cli.proofs.OneOutcome.{OneSketch, NotBoth, OneJudgement, LowerLaws, told_account, told_plan, told_planned, told_flipped}
 use Rattle.sk_cli.proofs.Printed.{OneNormal, tells_clusters, part_of_sketch, planned_both, planned_text, unplaced, held_so, solved_text, failed_text}
-use Rattle.sk_cli.proofs.ExcessTold.{over_each}
+use Rattle.sk_why.proofs.OverTold.{over_each}
 use Rattle.sk_cli.proofs.WhyEnds.{never_short, solved_about, not_well_both, planned_not_well, flips_about, flipped_not_well}
 
 -- what is solved of a sketch for a command

@@ -1,23 +1,21 @@
 -- What is told of the parts that are over: of each one minimal choice of constraints that stay is placed, and those that are
 -- left out are measured there.
-use Rattle.std.specs.Prelude.{◌≡◌, ◌≢◌, ◌⊎◌, ◌+◌, ℕ, List, [], ◌∷◌, ◌++◌, length, filter, nat_lt}
+use Rattle.std.specs.Prelude.{◌≡◌, ◌≢◌, ◌⊎◌, ℕ, List, ◌++◌}
 use Rattle.sk_base.specs.declared.ConId.{ConId}
 use Rattle.sk_base.specs.declared.Placed.{Placed}
 use Rattle.sk_base.specs.declared.Sketch.{Sketch}
 use Rattle.sk_graph.specs.SketchGraph.{graph_of}
 use Rattle.sk_verdict.specs.declared.Judgement.{Judgement}
 use Rattle.sk_verdict.specs.declared.Part.{Part}
-use Rattle.sk_verdict.specs.Judging.{IsOver}
 use Rattle.sk_tree.specs.declared.Plan.{Plan as ThePlan}
 use Rattle.sk_plan.specs.Judged.{IsTheJudgement, IsWell}
 use Rattle.sk_tolerance.specs.declared.Tolerance.{Tolerance}
 use Rattle.sk_solve.specs.declared.Placement.{Placement}
 use Rattle.sk_solve.specs.declared.Placement.TheVariants.{Holds}
-use Rattle.sk_parts.specs.OwnSketch.{part_sketch}
 use Rattle.sk_excess.specs.LeftOut.{AreLeftOut}
 use Rattle.sk_excess.specs.KeptSketch.{kept_sketch}
-use Rattle.sk_report.specs.CheckReport.{part_line}
 use Rattle.sk_report.specs.ExcessReport.{excess_head, left_lines, off_line, stays_over}
+pub use Rattle.sk_why.specs.OverParts.{StandsForOver, EachOverStands, over_count}
 use Rattle.sk_request.specs.declared.Request.{Request}
 use Rattle.sk_request.specs.Grids.{digits_of}
 use Rattle.sk_cli.specs.declared.solving.Report.TheVariants.{Shape}
@@ -56,27 +54,11 @@ IsExcess request own text =
     (left : List ConId) × AreLeftOut (graph_of own) left
     × (IsMeasuredLeft request own left text ⊎ (IsFaultyLeft request own left text ⊎ IsOverLeft own left text))
 
--- of a part that is over its line and what is written of its own sketch, of another part nothing
-abbrev pub StandsForOver : (Sketch → List ℕ → Type 0) → Sketch → ℕ → Part → List ℕ → Type 0
-StandsForOver IsWritten s number p text =
-    (IsOver p × ((below : List ℕ) × IsWritten (part_sketch s p.elements) below × (text ≡ part_line s number p ++ below)))
-    ⊎ ((¬ IsOver p) × (text ≡ []))
-
--- so of each of the parts, with numbers from this one on, one behind another
-abbrev pub EachOverStands : (Sketch → List ℕ → Type 0) → Sketch → ℕ → List Part → List ℕ → Type 0
-EachOverStands IsWritten s number [] text = text ≡ []
-EachOverStands IsWritten s number (p ∷ parts) text =
-    (here : List ℕ) × (more : List ℕ) × StandsForOver IsWritten s number p here × EachOverStands IsWritten s (number + 1) parts more × (text ≡ here ++ more)
-
 abbrev pub IsPartExcess : Request → Sketch → ℕ → Part → List ℕ → Type 0
 IsPartExcess request s number p text = StandsForOver (IsExcess request) s number p text
 
 abbrev pub AreExcessesTold : Request → Sketch → ℕ → List Part → List ℕ → Type 0
 AreExcessesTold request s number parts text = EachOverStands (IsExcess request) s number parts text
-
--- how many of the parts are over
-abbrev pub over_count : List Part → ℕ
-over_count parts = length (filter (λ (p : Part). nat_lt p.due p.held) parts)
 
 -- how many parts are over, and what is told of each
 abbrev pub IsExcessReport : Request → Sketch → List ℕ → Type 0

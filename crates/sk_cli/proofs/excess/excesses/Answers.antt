@@ -9,9 +9,9 @@ use Rattle.sk_verdict.specs.declared.Judgement.{Judgement}
 use Rattle.sk_verdict.specs.declared.Part.{Part}
 use Rattle.sk_plan.specs.Judged.{IsTheJudgement}
 use Rattle.sk_request.specs.declared.Request.{Request}
-use Rattle.sk_cli.specs.ExcessReport.{IsPartExcess, AreExcessesTold, IsExcessReport, over_count}
+use Rattle.sk_cli.specs.ExcessReport.{IsExcess, IsPartExcess, AreExcessesTold, IsExcessReport, over_count}
 use Rattle.sk_report.specs.ExcessReport.{excess_head}
-use Rattle.sk_cli.proofs.ExcessTold.{put_excess}
+use Rattle.sk_why.proofs.OverTold.{put_each}
 use Rattle.sk_cli.proofs.excess.excesses.Goals as goal
 
 -- the report, where the loop is done
@@ -31,7 +31,7 @@ loop-i-preserved c =
     let here = c.in_ok-part_excess.field-0 in
     let told : IsPartExcess c.args.request c.args.sketch.now (c.loop-i.i + 1) part here = c.in_ok-part_excess.ensures in
     let at = subst (λ (p : Part). IsPartExcess c.args.request c.args.sketch.now (c.loop-i.i + 1) p here) c.index-parts-i.is told in
-    put_excess c.args.request c.args.sketch.now c.as_slice-parts.result.now c.loop-i.i part c.loop-i-test.true _ c.loop-i.text c.put-in-loop-i.new.self here c.loop-i.invariant at
+    put_each (IsExcess c.args.request) c.args.sketch.now c.as_slice-parts.result.now c.loop-i.i part c.loop-i-test.true _ c.loop-i.text c.put-in-loop-i.new.self here c.loop-i.invariant at
     (c.in_ok-put-2.ensures.ok ∙ ap (λ bytes. c.loop-i.text ++ bytes) c.as_bytes-in-loop-i.ensures)
 
 pub returns : goal.returns
