@@ -70,6 +70,11 @@ LARGE_ROWS = read_rows("large/*.row")
 """Rows for which only the proved program is quick enough."""
 EXCESS_ROWS = read_rows("excess/*.row")
 """Rows of a program that has the command `excess`."""
+COMPLETE_ROWS = read_rows("complete/*.row")
+MEASURE_ROWS = read_rows("measure/*.row")
+WHY_ROWS = read_rows("why/*.row")
+NEW_ROWS = COMPLETE_ROWS + MEASURE_ROWS + WHY_ROWS
+"""Rows of a program that has the commands `complete`, `measure` and `why`."""
 FRAME_ROWS = read_rows("frame/*.row")
 """Rows of a program that has the key `frame`."""
 EXAMPLES = sorted((TOP / "examples").rglob("*.sketch"))

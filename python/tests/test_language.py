@@ -7,7 +7,7 @@ from fractions import Fraction
 
 import pytest
 
-from conftest import EXAMPLES, ROWS, TOP, Row
+from conftest import EXAMPLES, NEW_ROWS, ROWS, TOP, Row
 from pertxogai.language import (
     Angle, Ask, Block, BlockPlace, Circle, Claim, ClusterName, Code, Distance, Drop, Erase, Flip,
     Flips, Given, Inside, Line, NotAName, NotHeld, Offer, Offers, On, Outside, PlacedPoint, Point,
@@ -17,7 +17,7 @@ from pertxogai.program import Status
 PARSERS = {"flips": Flips, "offers": Offers, "verify": Claim, "measure": Given}
 SKETCH_ROWS = [
     row
-    for row in ROWS
+    for row in ROWS + NEW_ROWS
     if row.words[0] not in ("session", "grow") and row.answer.status != Status.USAGE
 ]
 

@@ -10,7 +10,7 @@ from pathlib import Path
 
 import pytest
 
-from conftest import EXCERPTS, EXCESS_ROWS, FRAME_ROWS, LARGE_ROWS, ROWS, Row
+from conftest import EXCERPTS, EXCESS_ROWS, FRAME_ROWS, LARGE_ROWS, NEW_ROWS, ROWS, Row
 from pertxogai.program import (
     Answer, MissingProgram, Program, ProgramCrashed, ProgramError, ProgramSpoke, ProgramTimedOut,
     Status)
@@ -63,6 +63,11 @@ def test_a_row_of_what_is_too_much_is_answered(row: Row, program) -> None:
     assert program.ask(row.words, row.text) == row.answer
 
 
+@pytest.mark.parametrize("row", NEW_ROWS, ids=lambda row: f"{row.words[0]}-{row.name}")
+def test_a_row_of_a_new_command_is_answered(row: Row, program) -> None:
+    assert program.ask(row.words, row.text) == row.answer
+
+
 SESSIONS = [row for row in ROWS if row.words[0] == "session"]
 
 
@@ -87,7 +92,9 @@ def built_library() -> Library:
     return Library.find()
 
 
-@pytest.mark.parametrize("row", ROWS + LARGE_ROWS + EXCESS_ROWS, ids=lambda row: row.name)
+@pytest.mark.parametrize(
+    "row", ROWS + LARGE_ROWS + EXCESS_ROWS + NEW_ROWS, ids=lambda row: row.name
+)
 def test_the_library_answers_a_row_alike(row: Row, built_library: Library) -> None:
     assert built_library.ask(row.words, row.text) == row.answer
 

@@ -3,7 +3,8 @@ from __future__ import annotations
 
 import pytest
 
-from conftest import EXAMPLES, EXCESS_ROWS, FRAME_ROWS, LARGE_ROWS, ROWS, Row
+from conftest import (
+    EXAMPLES, EXCESS_ROWS, FRAME_ROWS, LARGE_ROWS, MEASURE_ROWS, NEW_ROWS, ROWS, Row)
 from pertxogai.language import (
     Angle, Choice, Claim, ClusterName, Distance, Flip, Flips, Given, Offer, Offers, Point, Session,
     Sketch)
@@ -42,19 +43,19 @@ MEASURED_ROWS = [row for row in EXCESS_ROWS if "stays over" not in row.answer.te
 
 
 @pytest.mark.parametrize(
-    "row", ROWS + LARGE_ROWS + EXCESS_ROWS + FRAME_ROWS, ids=lambda row: row.name
+    "row", ROWS + LARGE_ROWS + EXCESS_ROWS + FRAME_ROWS + NEW_ROWS, ids=lambda row: row.name
 )
 def test_a_row_is_read_and_written_back(row: Row) -> None:
     assert written(row.words, read_answer(row.words, row.answer)) == row.answer.text
 
 
-@pytest.mark.parametrize("row", ROWS + MEASURED_ROWS, ids=lambda row: row.name)
+@pytest.mark.parametrize("row", ROWS + MEASURED_ROWS + MEASURE_ROWS, ids=lambda row: row.name)
 def test_a_spoilt_row_is_refused(row: Row) -> None:
     text = row.answer.text
     spoilt = [text[:-1], text + "\n", " " + text, text + "rubbish\n", text.replace(" ", "  ", 1)]
     if row.words[0] not in ("flips", "session"):
         spoilt += [text + text, ""]
-    if row.words[0] not in ("dxf", "flips", "session", "offers"):
+    if row.words[0] not in ("dxf", "flips", "session", "offers", "measure"):
         lines = text.splitlines(keepends=True)
         spoilt += [
             "".join(lines[:k] + lines[k + 1 :])
@@ -423,6 +424,16 @@ def test_measure() -> None:
     turned = read_measure(TURNED + "fault c2 turned drawn + placed 0\n")
     assert isinstance(turned, Measured) and turned.offs[1].turned == Turned(1, 0)
     assert read_measure("measure fails element Top\n") == Unplaced("Top")
+    for status, told in (
+        (Status.DONE, BESIDE + LEAST + "fault c1 tolerance 500 nm limit 499\n"),
+        (Status.DONE, "measure fails element Top\n"),
+        (Status.TOLERANCE, BESIDE + LEAST),
+        (Status.FAULT, BESIDE + LEAST + "fault c1 tolerance 500 nm limit 499\n"),
+        (Status.TOLERANCE, TURNED + "fault c2 turned drawn + placed 0\n"),
+        (Status.CLAIM_FAILS, BESIDE + LEAST),
+    ):
+        with pytest.raises(NotAReport):
+            read_answer(["measure"], Answer(status, told))
     none = "length tolerance 0 nm at none\nangle tolerance 0 ppb at none\n"
     assert read_measure(none) == Measured((), Tolerances(0, None, 0, None))
     by_a_line = BESIDE + LEAST.replace("7 ppb at c2", "8 ppb at line L")

@@ -2,54 +2,20 @@
 from __future__ import annotations
 
 from collections.abc import Callable, Sequence
+from importlib import import_module
+from typing import TYPE_CHECKING
 
-from pertxogai.language.refusal import Refusal, Refused
+from pertxogai.language.refusal import Refusal
 from pertxogai.language.sketch import Sketch
-from pertxogai.program.reports.check import CheckReport, read_check
-from pertxogai.program.reports.completed import NoCompletion, read_complete, read_no_completion
-from pertxogai.program.reports.derived import read_derive
-from pertxogai.program.reports.dxf import Entity, read_dxf
-from pertxogai.program.reports.excess import ExcessReport, read_excess
-from pertxogai.program.reports.faults import Fault, read_fault
-from pertxogai.program.reports.flips import Flipped, read_flips
-from pertxogai.program.reports.grown import Grown, read_grow
-from pertxogai.program.reports.measured import Measured, Unplaced, read_measure
-from pertxogai.program.reports.offers import OffersReport, read_offers
-from pertxogai.program.reports.parts import PartsReport, read_parts
-from pertxogai.program.reports.plan import Plan, read_plan
-from pertxogai.program.reports.refused import Usage, read_refusal, read_usage
+from pertxogai.program.reports.check import read_check
+from pertxogai.program.reports.faults import TurnedFault, read_fault
+from pertxogai.program.reports.refused import read_refusal, read_usage
 from pertxogai.program.reports.rows import NotAReport
-from pertxogai.program.reports.session import Reply, read_session
-from pertxogai.program.reports.solved import Solved, read_solve
-from pertxogai.program.reports.spare import Spare, read_spare
-from pertxogai.program.reports.verified import ClaimFails, Verified, read_verify
-from pertxogai.program.reports.why import WhyReport, read_why
 from pertxogai.program.running import Answer, Status
 
-Report = (
-    CheckReport
-    | Plan
-    | Solved
-    | PartsReport
-    | ExcessReport
-    | WhyReport
-    | NoCompletion
-    | Measured
-    | Unplaced
-    | OffersReport
-    | Grown
-    | Verified
-    | ClaimFails
-    | Sketch
-    | Fault
-    | Refused
-    | Usage
-    | tuple[Spare, ...]
-    | tuple[Flipped, ...]
-    | tuple[Entity, ...]
-    | tuple[Reply, ...]
-    | tuple[tuple[str, ...], ...]
-)
+if TYPE_CHECKING:
+    from pertxogai.program.reports.measured import Measured, Unplaced
+    from pertxogai.program.reports.report import Report
 
 
 class NoAnswer(NotAReport):
@@ -70,25 +36,26 @@ _WHAT = {
     Status.NO_MEMORY: "since memory ran out: give it more, or a smaller sketch",
     Status.NO_ARGUMENTS: "since its arguments couldn't be read: try again",
 }
-_READERS: dict[str, Callable[[str], Report]] = {
-    "check": read_check,
-    "plan": read_plan,
-    "solve": read_solve,
-    "dxf": read_dxf,
-    "spare": read_spare,
-    "excess": read_excess,
-    "why": read_why,
-    "complete": read_complete,
-    "parts": read_parts,
-    "flips": read_flips,
-    "verify": read_verify,
-    "measure": read_measure,
-    "session": read_session,
-    "live": read_session,
-    "offers": read_offers,
-    "derive": read_derive,
-    "grow": read_grow,
+_READERS = {
+    "check": "check.read_check",
+    "complete": "completed.read_complete",
+    "derive": "derived.read_derive",
+    "dxf": "dxf.read_dxf",
+    "excess": "excess.read_excess",
+    "flips": "flips.read_flips",
+    "grow": "grown.read_grow",
+    "live": "session.read_session",
+    "offers": "offers.read_offers",
+    "parts": "parts.read_parts",
+    "plan": "plan.read_plan",
+    "session": "session.read_session",
+    "solve": "solved.read_solve",
+    "spare": "spare.read_spare",
+    "verify": "verified.read_verify",
+    "why": "why.read_why",
 }
+"""What reads the report of a command, behind `pertxogai.program.reports.`: each is imported once it
+is needed."""
 
 
 def read_answer(words: Sequence[str], answer: Answer) -> Report:
@@ -102,11 +69,38 @@ def read_answer(words: Sequence[str], answer: Answer) -> Report:
     if status is Status.USAGE:
         return read_usage(answer.text)
     if status is Status.NOT_WELL:
-        told, is_incomplete = answer.text, command == "complete"
-        return read_no_completion(told) if is_incomplete else read_check(told)
-    if status in (Status.FAULT, Status.TOLERANCE) and command != "measure":
+        return _not_well(command, answer.text)
+    if command == "measure":
+        return _measured(answer)
+    if status in (Status.FAULT, Status.TOLERANCE):
         return read_fault(answer.text)
     return _report(command, answer.text)
+
+
+def _not_well(command: str, text: str) -> Report:
+    """What is told of a sketch that isn't well."""
+    if command != "complete":
+        return read_check(text)
+    from pertxogai.program.reports.completed import read_no_completion
+
+    return read_no_completion(text)
+
+
+def _measured(answer: Answer) -> Measured | Unplaced:
+    """What `measure` says, which fits its status."""
+    from pertxogai.program.reports.measured import Unplaced, read_measure
+
+    told = read_measure(answer.text)
+    if isinstance(told, Unplaced):
+        fits = answer.status is Status.CLAIM_FAILS
+    elif told.fault is None:
+        fits = answer.status is Status.DONE
+    else:
+        is_turned = isinstance(told.fault, TurnedFault)
+        fits = answer.status is (Status.FAULT if is_turned else Status.TOLERANCE)
+    if not fits:
+        raise NotAReport(f"no report of measure: it doesn't end with {answer.status.value}")
+    return told
 
 
 def _report(command: str, text: str) -> Report:
@@ -116,7 +110,10 @@ def _report(command: str, text: str) -> Report:
         raise NotAReport(
             f"no report of {command!r} is known: update pertxogai, or use another command"
         )
-    return _READERS[command](text)
+    module, _, name = _READERS[command].partition(".")
+    read: Callable[[str], Report] = getattr(
+        import_module(f"pertxogai.program.reports.{module}"), name)
+    return read(text)
 
 
 def _migrated(text: str) -> Sketch:

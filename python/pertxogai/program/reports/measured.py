@@ -39,6 +39,7 @@ class MeasuredOff:
 
 
 MeasuredFault = ConstraintFault | LineFault | TurnedFault
+"""What isn't met within the limit, or lies the other way round."""
 
 
 @dataclass(frozen=True)
