@@ -2,7 +2,7 @@
 ghost use Rattle.std.specs.Prelude.{◌≡◌, ◌≤◌, ℕ, List, length};
 ghost use Rattle.std.specs.Io.KnownBytes.{Appends};
 ghost use Rattle.sk_io.specs.Causes.{AnswersFault};
-ghost use Rattle.sk_io.specs.Reads.{ReadsToEnd};
+ghost use Rattle.sk_io.specs.Reads.{StopsAtEnd};
 ghost use Rattle.sk_io.specs.Transfer.{TakesAtMost};
 ghost use Rattle.sk_live_lines.specs.Answering.{IsTold};
 ghost use Rattle.sk_cli.specs.LiveAnswer.{late_line};
@@ -69,7 +69,7 @@ pub(crate) fn live<S: Source, K: Sink>(
     ensures taken { (gained : List ℕ) × Appends (K.written sink.old) (K.written sink.new) gained
         × LiveTakes request result (S.left source.old) (S.left source.new) gained }
     ensures few { TakesAtMost 4294967296 (S.left source.old) (S.left source.new) }
-    ensures reads { ReadsToEnd S.is_read_on S.is_read_last source.old source.new }
+    ensures reads { StopsAtEnd S.is_read_on S.is_read_last source.old source.new }
     ensures flushed { (result ≡ Status.WriteFault → ⊥) → K.is_flushed sink.old → K.is_flushed sink.new }
     ensures read_fault { AnswersFault (result ≡ Status.ReadFault) (S.faults source.old) (S.faults source.new) }
     ensures write_fault { AnswersFault (result ≡ Status.WriteFault) (K.faults sink.old) (K.faults sink.new) }

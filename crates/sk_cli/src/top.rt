@@ -2,7 +2,7 @@
 ghost use Rattle.std.specs.Prelude.{◌≡◌, ◌↔◌, ◌<◌, ◌≤◌, ℕ, List, length, drop, map, Some, string_bytes, IfOk, IfSome, IsErrOf, IsTrue};
 ghost use Rattle.std.specs.Io.KnownBytes.{Appends};
 ghost use Rattle.sk_io.specs.Causes.{AnswersFault};
-ghost use Rattle.sk_io.specs.Reads.{ReadsToEnd};
+ghost use Rattle.sk_io.specs.Reads.{StopsAtEnd};
 ghost use Rattle.sk_io.specs.Transfer.{TakesUpTo, TakesAtMost};
 ghost use Rattle.sk_request.specs.Asking.{Asks, HasFitSize, TakesInput, AskForInput};
 ghost use Rattle.sk_cli.specs.Outcome.{IsAnswer, IsWritten};
@@ -59,9 +59,9 @@ pub fn run<S: Source, K: Sink>(
         → IfSome (S.left source.old) (λ bytes. S.left source.new ≡ Some (drop 1048577 bytes)) }
     ensures untouched { (AskForInput (map string_bytes words.now) → ⊥) → source.new ≡ source.old }
 
-    // Whatever is answered, the source is read on while it gives bytes. A read that gives nothing is the end, and behind that
-    // or a failed read there is no other.
-    ensures reads { ReadsToEnd S.is_read_on S.is_read_last source.old source.new }
+    // Whatever is answered, each read of the source but the last gave bytes, so no read follows one that failed or gave
+    // nothing.
+    ensures reads { StopsAtEnd S.is_read_on S.is_read_last source.old source.new }
 
     // `live` takes no byte beyond the one that is too many, and no more than 4,095 bytes behind the line that ends the
     // session. Except where a write failed, a sink that held nothing back before holds nothing back then.
@@ -109,7 +109,7 @@ fn input<S: Source>(alloc: Global, command: Command, source: &mut S) -> Result<T
     ensures taken { TakesInput command → IfOk result (TakesUpTo 1048577 (S.left source.old) (S.left source.new)) }
     ensures bound { IfOk result (λ text. length text ≤ 1048577) }
     ensures untouched { (TakesInput command → ⊥) → source.new ≡ source.old }
-    ensures reads { ReadsToEnd S.is_read_on S.is_read_last source.old source.new }
+    ensures reads { StopsAtEnd S.is_read_on S.is_read_last source.old source.new }
     ensures tried { IsErrOf result ReadEnd.ReadFault → TakesInput command }
     ensures fault { AnswersFault (IsErrOf result ReadEnd.ReadFault) (S.faults source.old) (S.faults source.new) }
     ensures sure { S.is_sure source.old

@@ -3,7 +3,7 @@ ghost use Rattle.std.specs.declared.option.Option.{Option};
 ghost use Rattle.std.specs.Io.{ReadsAtMost};
 ghost use Rattle.std.specs.Io.KnownBytes.{ReadConsumes};
 ghost use Rattle.sk_io.specs.Causes.{AnswersFault};
-ghost use Rattle.sk_io.specs.Reads.{ReadsToEnd};
+ghost use Rattle.sk_io.specs.Reads.{StopsAtEnd};
 ghost use Rattle.sk_io.specs.Transfer.{TakesUpTo, TakesAtMost};
 
 use crate::fault::{Failed, ReadEnd};
@@ -24,7 +24,7 @@ pub trait Source {
     /// The second is the first after one read that gave bytes.
     ghost is_read_on: { Self → Self → Type 0 };
 
-    /// The second is the first after one read that failed, or that gave nothing though there was room: the end.
+    /// The second is the first after one read that failed, or that gave nothing though there was room.
     ghost is_read_last: { Self → Self → Type 0 };
 
     /// Takes bytes off the front of what is left. `Ok(0)` on a buffer that isn't empty is the end.
@@ -43,13 +43,13 @@ pub trait Source {
 const CHUNK: usize = 4096;
 
 /// Takes bytes until the end of input, or until `most` were taken. No more than `most` are taken off, whatever is answered.
-/// A read that gives nothing is the end, and a read that fails is the last: no other follows.
+/// Each read but the last gave bytes, so no read follows one that failed or gave nothing.
 pub fn read_all<S: Source>(alloc: Global, source: &mut S, most: u64) -> Result<Text, ReadEnd>
     requires { most ≤ 1048577 }
     ensures taken { IfOk result (TakesUpTo most (S.left source.old) (S.left source.new)) }
     ensures bound { IfOk result (λ text. length text ≤ most) }
     ensures few { TakesAtMost most (S.left source.old) (S.left source.new) }
-    ensures reads { ReadsToEnd S.is_read_on S.is_read_last source.old source.new }
+    ensures reads { StopsAtEnd S.is_read_on S.is_read_last source.old source.new }
 
     ensures fault { AnswersFault (IsErrOf result ReadEnd.ReadFault) (S.faults source.old) (S.faults source.new) }
     ensures sure { S.is_sure source.old
