@@ -29,7 +29,8 @@ pub fn minimal_choice()
         → ¬ IsOver (part_with (kept_graph left g) (map elem_of g.nodes)) → IsWell (kept_graph left g) }
 {}
 
-/// Of a graph with one cluster just one list is left out: neither an order nor a choice has a part in it.
+/// Of a graph with one cluster just one list is left out: neither the order of merges nor a key changes it. If the
+/// constraints were looked at in another order, it might be another.
 pub fn one_list_left_out()
     ensures some { (g : Graph) → IsSoundGraph g → IsOneCluster g → (left : List ConId) × AreLeftOut g left }
     ensures one { (g : Graph) (one other : List ConId) → IsSoundGraph g → AreLeftOut g one → AreLeftOut g other → one ≡ other }
