@@ -27,10 +27,12 @@ enum sketch_status {
     SKETCH_READ_FAULT = 3,   /* never: no read of memory fails */
     SKETCH_WRITE_FAULT = 4,  /* memory ran out while the text was gathered: the text is a front of it */
     SKETCH_NO_MEMORY = 5,    /* memory ran out before: the text is empty, or of session and live their whole replies so far */
-    SKETCH_NOT_WELL = 6,     /* the sketch isn't well: the text is the report of check */
-    SKETCH_STEP_FAULT = 7,   /* a step has no places, or a sign isn't as drawn: the text is the fault line */
-    SKETCH_TOLERANCE = 8,    /* a tolerance is beyond the limit: the text is the fault line */
-    SKETCH_NOT_VERIFIED = 9  /* something of the claim fails: the text is the line that names it */
+    SKETCH_NOT_WELL = 6,     /* the sketch isn't well: the text is the report of check, of complete behind the line that says
+                              * why nothing is added */
+    SKETCH_STEP_FAULT = 7,   /* a step has no places, or a sign isn't as drawn: the text is the fault line, of measure behind
+                              * its other lines */
+    SKETCH_TOLERANCE = 8,    /* a tolerance is beyond the limit: the text is the fault line, of measure behind its other lines */
+    SKETCH_NOT_VERIFIED = 9  /* something of the claim fails, or measure misses an element: the text is the line that names it */
 };
 
 /* Does what the command asks on the input.
