@@ -22,7 +22,7 @@ use Rattle.sk_excess.specs.LeftOut.{is_number, is_kept, kept_graph, AreLeftOut, 
 use Rattle.sk_excess.proofs.SomeLess.{number_in, kept_not, just_twice, just_agree, part_has}
 use Rattle.sk_excess.proofs.OneClusters.{whole_in}
 use Rattle.sk_excess.proofs.Choosing.{kept_one}
-use Rattle.sk_why.specs.Because.{IsTied, AreBecause, FollowsFrom}
+use Rattle.sk_why.specs.Because.{AreTogether, AreBecause, FollowsFrom}
 use Rattle.sk_why.proofs.Groups.{group_is_over}
 use Rattle.sk_why.proofs.Laws.{enough, minimal, one_list}
 
@@ -32,9 +32,9 @@ start_in_whole g sound p one s s_in e e_in =
     let (n, n_in, is) = mapped_from elem_of g.nodes e ((reached_within g sound (initial_bodies g) stays (starting s) (contains_mapped starting (starts g) s s_in)).elements e e_in) in
     subst (λ (d : Elem). Contains one.whole.elements d) is (one.has_nodes n n_in)
 
--- so it ties them
-tied_start : (g : Graph) → IsSoundGraph g → (p : ConId → Bool) → IsOneCluster (with_just p g) → (s : Start) → Contains (starts g) s → IsTied (with_just p g) s.elements
-tied_start g sound p one s s_in = record {
+-- so it holds them together
+start_together : (g : Graph) → IsSoundGraph g → (p : ConId → Bool) → IsOneCluster (with_just p g) → (s : Start) → Contains (starts g) s → AreTogether (with_just p g) s.elements
+start_together g sound p one s s_in = record {
   family = one.family;
   normal = one.normal;
   holds = (
@@ -64,16 +64,16 @@ module _ (g : Graph) (sound : IsSoundGraph g) (left : List ConId) (c : ConId) wh
       of_start : AreBecause (kept_graph left g) s.elements because
       of_start = subst (λ (xs : List Elem). AreBecause (kept_graph left g) xs because) same_elements follows.are
 
-      pub follows_enough : IsOneCluster g → AreLeftOut g left → IsTied (with_just (is_number because) g) s.elements
+      pub follows_enough : IsOneCluster g → AreLeftOut g left → AreTogether (with_just (is_number because) g) s.elements
       follows_enough one are =
-          subst (λ (h : Graph). IsTied h s.elements) alone
+          subst (λ (h : Graph). AreTogether h s.elements) alone
           (enough (kept_graph left g) (sound_part g (is_kept left) sound) s.elements because of_start
-          (tied_start g sound (is_kept left) (kept_one g sound left are one) s s_in))
+          (start_together g sound (is_kept left) (kept_one g sound left are one) s s_in))
 
-      pub follows_minimal : (k : ConId) → Contains because k → ¬ IsTied (without k (with_just (is_number because) g)) s.elements
-      follows_minimal k k_in tied =
+      pub follows_minimal : (k : ConId) → Contains because k → ¬ AreTogether (without k (with_just (is_number because) g)) s.elements
+      follows_minimal k k_in together =
           minimal (kept_graph left g) (sound_part g (is_kept left) sound) s.elements because of_start k k_in
-          (subst (λ (h : Graph). IsTied (without k h) s.elements) (sym alone) tied)
+          (subst (λ (h : Graph). AreTogether (without k h) s.elements) (sym alone) together)
 
     -- these constraints with the one that is left out make one cluster, which is over
     pub group_over : IsOneCluster g → AreLeftOut g left → Contains left c → (f : List Body) → IsNormal (with_just (is_number (c ∷ because)) g) f

@@ -1,4 +1,4 @@
--- A group: constraints that tie some elements, and without any one of which they aren't tied.
+-- A group: constraints that hold some elements together, and without any one of which they aren't.
 use Rattle.std.proofs.Common.{◌≡◌, inl, inr, Bool, true, List, [], ◌∷◌, refl, sym, subst, ◌∙◌}
 use Rattle.std.specs.Prelude.{Contains, ◌&&◌}
 use Rattle.std.proofs.lemmas.Bool.{and_parts, and_from}
@@ -31,16 +31,16 @@ use Rattle.sk_excess.specs.LeftOut.{is_number, HasConstraint}
 use Rattle.sk_excess.proofs.OneClusters.{more_covers}
 use Rattle.sk_excess.proofs.SomeLess.{number_in, in_number, just_twice, just_agree}
 use Rattle.sk_excess.proofs.Without.{differs, to_differ}
-use Rattle.sk_why.specs.Because.{IsTied}
-use Rattle.sk_why.proofs.Tied.{tied_with_more}
+use Rattle.sk_why.specs.Because.{AreTogether}
+use Rattle.sk_why.proofs.Together.{together_with_more}
 
-module _ (g : Graph) (sound : IsSoundGraph g) (es : List Elem) (ks : List ConId) (minimal : (k : ConId) → Contains ks k → ¬ IsTied (without k (with_just (is_number ks) g)) es) where
+module _ (g : Graph) (sound : IsSoundGraph g) (es : List Elem) (ks : List ConId) (minimal : (k : ConId) → Contains ks k → ¬ AreTogether (without k (with_just (is_number ks) g)) es) where
   abbrev alone : Graph
   alone = with_just (is_number ks) g
 
   -- the cluster that has the elements owns all of them
   module _ (f : List Body) (normal : IsNormal alone f) (y : Body) (y_in : Contains f y) (has : (e : Elem) → Contains es e → Contains y.elements e) where
-    its_own : IsTied (alone_graph y.owned (λ k. true) alone) es
+    its_own : AreTogether (alone_graph y.owned (λ k. true) alone) es
     its_own =
         let own = alone_graph y.owned (λ k. true) alone in
         let (m, reach, closed) = some_closed own (initial_bodies own) in
@@ -53,14 +53,14 @@ module _ (g : Graph) (sound : IsSoundGraph g) (es : List Elem) (ks : List ConId)
         elim (contains_settles con_settles y.owned k) [
           | inl there ↦ there
           | inr not_there ↦ absurd (minimal k k_in
-              (tied_with_more alone (sound_part g (is_number ks) sound) es (passes_among y.owned (λ j. true)) (differs_from k)
+              (together_with_more alone (sound_part g (is_number ks) sound) es (passes_among y.owned (λ j. true)) (differs_from k)
               (λ j j_has passes. to_differ k j (λ same. not_there (subst (λ (i : ConId). Contains y.owned i) (sym same) (number_in y.owned j (and_parts (is_number y.owned j) true passes).0))))
               its_own))
         ]
 
--- with a constraint between elements that they tie, the group makes one cluster, and that is over
+-- with a constraint between elements that they hold together, the group makes one cluster, and that is over
 module _ (g : Graph) (sound : IsSoundGraph g) (c : Start) (c_in : Contains (starts g) c) (ks : List ConId) (c_out : ¬ Contains ks c.number)
-    (enough : IsTied (with_just (is_number ks) g) c.elements) (minimal : (k : ConId) → Contains ks k → ¬ IsTied (without k (with_just (is_number ks) g)) c.elements) where
+    (enough : AreTogether (with_just (is_number ks) g) c.elements) (minimal : (k : ConId) → Contains ks k → ¬ AreTogether (without k (with_just (is_number ks) g)) c.elements) where
   abbrev few : Graph
   few = with_just (is_number ks) g
 
@@ -73,11 +73,11 @@ module _ (g : Graph) (sound : IsSoundGraph g) (c : Start) (c_in : Contains (star
   all_sound : IsSoundGraph all
   all_sound = sound_part g (is_number (c.number ∷ ks)) sound
 
-  abbrev tied_body : Body
-  tied_body = enough.holds.0
+  abbrev holding_body : Body
+  holding_body = enough.holds.0
 
-  -- all elements that the group names are of the cluster that ties them
-  named_there : (t : Start) → Contains (starts all) t → (e : Elem) → Contains t.elements e → Contains tied_body.elements e
+  -- all elements that the group names are of the cluster that has these
+  named_there : (t : Start) → Contains (starts all) t → (e : Elem) → Contains t.elements e → Contains holding_body.elements e
   named_there t t_in e e_in =
       let was = (in_part g (is_number (c.number ∷ ks)) sound t).0 t_in in
       elim (contains_cases c.number ks t.number (number_in (c.number ∷ ks) t.number was.1)) [
@@ -85,19 +85,19 @@ module _ (g : Graph) (sound : IsSoundGraph g) (c : Start) (c_in : Contains (star
             let is : t ≡ c = start_at g sound.edges_rise t c was.0 c_in (sym same) in
             enough.holds.2 e (subst (λ (s : Start). Contains s.elements e) is e_in))
         | inr later ↦ (
-            let owned = owns_all g sound c.elements ks minimal enough.family enough.normal tied_body enough.holds.1 enough.holds.2 t.number later in
-            let (s, s_in, is, within) = (reached_tight few enough.family few_sound.edges_rise enough.normal.reached).inside tied_body enough.holds.1 t.number owned in
+            let owned = owns_all g sound c.elements ks minimal enough.family enough.normal holding_body enough.holds.1 enough.holds.2 t.number later in
+            let (s, s_in, is, within) = (reached_tight few enough.family few_sound.edges_rise enough.normal.reached).inside holding_body enough.holds.1 t.number owned in
             let same : s ≡ t = start_at g sound.edges_rise s t ((in_part g (is_number ks) sound s).0 s_in).0 was.0 is in
             within e (subst (λ (z : Start). Contains z.elements e) (sym same) e_in))
       ]
 
   module _ (f : List Body) (normal : IsNormal all f) where
-    within_tied : (z : Body) → Contains f z → (e : Elem) → Contains z.elements e → Contains tied_body.elements e
-    within_tied z z_in e e_in = (let (d, d_in, e_d) = holds_ends all f (reached_as_it_is all f normal.reached) z z_in e e_in in named_there d d_in e e_d)
+    within_holding : (z : Body) → Contains f z → (e : Elem) → Contains z.elements e → Contains holding_body.elements e
+    within_holding z z_in e e_in = (let (d, d_in, e_d) = holds_ends all f (reached_as_it_is all f normal.reached) z z_in e e_in in named_there d d_in e e_d)
 
-    around : (x : Body) × Contains f x × ((e : Elem) → Contains tied_body.elements e → Contains x.elements e)
+    around : (x : Body) × Contains f x × ((e : Elem) → Contains holding_body.elements e → Contains x.elements e)
     around =
-        let (x, x_in, within) = more_covers g sound (is_number ks) (is_number (c.number ∷ ks)) (λ k has passes. in_number (c.number ∷ ks) k (contains_later c.number ks k (number_in ks k passes))) enough.family enough.normal.reached f normal tied_body enough.holds.1 in
+        let (x, x_in, within) = more_covers g sound (is_number ks) (is_number (c.number ∷ ks)) (λ k has passes. in_number (c.number ∷ ks) k (contains_later c.number ks k (number_in ks k passes))) enough.family enough.normal.reached f normal holding_body enough.holds.1 in
         (x, x_in, within.elements)
 
     only_around : (z : Body) → Contains f z → around.0 ≡ z
@@ -106,7 +106,7 @@ module _ (g : Graph) (sound : IsSoundGraph g) (c : Start) (c_in : Contains (star
         one_of_two all f normal.closed around.0 z around.1 z_in (
           u,
           v,
-          record { differ = differ; a_shared = (around.2 u (within_tied z z_in u u_in), u_in); b_shared = (around.2 v (within_tied z z_in v v_in), v_in) },
+          record { differ = differ; a_shared = (around.2 u (within_holding z z_in u u_in), u_in); b_shared = (around.2 v (within_holding z z_in v v_in), v_in) },
         )
 
     -- without the one more
@@ -135,7 +135,7 @@ module _ (g : Graph) (sound : IsSoundGraph g) (c : Start) (c_in : Contains (star
       owns = record { normal = normal; in_family = around.1; owns = owns_it };
       left = enough.family;
       normal = subst (λ (h : Graph). IsNormal h enough.family) (sym few_again) enough.normal;
-      holds = (tied_body, enough.holds.1, within_tied around.0 around.1);
+      holds = (holding_body, enough.holds.1, within_holding around.0 around.1);
     }
 
     pub group_is_over : (x : Body) × SameBodies f (x ∷ []) × IsOver (part_with all x.elements)

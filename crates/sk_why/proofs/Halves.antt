@@ -24,7 +24,7 @@ use Rattle.sk_excess.proofs.Going.{none_gone}
 use Rattle.sk_excess.proofs.Halves.{others_normal, greater_but, all_but}
 use Rattle.sk_why.specs.Because.{AreBecause}
 use Rattle.sk_why.specs.Leaving.{MayLeave}
-use Rattle.sk_why.proofs.Tied.{found_tied, found_loose}
+use Rattle.sk_why.proofs.Together.{found_together, found_apart}
 use Rattle.sk_why.proofs.Gone.{all_leave, lone_stays}
 
 module _ (g : Graph) (sound : IsSoundGraph g) (es : List Elem) (p : ConId → Bool) (aside : List ConId) (rise : IsRising con_number aside) where
@@ -39,13 +39,13 @@ module _ (g : Graph) (sound : IsSoundGraph g) (es : List Elem) (p : ConId → Bo
     pub all_go : some_holds clusters es ≡ true → AreGoneOf (MayLeave es) all aside aside
     all_go passes =
         all_leave all all_sound es aside rise
-        (found_tied (kept_graph aside all) (sound_part all (is_kept aside) all_sound) es clusters (others_normal g sound p aside rise (map body_of clusters) w) passes)
+        (found_together (kept_graph aside all) (sound_part all (is_kept aside) all_sound) es clusters (others_normal g sound p aside rise (map body_of clusters) w) passes)
 
     pub lone_goes_not : length aside ≤ 1 → some_holds clusters es ≡ false → AreGoneOf (MayLeave es) all aside []
     lone_goes_not few fails =
         none_gone (MayLeave es) all all_sound aside
         (lone_stays all all_sound es aside few
-        (found_loose (kept_graph aside all) (sound_part all (is_kept aside) all_sound) es clusters (others_normal g sound p aside rise (map body_of clusters) w) fails))
+        (found_apart (kept_graph aside all) (sound_part all (is_kept aside) all_sound) es clusters (others_normal g sound p aside rise (map body_of clusters) w) fails))
 
   -- of the greater half, with the lesser one put back
   pub greater_gone : (f : List Body) → IsBut g p aside f → (i : ℕ) (m : List Body) → CanJoin g (take i aside) f m → IsClosed g m → (rest : List ConId) → rest ≡ drop i aside → (late : List ConId)

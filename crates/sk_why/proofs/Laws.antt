@@ -1,4 +1,4 @@
--- What ties some elements is enough, minimal, and one list.
+-- What holds some elements together is enough, minimal, and one list.
 use Rattle.std.proofs.Common.{◌≡◌, List, sym, subst, arith}
 use Rattle.std.specs.Prelude.{Contains, ◌↔◌, ◌&&◌}
 use Rattle.std.proofs.lemmas.Bool.{and_parts, and_from}
@@ -15,10 +15,10 @@ use Rattle.sk_excess.specs.LeftOut.{is_number, is_kept, kept_graph, above, HasCo
 use Rattle.sk_excess.proofs.SomeLess.{number_in, in_number, kept_not, none_kept, in_above, just_twice, just_agree, part_has, has_part}
 use Rattle.sk_excess.proofs.Without.{without_kept}
 use Rattle.sk_excess.proofs.Going.{same_gone}
-use Rattle.sk_why.specs.Because.{IsTied, AreGone, AreBecause}
+use Rattle.sk_why.specs.Because.{AreTogether, AreGone, AreBecause}
 use Rattle.sk_why.specs.Leaving.{MayLeave}
-use Rattle.sk_why.proofs.Tied.{tied_with_more}
-use Rattle.sk_why.proofs.Gone.{still_tied}
+use Rattle.sk_why.proofs.Together.{together_with_more}
+use Rattle.sk_why.proofs.Gone.{still_together}
 
 module _ (g : Graph) (sound : IsSoundGraph g) (xs : List Elem) (because : List ConId) (are : AreBecause g xs because) where
   -- what stays is what doesn't leave
@@ -28,22 +28,22 @@ module _ (g : Graph) (sound : IsSoundGraph g) (xs : List Elem) (because : List C
       (λ passes. in_number because k ((are.exactly k).1 (has, kept_not are.gone k passes)))
       (λ passes. none_kept are.gone k ((are.exactly k).0 (number_in because k passes)).1))
 
-  pub enough : IsTied g xs → IsTied (with_just (is_number because) g) xs
-  enough tied =
-      subst (λ (h : Graph). IsTied h xs) staying (still_tied g sound xs tied are.gone are.leave.rise (λ k h. ((are.leave.exactly k).0 h).1))
+  pub enough : AreTogether g xs → AreTogether (with_just (is_number because) g) xs
+  enough together =
+      subst (λ (h : Graph). AreTogether h xs) staying (still_together g sound xs together are.gone are.leave.rise (λ k h. ((are.leave.exactly k).0 h).1))
 
-  pub minimal : (k : ConId) → Contains because k → ¬ IsTied (without k (with_just (is_number because) g)) xs
-  minimal k k_in tied =
+  pub minimal : (k : ConId) → Contains because k → ¬ AreTogether (without k (with_just (is_number because) g)) xs
+  minimal k k_in together =
       let stays = (are.exactly k).0 k_in in
-      let less : IsTied (with_just (λ j. is_number because j && differs_from k j) g) xs = subst (λ (h : Graph). IsTied h xs) (just_twice g (is_number because) (differs_from k)) tied in
-      let more : IsTied (with_just (λ j. is_kept (above k are.gone) j && differs_from k j) g) xs =
-      tied_with_more g sound xs (λ j. is_number because j && differs_from k j) (λ j. is_kept (above k are.gone) j && differs_from k j)
+      let less : AreTogether (with_just (λ j. is_number because j && differs_from k j) g) xs = subst (λ (h : Graph). AreTogether h xs) (just_twice g (is_number because) (differs_from k)) together in
+      let more : AreTogether (with_just (λ j. is_kept (above k are.gone) j && differs_from k j) g) xs =
+      together_with_more g sound xs (λ j. is_number because j && differs_from k j) (λ j. is_kept (above k are.gone) j && differs_from k j)
       (λ j has passes. (
       let both = and_parts (is_number because j) (differs_from k j) passes in
       and_from (is_kept (above k are.gone) j) (differs_from k j)
       (none_kept (above k are.gone) j (λ h. ((are.exactly j).0 (number_in because j both.0)).1 ((in_above k are.gone j).0 h).0)) both.1))
       less in
-      stays.1 ((are.leave.exactly k).1 (stays.0, subst (λ (h : Graph). IsTied h xs) (sym (without_kept g sound (above k are.gone) k)) more))
+      stays.1 ((are.leave.exactly k).1 (stays.0, subst (λ (h : Graph). AreTogether h xs) (sym (without_kept g sound (above k are.gone) k)) more))
 
 -- one list leaves
 module _ (g : Graph) (sound : IsSoundGraph g) (xs : List Elem) where

@@ -1,4 +1,4 @@
-pub mod Tied
+pub mod Together
 pub mod Gone
 pub mod Laws
 pub mod Halves

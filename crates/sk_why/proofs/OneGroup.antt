@@ -37,7 +37,7 @@ use Rattle.sk_excess.proofs.Choosing.{kept_one, whole_is}
 use Rattle.sk_excess.proofs.OneClusters.{at_node, whole_in, only_whole, all_of, more_covers}
 use Rattle.sk_excess.proofs.SomeLess.{number_in, kept_not, none_kept, part_has}
 use Rattle.sk_excess.proofs.Without.{differs, to_differ, without_one}
-use Rattle.sk_why.specs.Because.{IsTied, FollowsFrom}
+use Rattle.sk_why.specs.Because.{AreTogether, FollowsFrom}
 use Rattle.sk_why.proofs.Following.{alone_of, start_in_whole, follows_enough, follows_minimal, group_over}
 use Rattle.sk_why.proofs.TightGroups.{where_less, held_part, sparse_in, tight_kept, in_tight, of_other}
 
@@ -128,22 +128,22 @@ module _ (g : Graph) (sound : IsSoundGraph g) (left : List ConId) (one : IsOneCl
     of_because k k_in = ((follows.are.exactly k).0 k_in).0
 
     -- a group of kept constraints, in what is kept
-    enough_kept : (ks : List ConId) → ((k : ConId) → Contains ks k → HasConstraint kept k) → IsTied (with_just (is_number ks) g) s.elements → IsTied (with_just (is_number ks) kept) s.elements
-    enough_kept ks there enough = subst (λ (h : Graph). IsTied h s.elements) (sym (alone_of g sound left ks there)) enough
+    enough_kept : (ks : List ConId) → ((k : ConId) → Contains ks k → HasConstraint kept k) → AreTogether (with_just (is_number ks) g) s.elements → AreTogether (with_just (is_number ks) kept) s.elements
+    enough_kept ks there enough = subst (λ (h : Graph). AreTogether h s.elements) (sym (alone_of g sound left ks there)) enough
 
-    minimal_kept : (ks : List ConId) → ((k : ConId) → Contains ks k → HasConstraint kept k) → ((k : ConId) → Contains ks k → ¬ IsTied (without k (with_just (is_number ks) g)) s.elements)
-        → (k : ConId) → Contains ks k → ¬ IsTied (without k (with_just (is_number ks) kept)) s.elements
-    minimal_kept ks there minimal k k_in tied = minimal k k_in (subst (λ (h : Graph). IsTied (without k h) s.elements) (alone_of g sound left ks there) tied)
+    minimal_kept : (ks : List ConId) → ((k : ConId) → Contains ks k → HasConstraint kept k) → ((k : ConId) → Contains ks k → ¬ AreTogether (without k (with_just (is_number ks) g)) s.elements)
+        → (k : ConId) → Contains ks k → ¬ AreTogether (without k (with_just (is_number ks) kept)) s.elements
+    minimal_kept ks there minimal k k_in together = minimal k k_in (subst (λ (h : Graph). AreTogether (without k h) s.elements) (alone_of g sound left ks there) together)
 
-    because_enough : IsTied (with_just (is_number because) kept) s.elements
+    because_enough : AreTogether (with_just (is_number because) kept) s.elements
     because_enough = enough_kept because of_because (follows_enough g sound left c because follows s s_in numbered one are)
 
-    because_minimal : (k : ConId) → Contains because k → ¬ IsTied (without k (with_just (is_number because) kept)) s.elements
+    because_minimal : (k : ConId) → Contains because k → ¬ AreTogether (without k (with_just (is_number because) kept)) s.elements
     because_minimal = minimal_kept because of_because (follows_minimal g sound left c because follows s s_in numbered)
 
     -- there is no other group
-    pub only_follows : (ks : List ConId) → IsRising con_number ks → ((k : ConId) → Contains ks k → HasConstraint kept k) → IsTied (with_just (is_number ks) g) s.elements
-        → ((k : ConId) → Contains ks k → ¬ IsTied (without k (with_just (is_number ks) g)) s.elements) → ks ≡ because
+    pub only_follows : (ks : List ConId) → IsRising con_number ks → ((k : ConId) → Contains ks k → HasConstraint kept k) → AreTogether (with_just (is_number ks) g) s.elements
+        → ((k : ConId) → Contains ks k → ¬ AreTogether (without k (with_just (is_number ks) g)) s.elements) → ks ≡ because
     only_follows ks rise there enough minimal =
         let (u, v, differ, u_in, v_in) = sound_two_each g sound s s_in in
         let ks_enough = enough_kept ks there enough in

@@ -1,4 +1,4 @@
--- There is a list of what ties some elements.
+-- There is a list of what holds some elements together.
 use Rattle.std.proofs.Common.{◌≡◌, inl, inr, ◌<◌, List, [], ◌∷◌, ◌++◌, refl, subst, arith}
 use Rattle.std.specs.Prelude.{Contains, filter}
 use Rattle.sk_base.specs.declared.Elem.{Elem}
@@ -22,20 +22,20 @@ use Rattle.sk_excess.specs.LeftOut.{is_number, is_kept, kept_graph, HasConstrain
 use Rattle.sk_excess.specs.Going.{AreGoneOf}
 use Rattle.sk_excess.proofs.SomeLess.{in_number, just_all}
 use Rattle.sk_excess.proofs.Going.{none_gone, both_gone}
-use Rattle.sk_why.specs.Because.{IsTied, AreBecause, FollowsFrom}
+use Rattle.sk_why.specs.Because.{AreTogether, AreBecause, FollowsFrom}
 use Rattle.sk_why.specs.Leaving.{MayLeave}
-use Rattle.sk_why.proofs.Tied.{tied_in}
+use Rattle.sk_why.proofs.Together.{together_in}
 use Rattle.sk_why.proofs.Gone.{all_leave, lone_stays}
 use Rattle.sk_why.proofs.Halves.{in_the_end}
 
--- whether they are tied is settled
-tied_decided : (g : Graph) → IsSoundGraph g → (es : List Elem) → Decided (IsTied g es)
-tied_decided g sound es =
+-- whether they are together is settled
+together_decided : (g : Graph) → IsSoundGraph g → (es : List Elem) → Decided (AreTogether g es)
+together_decided g sound es =
     let (f, reach, closed) = some_closed g (initial_bodies g) in
     let normal : IsNormal g f = record { reached = reach; closed = closed } in
     elim (some_in (λ (y : Body). (e : Elem) → Contains es e → Contains y.elements e) (λ y. each_decided (λ (e : Elem). Contains y.elements e) es (λ e. is_in elem_settles y.elements e)) f) [
       | inl holds ↦ inl (record { family = f; normal = normal; holds = holds })
-      | inr none ↦ inr (λ tied. none (tied_in g sound es tied f normal))
+      | inr none ↦ inr (λ together. none (together_in g sound es together f normal))
     ]
 
 -- of some constraints some leave
@@ -46,11 +46,11 @@ some_gone g sound es (x ∷ xs) rise =
     let rest_sound : IsSoundGraph (kept_graph late g) = sound_part g (is_kept late) sound in
     let apart : (j k : ConId) → Contains (x ∷ []) j → Contains xs k → j.0 < k.0 = λ j k j_in k_in. (
     let less : x.0 < k.0 = rising_below con_number x xs rise k k_in in subst (λ (i : ConId). i.0 < k.0) (contains_one x j j_in) less) in
-    elim (tied_decided (kept_graph (x ∷ []) (kept_graph late g)) (sound_part (kept_graph late g) (is_kept (x ∷ [])) rest_sound) es) [
-      | inl tied ↦ (
+    elim (together_decided (kept_graph (x ∷ []) (kept_graph late g)) (sound_part (kept_graph late g) (is_kept (x ∷ [])) rest_sound) es) [
+      | inl together ↦ (
         (x ∷ []) ++ late,
         both_gone (MayLeave es) g sound (x ∷ []) xs (x ∷ []) late of_late
-            (all_leave (kept_graph late g) rest_sound es (x ∷ []) (rising_cons con_number x [] (rising_none con_number) (λ y h. absurd (contains_none y h))) tied)
+            (all_leave (kept_graph late g) rest_sound es (x ∷ []) (rising_cons con_number x [] (rising_none con_number) (λ y h. absurd (contains_none y h))) together)
             apart,
       )
       | inr not ↦ (

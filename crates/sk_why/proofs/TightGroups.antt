@@ -1,5 +1,5 @@
 -- Groups of a graph with no constraint too many: the elements of one's cluster are just as many as its constraints need, and
--- lie in every set of elements that is as tight and has those that are tied. So there is one group.
+-- lie in every set of elements that is as tight and has those that are held together. So there is one group.
 use Rattle.std.proofs.Common.{◌≡◌, ◌≢◌, inl, inr, ℕ, ◌+◌, ◌*◌, ◌≤◌, ◌<◌, Bool, true, false, List, [], ◌∷◌, ◌++◌, length, refl, ap, sym, subst, ◌∙◌, arith}
 use Rattle.std.specs.Prelude.{Contains, filter, not, sum_by, ◌&&◌}
 use Rattle.std.proofs.lemmas.Bool.{and_parts, and_from}
@@ -44,7 +44,7 @@ use Rattle.sk_excess.specs.LeftOut.{is_number, HasConstraint}
 use Rattle.sk_excess.proofs.OneClusters.{more_covers}
 use Rattle.sk_excess.proofs.SomeLess.{number_in, in_number}
 use Rattle.sk_excess.proofs.Without.{to_differ}
-use Rattle.sk_why.specs.Because.{IsTied}
+use Rattle.sk_why.specs.Because.{AreTogether}
 
 -- where two tests pass together a third passes too, and where one of them passes a fourth does
 pub four_weigh : (p q r u : Start → Bool) (ss : List Start) → ((s : Start) → Contains ss s → p s ≡ true → q s ≡ true → r s ≡ true) → ((s : Start) → Contains ss s → p s ≡ true → u s ≡ true) → ((s : Start) → Contains ss s → q s ≡ true → u s ≡ true)
@@ -100,12 +100,12 @@ module _ (g : Graph) (sound : IsSoundGraph g) (f : List Body) (normal : IsNormal
       omega (arith, most, less)
 
   module _ (x : Body) (x_in : Contains f x) (es : List Elem) (u v : Elem) (differ : u ≢ v) (u_in : Contains es u) (v_in : Contains es v) (x_has : (e : Elem) → Contains es e → Contains x.elements e)
-      (ks : List ConId) (enough : IsTied (with_just (is_number ks) g) es) where
+      (ks : List ConId) (enough : AreTogether (with_just (is_number ks) g) es) where
     abbrev few : Graph
     few = with_just (is_number ks) g
 
-    abbrev tied_body : Body
-    tied_body = enough.holds.0
+    abbrev holding_body : Body
+    holding_body = enough.holds.0
 
     few_sound : IsSoundGraph few
     few_sound = sound_part g (is_number ks) sound
@@ -122,9 +122,9 @@ module _ (g : Graph) (sound : IsSoundGraph g) (f : List Body) (normal : IsNormal
     two_of : (z : Body) → Contains enough.family z → 2 ≤ length z.elements
     two_of z z_in = (let (a, b, other, a_in, b_in) = has_two few enough.family few_sound enough.normal z z_in in two_long z.elements a b other a_in b_in)
 
-    pub own_elements : AreIn tied_body.elements x.elements
+    pub own_elements : AreIn holding_body.elements x.elements
     own_elements e e_in =
-        let (w, w_in, within) = lies tied_body enough.holds.1 in
+        let (w, w_in, within) = lies holding_body enough.holds.1 in
         let same : w ≡ x = one_of_two g f normal.closed w x w_in x_in (
           u,
           v,
@@ -144,27 +144,27 @@ module _ (g : Graph) (sound : IsSoundGraph g) (f : List Body) (normal : IsNormal
         omega (arith, most, less)
 
     -- the constraints of the group need all elements of its cluster
-    pub tight_few : held few tied_body.elements + 3 ≡ 2 * length tied_body.elements
+    pub tight_few : held few holding_body.elements + 3 ≡ 2 * length holding_body.elements
     tight_few =
-        let least = (reached_tight few enough.family few_sound.edges_rise enough.normal.reached).enough tied_body enough.holds.1 in
-        let all = owned_is_held few enough.family few_sound.edges_rise (sound_two_each few few_sound) enough.normal tied_body enough.holds.1 in
-        let most = none_few tied_body enough.holds.1 in
+        let least = (reached_tight few enough.family few_sound.edges_rise enough.normal.reached).enough holding_body enough.holds.1 in
+        let all = owned_is_held few enough.family few_sound.edges_rise (sound_two_each few few_sound) enough.normal holding_body enough.holds.1 in
+        let most = none_few holding_body enough.holds.1 in
         omega (arith, least, all, most)
 
-    pub tight_kept : held g tied_body.elements + 3 ≡ 2 * length tied_body.elements
+    pub tight_kept : held g holding_body.elements + 3 ≡ 2 * length holding_body.elements
     tight_kept =
         let few_there = tight_few in
-        let less = held_less g sound (is_number ks) tied_body.elements in
-        let most = sparse_in x x_in tied_body.elements (rises tied_body enough.holds.1) own_elements (two_of tied_body enough.holds.1) in
+        let less = held_less g sound (is_number ks) holding_body.elements in
+        let most = sparse_in x x_in holding_body.elements (rises holding_body enough.holds.1) own_elements (two_of holding_body enough.holds.1) in
         omega (arith, few_there, less, most)
 
-    pub distinct_there : AreDistinct tied_body.elements
-    distinct_there = rises tied_body enough.holds.1
+    pub distinct_there : AreDistinct holding_body.elements
+    distinct_there = rises holding_body enough.holds.1
 
-    -- of another set that is as tight, and has the tied elements
+    -- of another set that is as tight, and has the elements that are together
     module _ (xs : List Elem) (apart : AreDistinct xs) (own : AreIn xs x.elements) (tight : held g xs + 3 ≡ 2 * length xs) (xs_have : (e : Elem) → Contains es e → Contains xs e) where
       abbrev there : Elem → Bool
-      there e = is_elem tied_body.elements e
+      there e = is_elem holding_body.elements e
 
       abbrev both : List Elem
       both = filter there xs
@@ -173,62 +173,62 @@ module _ (g : Graph) (sound : IsSoundGraph g) (f : List Body) (normal : IsNormal
       others = filter (λ e. not (there e)) xs
 
       abbrev either : List Elem
-      either = tied_body.elements ++ others
+      either = holding_body.elements ++ others
 
-      in_both : (e : Elem) → Contains xs e → Contains tied_body.elements e → Contains both e
-      in_both e e_xs e_in = contains_filtered there xs e e_xs (found_elem tied_body.elements e e_in)
+      in_both : (e : Elem) → Contains xs e → Contains holding_body.elements e → Contains both e
+      in_both e e_xs e_in = contains_filtered there xs e e_xs (found_elem holding_body.elements e e_in)
 
-      from_both : (e : Elem) → Contains both e → Contains xs e × Contains tied_body.elements e
-      from_both e h = (let was = filtered_from there xs e h in (was.0, elem_found tied_body.elements e was.1))
+      from_both : (e : Elem) → Contains both e → Contains xs e × Contains holding_body.elements e
+      from_both e h = (let was = filtered_from there xs e h in (was.0, elem_found holding_body.elements e was.1))
 
       in_either : (e : Elem) → Contains xs e → Contains either e
       in_either e e_xs = told (there e) refl
         where
           told : (b : Bool) → there e ≡ b → Contains either e
-          told true passes = Contains-append_left tied_body.elements others e (elem_found tied_body.elements e passes)
-          told false fails = Contains-append_right tied_body.elements others e (contains_filtered (λ d. not (there d)) xs e e_xs (ap not fails))
+          told true passes = Contains-append_left holding_body.elements others e (elem_found holding_body.elements e passes)
+          told false fails = Contains-append_right holding_body.elements others e (contains_filtered (λ d. not (there d)) xs e e_xs (ap not fails))
 
       either_apart : AreDistinct either
       either_apart =
-          pairs_append (λ (d e : Elem). d ≢ e) tied_body.elements others distinct_there (pairs_filter (λ (d e : Elem). d ≢ e) (λ e. not (there e)) xs apart)
+          pairs_append (λ (d e : Elem). d ≢ e) holding_body.elements others distinct_there (pairs_filter (λ (d e : Elem). d ≢ e) (λ e. not (there e)) xs apart)
           (λ d e d_in e_in same. (
           let was = (filtered_from (λ (z : Elem). not (there z)) xs e e_in).1 in
-          let here : there e ≡ true = found_elem tied_body.elements e (subst (λ (z : Elem). Contains tied_body.elements z) same d_in) in
+          let here : there e ≡ true = found_elem holding_body.elements e (subst (λ (z : Elem). Contains holding_body.elements z) same d_in) in
           let never : not (there e) ≡ false = ap not here in
           absurd (cc)))
 
       either_own : AreIn either x.elements
       either_own e h =
-          elim (Contains-append_cases tied_body.elements others e h) [
+          elim (Contains-append_cases holding_body.elements others e h) [
             | inl e_in ↦ own_elements e e_in
             | inr other ↦ own e (filtered_from (λ (z : Elem). not (there z)) xs e other).0
           ]
 
       both_tight : held few both + 3 ≡ 2 * length both
       both_tight =
-          let sums = four_weigh (λ s. is_number ks s.number && is_inside tied_body.elements s) (is_inside xs) (λ s. is_number ks s.number && is_inside both s) (is_inside either) (starts g)
+          let sums = four_weigh (λ s. is_number ks s.number && is_inside holding_body.elements s) (is_inside xs) (λ s. is_number ks s.number && is_inside both s) (is_inside either) (starts g)
           (λ s s_in mine theirs. (
-          let parts = and_parts (is_number ks s.number) (is_inside tied_body.elements s) mine in
+          let parts = and_parts (is_number ks s.number) (is_inside holding_body.elements s) mine in
           and_from (is_number ks s.number) (is_inside both s) parts.0
-          (inside_found both s (λ e e_in. in_both e (found_inside xs s theirs e e_in) (found_inside tied_body.elements s parts.1 e e_in)))))
+          (inside_found both s (λ e e_in. in_both e (found_inside xs s theirs e e_in) (found_inside holding_body.elements s parts.1 e e_in)))))
           (λ s s_in mine. (
-          let parts = and_parts (is_number ks s.number) (is_inside tied_body.elements s) mine in
-          inside_found either s (λ e e_in. Contains-append_left tied_body.elements others e (found_inside tied_body.elements s parts.1 e e_in))))
+          let parts = and_parts (is_number ks s.number) (is_inside holding_body.elements s) mine in
+          inside_found either s (λ e e_in. Contains-append_left holding_body.elements others e (found_inside holding_body.elements s parts.1 e e_in))))
           (λ s s_in theirs. inside_found either s (λ e e_in. in_either e (found_inside xs s theirs e e_in))) in
-          let mine = held_part g sound (is_number ks) tied_body.elements in
+          let mine = held_part g sound (is_number ks) holding_body.elements in
           let shared = held_part g sound (is_number ks) both in
           let few_mine = tight_few in
           let split = length-filter_both there (λ e. not (there e)) (λ e. refl) xs in
-          let joined = length-append tied_body.elements others in
-          let many = two_of tied_body enough.holds.1 in
+          let joined = length-append holding_body.elements others in
+          let many = two_of holding_body enough.holds.1 in
           let whole = sparse_in x x_in either either_apart either_own (omega (arith, joined, many)) in
           let some = two_long both u v differ (in_both u (xs_have u u_in) (enough.holds.2 u u_in)) (in_both v (xs_have v v_in) (enough.holds.2 v v_in)) in
           let most = sparse_in x x_in both (pairs_filter (λ (d e : Elem). d ≢ e) there xs apart) (λ e h. own e (from_both e h).0) some in
           let less = held_less g sound (is_number ks) both in
           omega (arith, sums, mine, shared, few_mine, split, joined, whole, most, less, tight)
 
-      -- each constraint of the group lies inside, where without any one of them the elements aren't tied
-      pub in_tight : ((k : ConId) → Contains ks k → ¬ IsTied (without k few) es) → (t : Start) → Contains (starts g) t → Contains ks t.number → is_inside xs t ≡ true
+      -- each constraint of the group lies inside, where without any one of them the elements aren't together
+      pub in_tight : ((k : ConId) → Contains ks k → ¬ AreTogether (without k few) es) → (t : Start) → Contains (starts g) t → Contains ks t.number → is_inside xs t ≡ true
       in_tight minimal t t_in k_in = told (is_inside xs t) refl
         where
           told : (b : Bool) → is_inside xs t ≡ b → is_inside xs t ≡ true
@@ -238,7 +238,7 @@ module _ (g : Graph) (sound : IsSoundGraph g) (f : List Body) (normal : IsNormal
               let less = without t.number few in
               let (n, reach, closed) = some_closed less (initial_bodies less) in
               let n_normal : IsNormal less n = record { reached = reach; closed = closed } in
-              let (w, w_in, has) = tight_made few enough.family few_sound (sound_two_each few few_sound) enough.normal none_few tied_body enough.holds.1 both
+              let (w, w_in, has) = tight_made few enough.family few_sound (sound_two_each few few_sound) enough.normal none_few holding_body enough.holds.1 both
               (pairs_filter (λ (d e : Elem). d ≢ e) there xs apart) (λ e h. (from_both e h).1) both_tight (differs_from t.number)
               (λ s s_in inside. to_differ t.number s.number (λ same. (
               let is : s ≡ t = start_at g sound.edges_rise s t ((in_part g (is_number ks) sound s).0 s_in).0 t_in (sym same) in
@@ -248,28 +248,28 @@ module _ (g : Graph) (sound : IsSoundGraph g) (f : List Body) (normal : IsNormal
               minimal t.number k_in (record { family = n; normal = n_normal; holds = (w, w_in, λ e e_in. has e (in_both e (xs_have e e_in) (enough.holds.2 e e_in))) }))
 
     -- what lies inside the group's cluster is of the group
-    pub inside_of_group : (t : Start) → Contains (starts g) t → is_inside tied_body.elements t ≡ true → Contains ks t.number
+    pub inside_of_group : (t : Start) → Contains (starts g) t → is_inside holding_body.elements t ≡ true → Contains ks t.number
     inside_of_group t t_in inside =
         elim (contains_settles con_settles ks t.number) [
           | inl of_it ↦ of_it
           | inr out ↦ absurd (
               let few_there = reached_tight few enough.family few_sound.edges_rise enough.normal.reached in
-              let fresh : ¬ Contains tied_body.owned t.number = λ h. (
-              let (s, s_in, is, within) = few_there.inside tied_body enough.holds.1 t.number h in
+              let fresh : ¬ Contains holding_body.owned t.number = λ h. (
+              let (s, s_in, is, within) = few_there.inside holding_body enough.holds.1 t.number h in
               out (subst (λ (k : ConId). Contains ks k) is (number_in ks s.number ((in_part g (is_number ks) sound s).0 s_in).1))) in
-              let more = weighs_one_more g t t_in tied_body.owned (t.number ∷ tied_body.owned) (λ k h. contains_later t.number tied_body.owned k h) fresh (contains_head t.number tied_body.owned) in
-              let all = where_less (is_owned (t.number ∷ tied_body.owned)) (is_inside tied_body.elements) (starts g) (λ s s_in passes. (
-              elim (contains_cases t.number tied_body.owned s.number (owned_found (t.number ∷ tied_body.owned) s passes)) [
-                | inl same ↦ subst (λ (z : Start). is_inside tied_body.elements z ≡ true) (start_at g sound.edges_rise t s t_in s_in same) inside
+              let more = weighs_one_more g t t_in holding_body.owned (t.number ∷ holding_body.owned) (λ k h. contains_later t.number holding_body.owned k h) fresh (contains_head t.number holding_body.owned) in
+              let all = where_less (is_owned (t.number ∷ holding_body.owned)) (is_inside holding_body.elements) (starts g) (λ s s_in passes. (
+              elim (contains_cases t.number holding_body.owned s.number (owned_found (t.number ∷ holding_body.owned) s passes)) [
+                | inl same ↦ subst (λ (z : Start). is_inside holding_body.elements z ≡ true) (start_at g sound.edges_rise t s t_in s_in same) inside
                 | inr owned ↦ (
-                    let (d, d_in, is, within) = few_there.inside tied_body enough.holds.1 s.number owned in
+                    let (d, d_in, is, within) = few_there.inside holding_body enough.holds.1 s.number owned in
                     let same : d ≡ s = start_at g sound.edges_rise d s ((in_part g (is_number ks) sound d).0 d_in).0 s_in is in
-                    inside_found tied_body.elements s (subst (λ (z : Start). (e : Elem) → Contains z.elements e → Contains tied_body.elements e) same within))
+                    inside_found holding_body.elements s (subst (λ (z : Start). (e : Elem) → Contains z.elements e → Contains holding_body.elements e) same within))
               ])) in
               let some = weighs_something g sound t t_in in
               let tight = tight_kept in
-              let least = few_there.enough tied_body enough.holds.1 in
-              let owned_less : weight_of few tied_body.owned ≤ weight_of g tied_body.owned = owned_part tied_body.owned in
+              let least = few_there.enough holding_body enough.holds.1 in
+              let owned_less : weight_of few holding_body.owned ≤ weight_of g holding_body.owned = owned_part holding_body.owned in
               omega (arith, more, all, some, tight, least, owned_less))
         ]
       where
@@ -283,7 +283,7 @@ module _ (g : Graph) (sound : IsSoundGraph g) (f : List Body) (normal : IsNormal
 
   -- of two groups each constraint of the one is of the other
   module _ (x : Body) (x_in : Contains f x) (es : List Elem) (u v : Elem) (differ : u ≢ v) (u_in : Contains es u) (v_in : Contains es v) (x_has : (e : Elem) → Contains es e → Contains x.elements e) where
-    pub of_other : (ks others : List ConId) → IsTied (with_just (is_number ks) g) es → ((k : ConId) → Contains ks k → ¬ IsTied (without k (with_just (is_number ks) g)) es) → IsTied (with_just (is_number others) g) es
+    pub of_other : (ks others : List ConId) → AreTogether (with_just (is_number ks) g) es → ((k : ConId) → Contains ks k → ¬ AreTogether (without k (with_just (is_number ks) g)) es) → AreTogether (with_just (is_number others) g) es
         → (k : ConId) → Contains ks k → HasConstraint g k → Contains others k
     of_other ks others enough minimal other k k_in (t, t_in, is) =
         let inside = in_tight x x_in es u v differ u_in v_in x_has ks enough other.holds.0.elements

@@ -4,8 +4,8 @@ use Rattle.sk_base.specs.declared.Elem.{Elem}
 use Rattle.sk_base.specs.declared.ConId.{ConId}
 use Rattle.sk_base.specs.declared.Graph.{Graph}
 use Rattle.sk_spare.specs.Sparing.{without}
-use Rattle.sk_why.specs.Because.{IsTied}
+use Rattle.sk_why.specs.Because.{AreTogether}
 
--- the elements are tied without the constraint
+-- the elements are together without the constraint
 abbrev pub MayLeave : List Elem → Graph → ConId → Type 0
-MayLeave elements g k = IsTied (without k g) elements
+MayLeave elements g k = AreTogether (without k g) elements

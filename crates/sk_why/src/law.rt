@@ -1,4 +1,4 @@
-// The laws on what ties some elements, each the contract of a function with nothing to do.
+// The laws on what holds some elements together, each the contract of a function with nothing to do.
 ghost use Rattle.std.specs.Prelude.{◌≡◌, ◌<◌, ℕ, List, [], ◌∷◌, Contains, length, map};
 ghost use Rattle.sk_base.specs.declared.Elem.{Elem};
 ghost use Rattle.sk_base.specs.declared.ConId.{ConId};
@@ -16,31 +16,32 @@ ghost use Rattle.sk_verdict.specs.Parts.{elem_of, part_with};
 ghost use Rattle.sk_spare.specs.Sparing.{without};
 ghost use Rattle.sk_verdict.specs.OneCluster.{IsOneCluster};
 ghost use Rattle.sk_excess.specs.LeftOut.{is_number, kept_graph, AreLeftOut, HasConstraint};
-ghost use Rattle.sk_why.specs.Because.{IsTied, AreBecause, FollowsFrom};
+ghost use Rattle.sk_why.specs.Because.{AreTogether, AreBecause, FollowsFrom};
 ghost use Rattle.sk_why.specs.WhyReport.{IsWhyReport};
 
-/// What ties the elements are constraints of the graph, and they alone tie them. Without any one of them they don't.
-pub fn because_ties()
-    ensures enough { (g : Graph) (elements : List Elem) (because : List ConId) → IsSoundGraph g → IsTied g elements → AreBecause g elements because
-        → IsTied (with_just (is_number because) g) elements }
+/// What holds the elements together are constraints of the graph, and they alone hold them together. Without any one of
+/// them they don't.
+pub fn because_holds()
+    ensures enough { (g : Graph) (elements : List Elem) (because : List ConId) → IsSoundGraph g → AreTogether g elements → AreBecause g elements because
+        → AreTogether (with_just (is_number because) g) elements }
     ensures minimal { (g : Graph) (elements : List Elem) (because : List ConId) (k : ConId) → IsSoundGraph g → AreBecause g elements because → Contains because k
-        → ¬ IsTied (without k (with_just (is_number because) g)) elements }
+        → ¬ AreTogether (without k (with_just (is_number because) g)) elements }
     ensures constraints { (g : Graph) (elements : List Elem) (because : List ConId) (k : ConId) → AreBecause g elements because → Contains because k → HasConstraint g k }
 {}
 
-/// Of a graph just one list ties the elements: neither an order nor a choice has a part in it.
+/// Of a graph just one list holds the elements together: neither an order nor a choice has a part in it.
 pub fn one_because()
     ensures some { (g : Graph) (elements : List Elem) → IsSoundGraph g → (because : List ConId) × AreBecause g elements because }
     ensures one { (g : Graph) (elements : List Elem) (one other : List ConId) → IsSoundGraph g → AreBecause g elements one → AreBecause g elements other → one ≡ other }
 {}
 
-/// What a constraint that is left out follows from are kept constraints, and in the graph of all nodes they alone tie its
-/// elements. Without any one of them they don't. And there is just one such list.
+/// What a constraint that is left out follows from are kept constraints, and in the graph of all nodes they alone hold its
+/// elements together. Without any one of them they don't. And there is just one such list.
 pub fn follows()
     ensures enough { (g : Graph) (left because : List ConId) (c : ConId) (s : Start) → IsSoundGraph g → IsOneCluster g → AreLeftOut g left → FollowsFrom g left c because
-        → Contains (starts g) s → s.number ≡ c → IsTied (with_just (is_number because) g) s.elements }
+        → Contains (starts g) s → s.number ≡ c → AreTogether (with_just (is_number because) g) s.elements }
     ensures minimal { (g : Graph) (left because : List ConId) (c k : ConId) (s : Start) → IsSoundGraph g → FollowsFrom g left c because
-        → Contains (starts g) s → s.number ≡ c → Contains because k → ¬ IsTied (without k (with_just (is_number because) g)) s.elements }
+        → Contains (starts g) s → s.number ≡ c → Contains because k → ¬ AreTogether (without k (with_just (is_number because) g)) s.elements }
     ensures kept { (g : Graph) (left because : List ConId) (c k : ConId) → FollowsFrom g left c because → Contains because k → HasConstraint (kept_graph left g) k }
     ensures some { (g : Graph) (left : List ConId) (c : ConId) → IsSoundGraph g → HasConstraint g c → (because : List ConId) × FollowsFrom g left c because }
     ensures one { (g : Graph) (left one other : List ConId) (c : ConId) → IsSoundGraph g → FollowsFrom g left c one → FollowsFrom g left c other → one ≡ other }
@@ -54,11 +55,11 @@ pub fn group_is_over()
 {}
 
 /// Where what is kept isn't over, what a constraint that is left out follows from is the only list of kept constraints that
-/// ties its elements, and doesn't without any one of them: in whatever order they are looked at, these stay.
+/// holds its elements together, and doesn't without any one of them: in whatever order they are looked at, these stay.
 pub fn only_group()
     ensures { (g : Graph) (left because ks : List ConId) (c : ConId) (s : Start) → IsSoundGraph g → IsOneCluster g → AreLeftOut g left → ¬ IsOver (part_with (kept_graph left g) (map elem_of g.nodes))
         → FollowsFrom g left c because → Contains (starts g) s → s.number ≡ c → IsRising con_number ks → ((k : ConId) → Contains ks k → HasConstraint (kept_graph left g) k)
-        → IsTied (with_just (is_number ks) g) s.elements → ((k : ConId) → Contains ks k → ¬ IsTied (without k (with_just (is_number ks) g)) s.elements) → ks ≡ because }
+        → AreTogether (with_just (is_number ks) g) s.elements → ((k : ConId) → Contains ks k → ¬ AreTogether (without k (with_just (is_number ks) g)) s.elements) → ks ≡ because }
 {}
 
 /// What becomes of the whole without one constraint. Without one that is none of the group something is over still

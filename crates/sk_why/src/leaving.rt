@@ -1,7 +1,7 @@
-// What ties some elements, by halves. Each family here is closed, of all constraints but those that left already, which
-// are greater, and a segment that is set aside. Where it ties the elements, all of the segment leaves: more constraints
-// never tie less. Where it doesn't, one constraint alone stays; else the greater half is looked at with the lesser one
-// put back, and then the lesser one with what stays of the greater one put back.
+// What holds some elements together, by halves. Each family here is closed, of all constraints but those that left
+// already, which are greater, and a segment that is set aside. Where one of its clusters has the elements, all of the
+// segment leaves: more constraints never hold less together. Where none has, one constraint alone stays; else the greater
+// half is looked at with the lesser one put back, and then the lesser one with what stays of the greater one put back.
 ghost use Rattle.std.specs.Prelude.{◌+◌, ◌≤◌, Bool, IfOk, Contains, length};
 ghost use Rattle.sk_base.specs.declared.ConId.{ConId as Number};
 ghost use Rattle.sk_base.specs.Numbering.{con_number};
@@ -19,9 +19,9 @@ use sk_family::{Family, initial};
 use sk_spare::{copy_of, no_graph, others_of, some_holds, with_these};
 use std::alloc::Global;
 
-/// Those of the constraints that tie the elements, where they are looked at from the greatest number to the least, and
-/// each leaves where the others that are left so far still tie them. They rise.
-pub fn tying(
+/// Those of the constraints that hold the elements together, where they are looked at from the greatest number to the
+/// least, and each leaves where the others that are left so far still hold them together. They rise.
+pub(crate) fn holding(
     alloc: Global,
     graph: &Graph,
     kept: &[ConId],

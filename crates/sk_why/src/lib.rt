@@ -1,4 +1,4 @@
-//! Against which other constraints one is too many: the kept ones that already tie its elements.
+//! Against which other constraints one is too many: the kept ones that already hold its elements together.
 #![tactic(auto)]
 
 mod law;
@@ -7,8 +7,7 @@ mod reasons;
 mod text;
 
 pub use law::{
-    because_ties, follows, group_is_over, one_because, one_goes, one_report, only_group,
+    because_holds, follows, group_is_over, one_because, one_goes, one_report, only_group,
 };
-pub use leaving::tying;
 pub use reasons::because;
 pub use text::why_text;

@@ -22,11 +22,11 @@ unreachable-requires c =
     none_owns c.args.graph.now c.requires.sound c.clusters.result.now (c.clusters.ensures.live ∙ ap (λ (f : Clusters). f.live) c.in_ok-family.ensures.clusters)
     c.args.number c.requires.there (sym c.in-None.ensures)
 
-pub tying-requires-clause-rise : goal.tying-requires-clause-rise
-tying-requires-clause-rise c = kept_rise c.args.graph.now c.requires.sound c.args.left.now c.as_slice-in-Some.result.now (kept c)
+pub holding-requires-clause-rise : goal.holding-requires-clause-rise
+holding-requires-clause-rise c = kept_rise c.args.graph.now c.requires.sound c.args.left.now c.as_slice-in-Some.result.now (kept c)
 
-pub tying-requires-clause-there : goal.tying-requires-clause-there
-tying-requires-clause-there c = kept_there c.args.graph.now c.requires.sound c.args.left.now c.as_slice-in-Some.result.now (kept c)
+pub holding-requires-clause-there : goal.holding-requires-clause-there
+holding-requires-clause-there c = kept_there c.args.graph.now c.requires.sound c.args.left.now c.as_slice-in-Some.result.now (kept c)
 
 pub returns : goal.returns
 returns c =
@@ -35,7 +35,7 @@ returns c =
     let es = c.as_slice-in-Some-2.result.now in
     let (s, s_in, numbered, same) = owner_starts g c.requires.sound c.clusters.result.now (c.clusters.ensures.live ∙ ap (λ (f : Clusters). f.live) c.in_ok-family.ensures.clusters)
     c.args.number c.in-Some.owner.now (sym c.in-Some.ensures) in
-    IfOk-weaker c.tying.result (AreBecause (with_just (is_number ks) g) es) (FollowsFrom g c.args.left.now c.args.number)
+    IfOk-weaker c.holding.result (AreBecause (with_just (is_number ks) g) es) (FollowsFrom g c.args.left.now c.args.number)
     (λ because are. then_follows g c.requires.sound c.args.left.now ks (kept ((goal.at.returns c).After-as_slice-in-Some-2)) c.args.number es
     (s, s_in, numbered, same ∙ sym c.as_slice-in-Some-2.ensures) because are)
-    c.tying.ensures
+    c.holding.ensures

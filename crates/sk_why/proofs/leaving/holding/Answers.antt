@@ -12,7 +12,7 @@ use Rattle.sk_excess.specs.LeftOut.{is_number, is_kept}
 use Rattle.sk_why.specs.Because.{AreBecause}
 use Rattle.sk_excess.proofs.Halves.{constraints_aside}
 use Rattle.sk_why.proofs.Halves.{at_first, in_the_end}
-use Rattle.sk_why.proofs.leaving.tying.Goals as goal
+use Rattle.sk_why.proofs.leaving.holding.Goals as goal
 
 pub gone_of-requires-clause-without : goal.gone_of-requires-clause-without
 gone_of-requires-clause-without c =

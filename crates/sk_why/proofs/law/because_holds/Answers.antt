@@ -1,8 +1,8 @@
 use Rattle.sk_why.proofs.Laws.{enough, minimal}
-use Rattle.sk_why.proofs.law.because_ties.Goals as goal
+use Rattle.sk_why.proofs.law.because_holds.Goals as goal
 
 pub returns-clause-enough : goal.returns-clause-enough
-returns-clause-enough c g xs because sound tied are = enough g sound xs because are tied
+returns-clause-enough c g xs because sound together are = enough g sound xs because are together
 
 pub returns-clause-minimal : goal.returns-clause-minimal
 returns-clause-minimal c g xs because k sound are k_in = minimal g sound xs because are k k_in
