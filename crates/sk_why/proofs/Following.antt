@@ -24,7 +24,7 @@ use Rattle.sk_excess.proofs.OneClusters.{whole_in}
 use Rattle.sk_excess.proofs.Choosing.{kept_one}
 use Rattle.sk_why.specs.Because.{AreTogether, AreBecause, FollowsFrom}
 use Rattle.sk_why.proofs.Groups.{group_is_over}
-use Rattle.sk_why.proofs.Laws.{enough, minimal, one_list}
+use Rattle.sk_why.proofs.Laws.{of_because, enough, minimal, one_list}
 
 -- a graph that makes one cluster has the elements of each start of the whole in it
 pub start_in_whole : (g : Graph) → IsSoundGraph g → (p : ConId → Bool) → (one : IsOneCluster (with_just p g)) → (s : Start) → Contains (starts g) s → (e : Elem) → Contains s.elements e → Contains one.whole.elements e
@@ -55,7 +55,7 @@ alone_of g sound left ks there =
 module _ (g : Graph) (sound : IsSoundGraph g) (left : List ConId) (c : ConId) where
   module _ (because : List ConId) (follows : FollowsFrom g left c because) where
     alone : with_just (is_number because) (kept_graph left g) ≡ with_just (is_number because) g
-    alone = alone_of g sound left because (λ k k_in. ((follows.are.exactly k).0 k_in).0)
+    alone = alone_of g sound left because (λ k k_in. (of_because (kept_graph left g) follows.start.elements because follows.are k k_in).0)
 
     module _ (s : Start) (s_in : Contains (starts g) s) (numbered : s.number ≡ c) where
       same_elements : follows.start.elements ≡ s.elements
@@ -82,7 +82,7 @@ module _ (g : Graph) (sound : IsSoundGraph g) (left : List ConId) (c : ConId) wh
         let s = follows.start in
         let same = follows.numbered in
         let out : ¬ Contains because s.number = λ h. (
-        let kept = (part_has g sound (is_kept left) s.number ((follows.are.exactly s.number).0 h).0).1 in
+        let kept = (part_has g sound (is_kept left) s.number (of_because (kept_graph left g) s.elements because follows.are s.number h).0).1 in
         kept_not left s.number kept (subst (λ (k : ConId). Contains left k) (sym same) c_in)) in
         subst (λ (k : ConId). (x : Body) × SameBodies f (x ∷ []) × IsOver (part_with (with_just (is_number (k ∷ because)) g) x.elements)) same
         (group_is_over g sound s follows.there because out (follows_enough s follows.there same one are) (follows_minimal s follows.there same) f

@@ -15,8 +15,7 @@ use Rattle.sk_excess.specs.Going.{AreGoneOf}
 use Rattle.sk_excess.proofs.SomeLess.{kept_not, none_kept, in_above}
 use Rattle.sk_excess.proofs.Without.{to_differ, without_kept, without_one}
 use Rattle.sk_excess.proofs.Going.{all_gone, still_so}
-use Rattle.sk_why.specs.Because.{AreTogether}
-use Rattle.sk_why.specs.Leaving.{MayLeave}
+use Rattle.sk_why.specs.Because.{AreTogether, MayLeave}
 use Rattle.sk_why.proofs.Together.{together_with_more}
 
 module _ (g : Graph) (sound : IsSoundGraph g) (xs : List Elem) where

@@ -1,5 +1,5 @@
 -- A group: constraints that hold some elements together, and without any one of which they aren't.
-use Rattle.std.proofs.Common.{◌≡◌, inl, inr, Bool, true, List, [], ◌∷◌, refl, sym, subst, ◌∙◌}
+use Rattle.std.proofs.Common.{◌≡◌, inl, inr, true, List, [], ◌∷◌, sym, subst, ◌∙◌}
 use Rattle.std.specs.Prelude.{Contains, ◌&&◌}
 use Rattle.std.proofs.lemmas.Bool.{and_parts, and_from}
 use Rattle.sk_base.specs.declared.ConId.{ConId}
@@ -27,7 +27,7 @@ use Rattle.sk_verdict.specs.Parts.{part_with}
 use Rattle.sk_verdict.proofs.Normals.{has_two}
 use Rattle.sk_spare.specs.Sparing.{differs_from, without, IsSpare}
 use Rattle.sk_spare.proofs.LeavingOut.{spare_is_over}
-use Rattle.sk_excess.specs.LeftOut.{is_number, HasConstraint}
+use Rattle.sk_excess.specs.LeftOut.{is_number}
 use Rattle.sk_excess.proofs.OneClusters.{more_covers}
 use Rattle.sk_excess.proofs.SomeLess.{number_in, in_number, just_twice, just_agree}
 use Rattle.sk_excess.proofs.Without.{differs, to_differ}

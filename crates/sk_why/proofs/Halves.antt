@@ -1,5 +1,5 @@
 -- How the search by halves follows what is set aside.
-use Rattle.std.proofs.Common.{◌≡◌, ℕ, ◌<◌, ◌≤◌, Bool, true, false, List, [], length, take, drop, sym, subst}
+use Rattle.std.proofs.Common.{◌≡◌, ℕ, ◌≤◌, Bool, true, false, List, [], length, take, drop, ap, sym, subst, ◌∙◌}
 use Rattle.std.specs.Prelude.{Contains, map, filter}
 use Rattle.sk_base.specs.declared.Elem.{Elem}
 use Rattle.sk_base.specs.declared.ConId.{ConId}
@@ -7,25 +7,26 @@ use Rattle.sk_base.specs.declared.Graph.{Graph}
 use Rattle.sk_base.specs.SoundGraph.{IsSoundGraph}
 use Rattle.sk_base.specs.Numbering.{con_number}
 use Rattle.sk_base.specs.Rising.{IsRising}
-use Rattle.sk_base.proofs.Members.{contains_filtered, filtered_from}
-use Rattle.sk_base.proofs.Pairs.{pairs_filter}
+use Rattle.sk_base.proofs.Members.{mapped_from}
+use Rattle.sk_base.proofs.Unions.{rising_same}
 use Rattle.sk_family.specs.declared.Cluster.{Cluster}
-use Rattle.sk_family.specs.Body.{Body}
+use Rattle.sk_family.specs.Body.{Body, Start, starts}
 use Rattle.sk_family.specs.Clusters.{body_of}
 use Rattle.sk_rules.specs.JustSome.{with_just}
 use Rattle.sk_rules.specs.Reach.{IsClosed}
 use Rattle.sk_rules.proofs.JustSome.{sound_part}
+use Rattle.sk_tree.specs.LegalPlan.{numbers_of}
 use Rattle.sk_spare.specs.Trying.{some_holds}
 use Rattle.sk_spare.proofs.PutBack.{CanJoin}
 use Rattle.sk_excess.specs.LeftOut.{is_number, is_kept, kept_graph, HasConstraint}
 use Rattle.sk_excess.specs.Going.{AreGoneOf, IsBut}
-use Rattle.sk_excess.proofs.SomeLess.{number_in, in_number, kept_not, none_kept, part_has, has_part}
+use Rattle.sk_excess.proofs.SomeLess.{number_in, in_number, part_has, has_part}
 use Rattle.sk_excess.proofs.Going.{none_gone}
 use Rattle.sk_excess.proofs.Halves.{others_normal, greater_but, all_but}
-use Rattle.sk_why.specs.Because.{AreBecause}
-use Rattle.sk_why.specs.Leaving.{MayLeave}
+use Rattle.sk_why.specs.Because.{MayLeave, AreBecause}
 use Rattle.sk_why.proofs.Together.{found_together, found_apart}
 use Rattle.sk_why.proofs.Gone.{all_leave, lone_stays}
+use Rattle.sk_why.proofs.Laws.{has_number, numbers_rise}
 
 module _ (g : Graph) (sound : IsSoundGraph g) (es : List Elem) (p : ConId → Bool) (aside : List ConId) (rise : IsRising con_number aside) where
   abbrev all : Graph
@@ -59,26 +60,19 @@ module _ (g : Graph) (sound : IsSoundGraph g) (es : List Elem) (kept : List ConI
   pub at_first : (f : List Body) → f ≡ [] → IsBut g (is_number kept) kept f
   at_first = all_but g sound (is_number kept) kept (λ k k_in. (there k k_in, in_number kept k k_in)) (λ k has passes. number_in kept k passes)
 
-  pub in_the_end : (gone because : List ConId) → AreGoneOf (MayLeave es) (with_just (is_number kept) g) kept gone → because ≡ filter (is_kept gone) kept → AreBecause (with_just (is_number kept) g) es because
-  in_the_end gone because are is =
-      subst (λ (ks : List ConId). AreBecause (with_just (is_number kept) g) es ks) (sym is) (record {
-        gone = gone;
-        leave = record {
-          exactly = λ k. (
-            (λ h. (let was = (are.exactly k).0 h in (has_kept k was.0, was.1))),
-            (λ h. (are.exactly k).1 (kept_has k h.0, h.1)),
-          );
-          rise = are.rise;
-        };
-        exactly = λ k. (
-          (λ h. (let was = filtered_from (is_kept gone) kept k h in (has_kept k was.0, kept_not gone k was.1))),
-          (λ h. contains_filtered (is_kept gone) kept k (kept_has k h.0) (none_kept gone k h.1)),
-        );
-        rise = pairs_filter (λ (j k : ConId). j.0 < k.0) (is_kept gone) kept rise;
-      })
-    where
-      has_kept : (k : ConId) → Contains kept k → HasConstraint (with_just (is_number kept) g) k
-      has_kept k h = has_part g sound (is_number kept) k (there k h) (in_number kept k h)
+  abbrev these : Graph
+  these = with_just (is_number kept) g
 
-      kept_has : (k : ConId) → HasConstraint (with_just (is_number kept) g) k → Contains kept k
-      kept_has k h = number_in kept k (part_has g sound (is_number kept) k h).1
+  -- they are all constraints of the graph that they make
+  same_numbers : numbers_of these ≡ kept
+  same_numbers =
+      rising_same con_number (numbers_of these) kept (numbers_rise these (sound_part g (is_number kept) sound)) rise
+      (λ k h. number_in kept k (part_has g sound (is_number kept) k (mapped_from (λ (s : Start). s.number) (starts these) k h)).1)
+      (λ k h. has_number these k (has_part g sound (is_number kept) k (there k h) (in_number kept k h)))
+
+  pub in_the_end : (gone because : List ConId) → AreGoneOf (MayLeave es) these kept gone → because ≡ filter (is_kept gone) kept → AreBecause these es because
+  in_the_end gone because are is = record {
+    gone = gone;
+    leave = subst (λ (ks : List ConId). AreGoneOf (MayLeave es) these ks gone) (sym same_numbers) are;
+    others = is ∙ ap (λ (ks : List ConId). filter (is_kept gone) ks) (sym same_numbers);
+  }

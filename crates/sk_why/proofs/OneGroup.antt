@@ -11,7 +11,7 @@ use Rattle.sk_base.specs.SoundGraph.{IsSoundGraph}
 use Rattle.sk_base.specs.Numbering.{con_number, elem_number}
 use Rattle.sk_base.specs.Rising.{IsRising}
 use Rattle.sk_base.proofs.Deciding.{some_in}
-use Rattle.sk_base.proofs.Members.{contains_head, contains_later, contains_one, contains_cases}
+use Rattle.sk_base.proofs.Members.{contains_head, contains_one, contains_cases}
 use Rattle.sk_base.proofs.Unions.{rising_same}
 use Rattle.sk_family.specs.Body.{Body, Start, start_number, starts, initial_bodies}
 use Rattle.sk_family.proofs.GraphStarts.{start_at, starts_rise}
@@ -34,12 +34,13 @@ use Rattle.sk_spare.proofs.LeavingOut.{distinct}
 use Rattle.sk_spare.proofs.Lighter.{two_long, weighs_something}
 use Rattle.sk_excess.specs.LeftOut.{is_number, is_kept, kept_graph, AreLeftOut, HasConstraint}
 use Rattle.sk_excess.proofs.Choosing.{kept_one, whole_is}
-use Rattle.sk_excess.proofs.OneClusters.{at_node, whole_in, only_whole, all_of, more_covers}
-use Rattle.sk_excess.proofs.SomeLess.{number_in, kept_not, none_kept, part_has}
+use Rattle.sk_excess.proofs.OneClusters.{at_node, whole_in, all_of, more_covers}
+use Rattle.sk_excess.proofs.SomeLess.{number_in, none_kept, part_has}
 use Rattle.sk_excess.proofs.Without.{differs, to_differ, without_one}
 use Rattle.sk_why.specs.Because.{AreTogether, FollowsFrom}
 use Rattle.sk_why.proofs.Following.{alone_of, start_in_whole, follows_enough, follows_minimal, group_over}
-use Rattle.sk_why.proofs.TightGroups.{where_less, held_part, sparse_in, tight_kept, in_tight, of_other}
+use Rattle.sk_why.proofs.Laws.{of_because, because_rises}
+use Rattle.sk_why.proofs.TightGroups.{where_less, held_part, sparse_in, in_tight, of_other}
 
 -- a part is over, or isn't
 over_decided : (g : Graph) (x : Body) → IsOver (part_with g x.elements) ⊎ (¬ IsOver (part_with g x.elements))
@@ -124,8 +125,8 @@ module _ (g : Graph) (sound : IsSoundGraph g) (left : List ConId) (one : IsOneCl
     in_whole : (e : Elem) → Contains s.elements e → Contains kept_whole.whole.elements e
     in_whole = start_in_whole g sound (is_kept left) kept_whole s s_in
 
-    of_because : (k : ConId) → Contains because k → HasConstraint kept k
-    of_because k k_in = ((follows.are.exactly k).0 k_in).0
+    because_kept : (k : ConId) → Contains because k → HasConstraint kept k
+    because_kept k k_in = (of_because kept follows.start.elements because follows.are k k_in).0
 
     -- a group of kept constraints, in what is kept
     enough_kept : (ks : List ConId) → ((k : ConId) → Contains ks k → HasConstraint kept k) → AreTogether (with_just (is_number ks) g) s.elements → AreTogether (with_just (is_number ks) kept) s.elements
@@ -136,10 +137,10 @@ module _ (g : Graph) (sound : IsSoundGraph g) (left : List ConId) (one : IsOneCl
     minimal_kept ks there minimal k k_in together = minimal k k_in (subst (λ (h : Graph). AreTogether (without k h) s.elements) (alone_of g sound left ks there) together)
 
     because_enough : AreTogether (with_just (is_number because) kept) s.elements
-    because_enough = enough_kept because of_because (follows_enough g sound left c because follows s s_in numbered one are)
+    because_enough = enough_kept because because_kept (follows_enough g sound left c because follows s s_in numbered one are)
 
     because_minimal : (k : ConId) → Contains because k → ¬ AreTogether (without k (with_just (is_number because) kept)) s.elements
-    because_minimal = minimal_kept because of_because (follows_minimal g sound left c because follows s s_in numbered)
+    because_minimal = minimal_kept because because_kept (follows_minimal g sound left c because follows s s_in numbered)
 
     -- there is no other group
     pub only_follows : (ks : List ConId) → IsRising con_number ks → ((k : ConId) → Contains ks k → HasConstraint kept k) → AreTogether (with_just (is_number ks) g) s.elements
@@ -148,9 +149,9 @@ module _ (g : Graph) (sound : IsSoundGraph g) (left : List ConId) (one : IsOneCl
         let (u, v, differ, u_in, v_in) = sound_two_each g sound s s_in in
         let ks_enough = enough_kept ks there enough in
         let ks_minimal = minimal_kept ks there minimal in
-        rising_same con_number ks because rise follows.are.rise
+        rising_same con_number ks because rise (because_rises kept kept_sound follows.start.elements because follows.are)
         (λ k k_in. of_other kept kept_sound kept_whole.family kept_whole.normal none_kept_over kept_whole.whole whole_there s.elements u v differ u_in v_in in_whole ks because ks_enough ks_minimal because_enough k k_in (there k k_in))
-        (λ k k_in. of_other kept kept_sound kept_whole.family kept_whole.normal none_kept_over kept_whole.whole whole_there s.elements u v differ u_in v_in in_whole because ks because_enough because_minimal ks_enough k k_in (of_because k k_in))
+        (λ k k_in. of_other kept kept_sound kept_whole.family kept_whole.normal none_kept_over kept_whole.whole whole_there s.elements u v differ u_in v_in in_whole because ks because_enough because_minimal ks_enough k k_in (because_kept k k_in))
 
 -- without a constraint that is none of the group, something is over
 module _ (g : Graph) (sound : IsSoundGraph g) (left because : List ConId) (c k : ConId) (one : IsOneCluster g) (are : AreLeftOut g left) (c_in : Contains left c) (follows : FollowsFrom g left c because)
@@ -258,7 +259,7 @@ module _ (g : Graph) (sound : IsSoundGraph g) (c : ConId) (one : IsOneCluster g)
     -- as tight as what is kept allows, the elements hold the group
     holds_group : (u v : Elem) → u ≢ v → Contains s.elements u → Contains s.elements v → held rest x.elements + 3 ≡ 2 * length x.elements → ((e : Elem) → Contains s.elements e → Contains x.elements e) → (t : Start) → Contains (starts g) t → t.number ≡ k → is_inside x.elements t ≡ true
     holds_group u v differ u_in v_in tight has t t_in is =
-        let kept_it = part_has g sound (is_kept (c ∷ [])) k (of_because g sound (c ∷ []) one are not_over because c follows s s_in numbered k k_in) in
+        let kept_it = part_has g sound (is_kept (c ∷ [])) k (because_kept g sound (c ∷ []) one are not_over because c follows s s_in numbered k k_in) in
         in_tight rest rest_sound rest_whole.family rest_whole.normal (none_kept_over g sound (c ∷ []) one are not_over) rest_whole.whole (whole_there g sound (c ∷ []) one are not_over)
         s.elements u v differ u_in v_in (in_whole g sound (c ∷ []) one are not_over because c follows s s_in numbered) because (because_enough g sound (c ∷ []) one are not_over because c follows s s_in numbered)
         x.elements (cluster_distinct less_k less_k_sound f normal x x_in) in_nodes tight has
@@ -289,7 +290,7 @@ module _ (g : Graph) (sound : IsSoundGraph g) (c : ConId) (one : IsOneCluster g)
 
     none_over : ¬ IsOver (part_with less_k x.elements)
     none_over over =
-        let (t, t_in, is) = (part_has g sound (is_kept (c ∷ [])) k (of_because g sound (c ∷ []) one are not_over because c follows s s_in numbered k k_in)).0 in
+        let (t, t_in, is) = (part_has g sound (is_kept (c ∷ [])) k (because_kept g sound (c ∷ []) one are not_over because c follows s s_in numbered k k_in)).0 in
         let (u, v, differ, u_in, v_in) = sound_two_each g sound s s_in in
         let all = all_there in
         let two = long in

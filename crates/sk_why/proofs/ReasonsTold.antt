@@ -5,7 +5,6 @@ use Rattle.std.proofs.lemmas.Bool.Decides.{nat_tests}
 use Rattle.std.proofs.lemmas.List.{append-nil}
 use Rattle.std.proofs.Math.Seq.{take-suc}
 use Rattle.sk_base.specs.declared.ConId.{ConId}
-use Rattle.sk_base.specs.declared.Elem.{Elem}
 use Rattle.sk_base.specs.declared.Sketch.{Sketch}
 use Rattle.sk_base.specs.SoundSketch.{IsSoundSketch}
 use Rattle.sk_base.proofs.Members.{contains_head, contains_later}
@@ -25,7 +24,7 @@ use Rattle.sk_parts.proofs.Drawing.{part_is_sound}
 use Rattle.sk_parts.proofs.OverParts.{over_is_one}
 use Rattle.sk_report.specs.CheckReport.{part_line}
 use Rattle.sk_report.specs.WhyLines.{why_head, follows_line}
-use Rattle.sk_excess.specs.LeftOut.{AreLeftOut, HasConstraint}
+use Rattle.sk_excess.specs.LeftOut.{HasConstraint}
 use Rattle.sk_excess.proofs.Choosing.{left_has, some_left_out, one_list as one_left}
 use Rattle.sk_why.specs.Because.{FollowsFrom}
 use Rattle.sk_why.specs.OverParts.{StandsForOver, EachOverStands, over_count}

@@ -8,11 +8,9 @@ use Rattle.sk_base.specs.SoundGraph.{IsSoundGraph}
 use Rattle.sk_base.specs.Numbering.{con_number}
 use Rattle.sk_base.specs.Rising.{IsRising}
 use Rattle.sk_base.proofs.Deciding.{Decided, some_in, each_decided, is_in, elem_settles}
-use Rattle.sk_base.proofs.Members.{contains_none, contains_one, contains_mapped, mapped_from}
-use Rattle.sk_base.proofs.Pairs.{pairs_map}
+use Rattle.sk_base.proofs.Members.{contains_none, contains_one, mapped_from}
 use Rattle.sk_base.proofs.Unions.{rising_none, rising_cons, rising_tail, rising_below}
 use Rattle.sk_family.specs.Body.{Body, Start, starts, initial_bodies}
-use Rattle.sk_family.proofs.GraphStarts.{starts_rise}
 use Rattle.sk_rules.specs.JustSome.{with_just}
 use Rattle.sk_rules.specs.Reach.{IsNormal}
 use Rattle.sk_rules.proofs.JustSome.{sound_part}
@@ -22,10 +20,10 @@ use Rattle.sk_excess.specs.LeftOut.{is_number, is_kept, kept_graph, HasConstrain
 use Rattle.sk_excess.specs.Going.{AreGoneOf}
 use Rattle.sk_excess.proofs.SomeLess.{in_number, just_all}
 use Rattle.sk_excess.proofs.Going.{none_gone, both_gone}
-use Rattle.sk_why.specs.Because.{AreTogether, AreBecause, FollowsFrom}
-use Rattle.sk_why.specs.Leaving.{MayLeave}
+use Rattle.sk_why.specs.Because.{AreTogether, MayLeave, AreBecause, FollowsFrom}
 use Rattle.sk_why.proofs.Together.{together_in}
 use Rattle.sk_why.proofs.Gone.{all_leave, lone_stays}
+use Rattle.sk_why.proofs.Laws.{has_number, numbers_rise}
 use Rattle.sk_why.proofs.Halves.{in_the_end}
 
 -- whether they are together is settled
@@ -64,12 +62,10 @@ some_gone g sound es (x ∷ xs) rise =
 pub some_because : (g : Graph) → IsSoundGraph g → (es : List Elem) → (because : List ConId) × AreBecause g es because
 some_because g sound es =
     let all = numbers_of g in
-    let rise : IsRising con_number all = pairs_map (λ (j k : ConId). j.0 < k.0) (λ (s : Start). s.number) (starts g) (starts_rise g sound.edges_rise) in
+    let rise = numbers_rise g sound in
     let (gone, are) = some_gone (with_just (is_number all) g) (sound_part g (is_number all) sound) es all rise in
     let there : (k : ConId) → Contains all k → HasConstraint g k = λ k k_in. mapped_from (λ (s : Start). s.number) (starts g) k k_in in
-    let whole : with_just (is_number all) g ≡ g = just_all g sound (is_number all) (λ k has. (
-    let (s, s_in, is) = has in
-    in_number all k (subst (λ (j : ConId). Contains all j) is (contains_mapped (λ (s : Start). s.number) (starts g) s s_in)))) in
+    let whole : with_just (is_number all) g ≡ g = just_all g sound (is_number all) (λ k has. in_number all k (has_number g k has)) in
     (filter (is_kept gone) all, subst (λ (h : Graph). AreBecause h es (filter (is_kept gone) all)) whole (in_the_end g sound es all rise there gone (filter (is_kept gone) all) are refl))
 
 pub some_follow : (g : Graph) → IsSoundGraph g → (left : List ConId) (c : ConId) → HasConstraint g c → (because : List ConId) × FollowsFrom g left c because

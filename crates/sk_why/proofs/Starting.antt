@@ -9,16 +9,16 @@ use Rattle.sk_base.specs.Numbering.{con_number}
 use Rattle.sk_base.specs.Rising.{IsRising}
 use Rattle.sk_base.proofs.Filters.{same_tests}
 use Rattle.sk_base.proofs.Members.{contains_none, contains_head, contains_later, contains_cases, contains_one, contains_mapped, mapped_from, contains_filtered, filtered_from}
-use Rattle.sk_base.proofs.Pairs.{pairs_filter, pairs_map}
+use Rattle.sk_base.proofs.Pairs.{pairs_filter}
 use Rattle.sk_family.specs.declared.Cluster.{Cluster}
 use Rattle.sk_family.specs.Body.{Start, starts}
 use Rattle.sk_family.specs.Clusters.{start_of}
-use Rattle.sk_family.proofs.GraphStarts.{starts_rise}
 use Rattle.sk_rules.specs.JustSome.{with_just}
 use Rattle.sk_tree.specs.LegalPlan.{numbers_of}
 use Rattle.sk_excess.specs.LeftOut.{is_number, is_kept, kept_graph, HasConstraint}
 use Rattle.sk_excess.proofs.SomeLess.{number_in, in_number, just_agree}
 use Rattle.sk_why.specs.Because.{AreBecause, FollowsFrom}
+use Rattle.sk_why.proofs.Laws.{has_number, numbers_rise}
 
 -- the first that passes
 found_first : {X : Type 0} (p : X → Bool) (xs : List X) (d : X) → find p xs ≡ Some d → Contains xs d × (p d ≡ true)
@@ -62,8 +62,7 @@ module _ (g : Graph) (sound : IsSoundGraph g) (left kept : List ConId) (is : kep
   pub kept_rise : IsRising con_number kept
   kept_rise =
       subst (λ (ks : List ConId). IsRising con_number ks) (sym is)
-      (pairs_filter (λ (j k : ConId). j.0 < k.0) (is_kept left) (numbers_of g)
-      (pairs_map (λ (j k : ConId). j.0 < k.0) (λ (s : Start). s.number) (starts g) (starts_rise g sound.edges_rise)))
+      (pairs_filter (λ (j k : ConId). j.0 < k.0) (is_kept left) (numbers_of g) (numbers_rise g sound))
 
   kept_from : (k : ConId) → Contains kept k → HasConstraint g k × (is_kept left k ≡ true)
   kept_from k h =
@@ -74,10 +73,8 @@ module _ (g : Graph) (sound : IsSoundGraph g) (left kept : List ConId) (is : kep
   kept_there k h = (kept_from k h).0
 
   there_kept : (k : ConId) → HasConstraint g k → is_kept left k ≡ true → Contains kept k
-  there_kept k (s, s_in, same) passes =
-      subst (λ (ks : List ConId). Contains ks k) (sym is)
-      (contains_filtered (is_kept left) (numbers_of g) k
-      (subst (λ (j : ConId). Contains (numbers_of g) j) same (contains_mapped (λ (s : Start). s.number) (starts g) s s_in)) passes)
+  there_kept k has passes =
+      subst (λ (ks : List ConId). Contains ks k) (sym is) (contains_filtered (is_kept left) (numbers_of g) k (has_number g k has) passes)
 
   just_kept : with_just (is_number kept) g ≡ kept_graph left g
   just_kept =

@@ -1,6 +1,6 @@
 -- Groups of a graph with no constraint too many: the elements of one's cluster are just as many as its constraints need, and
 -- lie in every set of elements that is as tight and has those that are held together. So there is one group.
-use Rattle.std.proofs.Common.{◌≡◌, ◌≢◌, inl, inr, ℕ, ◌+◌, ◌*◌, ◌≤◌, ◌<◌, Bool, true, false, List, [], ◌∷◌, ◌++◌, length, refl, ap, sym, subst, ◌∙◌, arith}
+use Rattle.std.proofs.Common.{◌≡◌, ◌≢◌, inl, inr, ℕ, ◌+◌, ◌*◌, ◌≤◌, Bool, true, false, List, [], ◌∷◌, ◌++◌, length, refl, ap, sym, subst, ◌∙◌, arith}
 use Rattle.std.specs.Prelude.{Contains, filter, not, sum_by, ◌&&◌}
 use Rattle.std.proofs.lemmas.Bool.{and_parts, and_from}
 use Rattle.std.proofs.lemmas.List.{length-append}
@@ -10,19 +10,17 @@ use Rattle.sk_base.specs.declared.ConId.{ConId}
 use Rattle.sk_base.specs.declared.Elem.{Elem}
 use Rattle.sk_base.specs.declared.Graph.{Graph}
 use Rattle.sk_base.specs.SoundGraph.{IsSoundGraph}
-use Rattle.sk_base.specs.Numbering.{is_elem, elem_number, con_number}
-use Rattle.sk_base.specs.Rising.{IsRising}
+use Rattle.sk_base.specs.Numbering.{is_elem, elem_number}
 use Rattle.sk_base.proofs.Deciding.{con_settles}
 use Rattle.sk_base.proofs.Filters.{filter_both}
 use Rattle.sk_base.proofs.Members.{contains_head, contains_later, contains_cases, contains_filtered, filtered_from}
 use Rattle.sk_base.proofs.Numbers.{elem_found, found_elem}
 use Rattle.sk_base.proofs.Pairs.{pairs_filter}
 use Rattle.sk_base.proofs.Splits.{pairs_append}
-use Rattle.sk_base.proofs.Unions.{rising_same}
 use Rattle.sk_family.specs.Body.{Body, Start, starts, initial_bodies}
 use Rattle.sk_family.proofs.Bodies.{Within}
 use Rattle.sk_family.proofs.GraphStarts.{start_at}
-use Rattle.sk_rules.specs.Excess.{weight, weight_where, weight_of, held, is_inside, is_owned, HasTwoEach}
+use Rattle.sk_rules.specs.Excess.{weight, weight_where, weight_of, held, is_inside, is_owned}
 use Rattle.sk_rules.specs.JustSome.{with_just}
 use Rattle.sk_rules.specs.Reach.{IsNormal}
 use Rattle.sk_rules.proofs.Counting.{reached_tight, owned_is_held}
@@ -30,7 +28,7 @@ use Rattle.sk_rules.proofs.JustSome.{in_part, sound_part, starts_of_part, all_pa
 use Rattle.sk_rules.proofs.Keeping.{contains_settles}
 use Rattle.sk_rules.proofs.NormalForm.{one_of_two}
 use Rattle.sk_rules.proofs.SomeClosed.{some_closed}
-use Rattle.sk_rules.proofs.SummedWeights.{weighs_one, weighs_more, found_inside, inside_found, owned_found, found_owned}
+use Rattle.sk_rules.proofs.SummedWeights.{weighs_one, weighs_more, found_inside, inside_found, owned_found}
 use Rattle.sk_rules.proofs.WeighedGraphs.{sound_two_each}
 use Rattle.sk_verdict.proofs.Normals.{has_two}
 use Rattle.sk_plan.specs.Sparse.{weight_within, AreDistinct, AreIn, HoldsNoneTooMany}
@@ -42,7 +40,7 @@ use Rattle.sk_spare.proofs.LeavingOut.{distinct}
 use Rattle.sk_spare.proofs.Lighter.{two_long, weighs_something, weighs_one_more}
 use Rattle.sk_excess.specs.LeftOut.{is_number, HasConstraint}
 use Rattle.sk_excess.proofs.OneClusters.{more_covers}
-use Rattle.sk_excess.proofs.SomeLess.{number_in, in_number}
+use Rattle.sk_excess.proofs.SomeLess.{number_in}
 use Rattle.sk_excess.proofs.Without.{to_differ}
 use Rattle.sk_why.specs.Because.{AreTogether}
 

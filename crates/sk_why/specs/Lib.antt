@@ -1,4 +1,3 @@
 pub mod Because
-pub mod Leaving
 pub mod OverParts
 pub mod WhyReport

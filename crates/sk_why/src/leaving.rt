@@ -11,8 +11,7 @@ ghost use Rattle.sk_family.specs.Clusters.{bodies};
 ghost use Rattle.sk_rules.specs.JustSome.{with_just};
 ghost use Rattle.sk_excess.specs.Going.{AreGoneOf, IsBut};
 ghost use Rattle.sk_excess.specs.LeftOut.{is_number, HasConstraint};
-ghost use Rattle.sk_why.specs.Because.{AreBecause};
-ghost use Rattle.sk_why.specs.Leaving.{MayLeave};
+ghost use Rattle.sk_why.specs.Because.{MayLeave, AreBecause};
 
 use sk_base::{ConId, Elem, Graph, List, NoMemory};
 use sk_family::{Family, initial};

@@ -1,4 +1,6 @@
+use Rattle.sk_excess.specs.LeftOut.{kept_graph}
 use Rattle.sk_why.proofs.Following.{follows_enough, follows_minimal, follows_one}
+use Rattle.sk_why.proofs.Laws.{of_because}
 use Rattle.sk_why.proofs.SomeBecause.{some_follow}
 use Rattle.sk_why.proofs.law.follows.Goals as goal
 
@@ -9,7 +11,7 @@ pub returns-clause-minimal : goal.returns-clause-minimal
 returns-clause-minimal c g left because n k s sound follows s_in numbered k_in = follows_minimal g sound left n because follows s s_in numbered k k_in
 
 pub returns-clause-kept : goal.returns-clause-kept
-returns-clause-kept c g left because n k follows k_in = ((follows.are.exactly k).0 k_in).0
+returns-clause-kept c g left because n k follows k_in = (of_because (kept_graph left g) follows.start.elements because follows.are k k_in).0
 
 pub returns-clause-some : goal.returns-clause-some
 returns-clause-some c g left n sound has = some_follow g sound left n has

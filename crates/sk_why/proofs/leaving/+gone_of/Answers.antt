@@ -15,7 +15,7 @@ use Rattle.sk_spare.proofs.PutBack.{rest_is}
 use Rattle.sk_excess.specs.LeftOut.{is_kept}
 use Rattle.sk_excess.specs.Going.{AreGoneOf, but, IsBut}
 use Rattle.sk_excess.proofs.Halves.{less_further, kept_further, few_kept, greater_but, less_but, both_halves}
-use Rattle.sk_why.specs.Leaving.{MayLeave}
+use Rattle.sk_why.specs.Because.{MayLeave}
 use Rattle.sk_why.proofs.Halves.{all_go, lone_goes_not, greater_gone}
 use Rattle.sk_why.proofs.leaving.+gone_of.Goals as goal
 use Rattle.sk_why.proofs.leaving.+gone_of.Goals.{After-some_holds}
