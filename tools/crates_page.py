@@ -12,7 +12,8 @@ READING = {
     " sk_open_triples sk_close_by_order sk_close_any_order sk_close_by_angles sk_verdict sk_offers",
     "Plans": "sk_tree sk_plan",
     "Places": "sk_root sk_interval sk_steps sk_place sk_frame sk_measure sk_tolerance sk_flips sk_solve",
-    "What is too much, and what is missing": "sk_parts sk_spare sk_excess sk_why sk_drawn sk_complete",
+    "What is too much, and what is missing": "sk_parts sk_spare sk_excess sk_why sk_drawn"
+    " sk_rigid sk_complete",
     "Claims": "sk_claims sk_verify",
     "Sessions": "sk_edits sk_session",
     "What is written": "sk_report sk_dxf sk_gen",

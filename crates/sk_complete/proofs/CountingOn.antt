@@ -1,10 +1,12 @@
 -- Numbers that count on.
-use Rattle.std.proofs.Common.{◌≡◌, ℕ, zero, suc, ◌+◌, ◌<◌, List, [], ◌∷◌, ◌++◌, length, refl, ap, sym, subst, ◌∙◌, arith}
-use Rattle.std.specs.Prelude.{slice_index_or}
+use Rattle.std.proofs.Common.{◌≡◌, inl, inr, ℕ, zero, suc, ◌+◌, ◌<◌, List, [], ◌∷◌, ◌++◌, length, refl, ap, sym, subst, ◌∙◌, arith}
+use Rattle.std.specs.Prelude.{All, slice_index_or}
+use Rattle.std.proofs.lemmas.Bool.{cases_lt}
+use Rattle.std.proofs.lemmas.List.{get_or_default}
 use Rattle.sk_base.specs.declared.Constraint.{Constraint}
 use Rattle.sk_base.specs.declared.Element.{Element}
 use Rattle.sk_base.specs.declared.Sketch.{Sketch}
-use Rattle.sk_base.specs.SoundSketch.{IsSoundSketch}
+use Rattle.sk_base.specs.Rising.{IsRising}
 use Rattle.sk_lang.specs.Canonical.{canonical}
 use Rattle.sk_lang.specs.Reading.{Reads}
 use Rattle.sk_lang.specs.Renumbered.{elements_from, rule_renumbered, constraints_from}
@@ -30,6 +32,23 @@ last_is n (c ∷ []) last zero is at = ap (λ (d : Constraint). d.number.0) at
 last_is n (c ∷ []) last (suc i) is at = absurd (omega (arith, is))
 last_is n (c ∷ d ∷ cs) last zero is at = absurd (omega (arith, is))
 last_is n (c ∷ d ∷ cs) last (suc i) is at = last_is c.number.0 (d ∷ cs) last i (omega (arith, is)) at
+
+-- a number above the last of rising ones is above all
+pub above_last : (cs : List Constraint) (last : Constraint) (k : ℕ) → IsRising (λ (c : Constraint). c.number.0) cs → (i : ℕ) → i + 1 ≡ length cs → slice_index_or cs i last ≡ last → last.number.0 < k
+    → All (λ (c : Constraint). c.number.0 < k) cs
+above_last cs last k rise i is_last is below j d j_in =
+    elim (cases_lt j i) [
+      | inl early ↦ (
+          let less = rise j i d early (omega (arith, is_last)) in
+          let same : slice_index_or cs i d ≡ last = get_or_default cs i d last (omega (arith, is_last)) ∙ is in
+          let level : (slice_index_or cs i d).number.0 ≡ last.number.0 = ap (λ (c : Constraint). c.number.0) same in
+          omega (arith, less, level, below))
+      | inr late ↦ (
+          let at : j ≡ i = omega (arith, late, j_in, is_last) in
+          let same : slice_index_or cs j d ≡ last = ap (λ n. slice_index_or cs n d) at ∙ get_or_default cs i d last (omega (arith, is_last)) ∙ is in
+          let level : (slice_index_or cs j d).number.0 ≡ last.number.0 = ap (λ (c : Constraint). c.number.0) same in
+          omega (arith, level, below))
+    ]
 
 abbrev number_of : Constraint → ℕ
 number_of c = c.number.0
@@ -75,7 +94,8 @@ completion_reads bytes s t reads done =
     let same = readable_numbered bytes s reads in
     let of_constraints : CountOn number_of 1 s.constraints = counted_constraints s 1 s.constraints (ap (λ (z : Sketch). z.constraints) same) in
     let of_elements : CountOn (λ (x : Element). x.number.0) 1 s.elements = counted_elements 1 s.elements (ap (λ (z : Sketch). z.elements) same) in
-    let last : last_number s.constraints ≡ length s.constraints = counted_last 0 s.constraints of_constraints in
+    let counted = counted_last 0 s.constraints of_constraints in
+    let last : last_number s.constraints ≡ length s.constraints = omega (arith, counted) in
     let behind : CountOn number_of (1 + length s.constraints) done.added =
     subst (λ (m : ℕ). CountOn number_of m done.added) (omega (arith, last)) (counted_behind (last_number s.constraints) done.added done.numbered) in
     let constraints : CountOn number_of 1 t.constraints =

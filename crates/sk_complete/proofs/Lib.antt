@@ -3,5 +3,4 @@ pub mod Hopeless
 pub mod OverAlready
 pub mod Extending
 pub mod Verdicts
-pub mod Adopting
 pub mod CountingOn

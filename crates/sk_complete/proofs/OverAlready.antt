@@ -1,5 +1,5 @@
 -- What is over isn't completed: with more constraints its parts hold as much, and a well sketch is sparse.
-use Rattle.std.proofs.Common.{◌≡◌, ◌≢◌, inl, inr, ℕ, ◌+◌, ◌*◌, ◌-◌, ◌≤◌, ◌<◌, Bool, true, false, List, [], ◌∷◌, ◌++◌, length, refl, ap, sym, subst, ◌∙◌, arith}
+use Rattle.std.proofs.Common.{◌≡◌, ◌≢◌, inl, inr, ℕ, ◌+◌, ◌*◌, ◌≤◌, ◌<◌, Bool, true, false, List, [], ◌∷◌, ◌++◌, length, refl, ap, sym, subst, ◌∙◌, arith}
 use Rattle.std.specs.Prelude.{Contains, AllPairs, map, nat_lt, if◌then◌else◌}
 use Rattle.std.specs.List.{list_any}
 use Rattle.std.proofs.lemmas.Bool.{or_cases}
@@ -15,16 +15,15 @@ use Rattle.sk_base.proofs.Distinct.{no_longer}
 use Rattle.sk_base.proofs.Members.{contains_none, contains_head, contains_later, contains_one, contains_cases}
 use Rattle.sk_base.proofs.Numbers.{found_elem}
 use Rattle.sk_base.proofs.Pairs.{pairs_none, pairs_cons}
-use Rattle.sk_family.specs.Body.{Body, Start, starts}
+use Rattle.sk_family.specs.Body.{Start, starts}
 use Rattle.sk_graph.specs.SketchGraph.{graph_of}
 use Rattle.sk_graph.proofs.Soundness.{graph_is_sound}
-use Rattle.sk_rules.specs.Excess.{weight, weight_where, held, is_inside}
+use Rattle.sk_rules.specs.Excess.{weight_where, held, is_inside}
 use Rattle.sk_rules.proofs.Counting.{reached_tight}
 use Rattle.sk_rules.proofs.SummedWeights.{weighs_one, weighs_more, none_weigh, found_inside}
 use Rattle.sk_rules.proofs.WeighedGraphs.{sound_two_each}
 use Rattle.sk_verdict.specs.declared.Judgement.{Judgement}
 use Rattle.sk_verdict.specs.declared.Part.{Part}
-use Rattle.sk_verdict.specs.declared.Verdict.{Verdict}
 use Rattle.sk_verdict.specs.declared.Verdict.TheVariants.{Well, Over, Several}
 use Rattle.sk_verdict.specs.Judging.{IsOver, some_over}
 use Rattle.sk_verdict.specs.Parts.{AreOfOnePart, part_with}
@@ -32,7 +31,7 @@ use Rattle.sk_verdict.proofs.Normals.{has_two}
 use Rattle.sk_close_by_order.specs.declared.Order.TheVariants.{First}
 use Rattle.sk_plan.specs.ConstraintStarts.{constraint_start}
 use Rattle.sk_plan.specs.Judged.{IsTheJudgement, IsWell}
-use Rattle.sk_plan.specs.Sparse.{weight_within, weight_among}
+use Rattle.sk_plan.specs.Sparse.{weight_within}
 use Rattle.sk_plan.proofs.Counts.{count_all, whole_weight}
 use Rattle.sk_plan.proofs.PlanTells.{plan_sparse}
 use Rattle.sk_plan.proofs.SomePlans.{some_plan_by}

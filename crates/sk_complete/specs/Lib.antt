@@ -1,5 +1,4 @@
 pub mod Weights
 pub mod Begun
 pub mod Completions
-pub mod Drafts
 pub mod CompletionText

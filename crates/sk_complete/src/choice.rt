@@ -2,9 +2,9 @@
 ghost use Rattle.std.specs.Prelude.{IfSome};
 ghost use Rattle.sk_base.specs.SoundSketch.{IsSoundSketch, IsSoundShape};
 
-use crate::lines::Groups;
 use sk_base::{Elem, Shape, Sketch};
 use sk_drawn::{drawn_size, firm_between, reach_of, shape_in};
+use sk_rigid::Rigid;
 
 /// An element of the base, with what it lacks to the highest grade and how far it is drawn from the one outside: the
 /// least is the best.
@@ -51,38 +51,42 @@ impl Choices {
         }
     }
 
-    /// Looks through elements of the base for u, an element of a part that shares w with the base.
-    pub fn look_through(&mut self, s: &Sketch, w: Elem, u: Elem, base: &[Elem])
+    /// Whether something tells one of the choices for u by now.
+    pub fn is_told(&self, wide: &Rigid, u: Elem) -> bool {
+        is_told(wide, u, self.firm) || is_told(wide, u, self.thin) || is_told(wide, u, self.flat)
+    }
+
+    /// Looks through elements of the base for u, an element of a part that shares w with the base, but for what is told.
+    pub fn look_through(&mut self, s: &Sketch, wide: &Rigid, w: Elem, u: Elem, base: &[Elem])
         requires { IsSoundSketch s.now }
     {
         if let Some(shared) = Drawn::of(s, w) {
             if let Some(outer) = Drawn::of(s, u) {
-                self.look_at_all(s, &shared, &outer, base);
+                self.look_at_all(s, wide, &shared, &outer, base);
             }
         }
     }
 
-    fn look_at_all(&mut self, s: &Sketch, w: &Drawn, u: &Drawn, base: &[Elem])
+    fn look_at_all(&mut self, s: &Sketch, wide: &Rigid, w: &Drawn, u: &Drawn, base: &[Elem])
         requires sound { IsSoundSketch s.now }
         requires w { IsSoundShape w.now.shape }
         requires u { IsSoundShape u.now.shape }
     {
         for elem in base {
-            if let Some(v) = Drawn::of(s, *elem) {
-                self.look_at(w, u, &v);
+            if !wide.tells(u.elem, *elem) {
+                if let Some(v) = Drawn::of(s, *elem) {
+                    self.look_at(w, u, &v);
+                }
             }
         }
     }
 
-    /// Takes v where it is better than what was found so far, unless it is the shared element, or all three are lines.
+    /// Takes v where it is better than what was found so far.
     fn look_at(&mut self, w: &Drawn, u: &Drawn, v: &Drawn)
         requires w { IsSoundShape w.now.shape }
         requires u { IsSoundShape u.now.shape }
         requires v { IsSoundShape v.now.shape }
     {
-        if v.elem.0 == w.elem.0 || (w.shape.is_line() && are_lines(u, v)) {
-            return;
-        }
         let firm = firm_between(&w.shape, &u.shape, &v.shape);
         let grade = firm.grade();
         let lack = 16u128.saturating_sub(grade);
@@ -96,17 +100,23 @@ impl Choices {
     }
 }
 
-/// The nearest element of the base for a link of u, which no part joins to it.
-pub(crate) fn link_of(s: &Sketch, classes: &Groups, u: Elem, base: &[Elem]) -> Option<Choice>
+fn is_told(wide: &Rigid, u: Elem, choice: Option<Choice>) -> bool {
+    match choice {
+        Some(choice) => wide.tells(u, choice.elem),
+        None => false,
+    }
+}
+
+/// The nearest element of the base for a link of u, which no part joins to it, but for what is told.
+pub(crate) fn link_of(s: &Sketch, wide: &Rigid, u: Elem, base: &[Elem]) -> Option<Choice>
     requires { IsSoundSketch s.now }
 {
+    let outer = Drawn::of(s, u)?;
     let mut best = None;
-    if let Some(outer) = Drawn::of(s, u) {
-        for elem in base {
+    for elem in base {
+        if !wide.tells(u, *elem) {
             if let Some(v) = Drawn::of(s, *elem) {
-                if !are_lines(&outer, &v) || !classes.joins(outer.elem, v.elem) {
-                    best = better(best, 0, &outer, &v);
-                }
+                best = better(best, 0, &outer, &v);
             }
         }
     }
@@ -145,10 +155,6 @@ fn is_beyond(best: Option<Choice>, lack: u128, reach: u128) -> bool {
         }
         None => false,
     }
-}
-
-fn are_lines(u: &Drawn, v: &Drawn) -> bool {
-    u.shape.is_line() && v.shape.is_line()
 }
 
 /// The lesser one of the two.

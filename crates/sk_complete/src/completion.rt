@@ -6,13 +6,13 @@ ghost use Rattle.sk_graph.specs.SketchGraph.{graph_of};
 ghost use Rattle.sk_plan.specs.Judged.{IsTheJudgement, IsWell};
 ghost use Rattle.sk_complete.specs.Completions.{Completes, HasLinesAlone, HasVerdict, IsCompletionOf};
 
-use crate::draft::{Draft, copy_sketch};
-use crate::hindrance::{due_for, hindrance, weight_of};
-use crate::lines::{Groups, lines_of};
+use crate::draft::copy_sketch;
+use crate::hindrance::{due_for, has_ring, hindrance, weight_of};
 use crate::proposal::{bases_of, propose};
-use sk_base::{Graph, NoMemory, Sketch};
+use sk_base::{NoMemory, Sketch};
 use sk_graph::reduce;
 use sk_plan::judgement_of;
+use sk_triangles::lines_of;
 use sk_verdict::{Judgement, Part, Verdict};
 use std::alloc::Global;
 
@@ -69,15 +69,14 @@ fn completed(alloc: Global, s: &Sketch, judgement: &Judgement) -> Result<Complet
     ensures lines { IfOk result (λ c. (c ≡ Completion.Without Reason.Lines) ↔ HasLinesAlone s.now) }
 {
     let graph = reduce(alloc, s)?;
-    let lines = lines_of(alloc, s)?;
-    let draft = Draft::of(alloc, s, &graph)?;
-    let classes = Groups::of_lines(alloc, lines.as_slice(), draft.family.clusters())?;
+    let lines = lines_of(alloc, graph.nodes.as_slice())?;
+    let parts = judgement.parts.as_slice();
+    let is_ring = has_ring(alloc, lines.as_slice(), parts)?;
     let missing = due_for(s).saturating_sub(weight_of(s.constraints.as_slice()));
-    if let Some(reason) = hindrance(s, &classes, missing) {
+    if let Some(reason) = hindrance(s, is_ring, missing) {
         return Ok(Completion::Without(reason));
     }
-    let parts = judgement.parts.as_slice();
-    match first_completed(alloc, s, &graph, lines.as_slice(), parts, missing)? {
+    match first_completed(alloc, s, parts, lines.as_slice(), missing)? {
         Some(whole) => Ok(Completion::Done(whole)),
         None => Ok(Completion::Without(Reason::Stuck)),
     }
@@ -87,21 +86,19 @@ fn completed(alloc: Global, s: &Sketch, judgement: &Judgement) -> Result<Complet
 fn first_completed(
     alloc: Global,
     s: &Sketch,
-    graph: &Graph,
-    lines: &[bool],
     parts: &[Part],
+    lines: &[bool],
     missing: usize,
 ) -> Result<Option<Sketch>, NoMemory>
     requires sound { IsSoundSketch s.now }
     requires some { 0 < length s.now.elements }
-    requires graph { graph.now ≡ graph_of s.now }
     ensures { IfOk result (λ found. IfSome found (Completes s.now)) }
 {
     let bases = bases_of(alloc, s, parts)?;
     for base in bases.as_slice() {
         if let Some(part) = parts.get(base.place) {
             let first = part.elements.as_slice();
-            let t = propose(alloc, s, graph, lines, first, missing)?;
+            let t = propose(alloc, s, parts, lines, first, missing)?;
             if is_well(alloc, &t)? {
                 return Ok(Some(t));
             }

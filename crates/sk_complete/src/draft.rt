@@ -1,19 +1,14 @@
 // A sketch that grows.
-ghost use Rattle.std.specs.Prelude.{◌≡◌, ◌+◌, ◌<◌, ◌≤◌, All, IfOk, IfSome, OnOk, length};
+ghost use Rattle.std.specs.Prelude.{◌≡◌, ◌+◌, ◌<◌, All, IfOk, IfSome, OnOk, length};
 ghost use Rattle.sk_base.specs.declared.Constraint.{Constraint as TheConstraint};
 ghost use Rattle.sk_base.specs.Rising.{IsRising};
 ghost use Rattle.sk_base.specs.SoundSketch.{IsSoundSketch};
-ghost use Rattle.sk_family.specs.Body.{edge_start};
-ghost use Rattle.sk_family.specs.Starts.{IsFree};
-ghost use Rattle.sk_graph.specs.SketchGraph.{graph_of};
-ghost use Rattle.sk_complete.specs.Begun.{last_number};
-ghost use Rattle.sk_complete.specs.Drafts.{IsDraftOf, GrowsBy};
+ghost use Rattle.sk_complete.specs.Begun.{Extends, last_number};
 
-use sk_base::{ConId, Constraint, Edge, Elem, Graph, List, NoMemory, Sketch, copy_constraint};
-use sk_close_any_order::close_in_any_order;
+use sk_base::{ConId, Constraint, Elem, List, NoMemory, Sketch, copy_constraint};
 use sk_drawn::drawn_value;
-use sk_family::{Family, initial};
-use sk_graph::edge;
+use sk_rigid::Rigid;
+use sk_verdict::Part;
 use std::alloc::Global;
 
 /// The same sketch once more.
@@ -39,40 +34,37 @@ fn copy_constraints(alloc: Global, constraints: &[Constraint]) -> Result<List<Co
     Ok(copy)
 }
 
-/// A sketch that grows by drawn constraints, with its closed family.
+/// A sketch that grows by drawn constraints, with what is rigid in it, without and with angles followed along lines.
 #[derive(Drop)]
 pub(crate) struct Draft {
     pub sketch: Sketch,
-    pub family: Family,
+    pub rigid: Rigid,
+    pub wide: Rigid,
 }
 
 impl Draft {
-    /// The sketch as it is.
-    pub fn of(alloc: Global, s: &Sketch, graph: &Graph) -> Result<Draft, NoMemory>
-        requires sound { IsSoundSketch s.now }
-        requires graph { graph.now ≡ graph_of s.now }
-        ensures { IfOk result (λ draft. IsDraftOf s.now draft.sketch draft.family) }
+    /// The sketch as it is, which has these parts.
+    pub fn of(alloc: Global, s: &Sketch, parts: &[Part], lines: &[bool]) -> Result<Draft, NoMemory>
+        requires { IsSoundSketch s.now }
+        ensures { IfOk result (λ draft. Extends s.now draft.sketch) }
     {
         let sketch = copy_sketch(alloc, s)?;
-        let mut family = initial(alloc, graph)?;
-        close_in_any_order(alloc, &mut family, graph)?;
-        Ok(Draft { sketch, family })
+        let rigid = rigid_of(alloc, parts, lines)?;
+        let mut wide = rigid_of(alloc, parts, lines)?;
+        wide.follow_angles()?;
+        Ok(Draft {
+            sketch,
+            rigid,
+            wide,
+        })
     }
 
-    /// Adds what is drawn between the two elements, and closes the family. Where nothing can be said of them, or there are
-    /// as many constraints as may be, the draft stays as it is, and the answer is false.
-    pub fn accept(
-        &mut self,
-        alloc: Global,
-        s: &Sketch,
-        graph: &Graph,
-        u: Elem,
-        v: Elem,
-    ) -> Result<bool, NoMemory>
+    /// Adds what is drawn between the two elements. Where nothing can be said of them, or there are as many constraints as may
+    /// be, the draft stays as it is, and the answer is false.
+    pub fn accept(&mut self, s: &Sketch, u: Elem, v: Elem) -> Result<bool, NoMemory>
         requires sound { IsSoundSketch s.now }
-        requires graph { graph.now ≡ graph_of s.now }
-        requires draft { IsDraftOf s.now self.old.sketch self.old.family }
-        ensures { OnOk result (IsDraftOf s.now self.new.sketch self.new.family) }
+        requires draft { Extends s.now self.old.sketch }
+        ensures { OnOk result (Extends s.now self.new.sketch) }
     {
         let Some(rule) = drawn_value(s, u, v) else {
             return Ok(false);
@@ -80,25 +72,22 @@ impl Draft {
         let Some(number) = next_number(self.sketch.constraints.as_slice()) else {
             return Ok(false);
         };
-        let constraint = Constraint { number, rule };
-        let Some(edge) = edge(s, &constraint) else {
-            return Ok(false);
-        };
-        grow(alloc, &mut self.family, graph, &edge)?;
-        self.sketch.constraints.push(constraint)?;
+        self.sketch.constraints.push(Constraint { number, rule })?;
+        self.rigid.add(u, v)?;
+        self.wide.add(u, v)?;
         Ok(true)
     }
 }
 
-/// Adds the edge's starting cluster, and closes the family again.
-fn grow(alloc: Global, family: &mut Family, graph: &Graph, edge: &Edge) -> Result<(), NoMemory>
-    requires free { IsFree family.old edge.now.id }
-    requires room { family.old.next_step + length family.old.live ≤ 4001 }
-    ensures { OnOk result (GrowsBy graph.now (edge_start edge.now) family.old family.new) }
-{
-    family.adopt(edge)?;
-    close_in_any_order(alloc, family, graph)?;
-    Ok(())
+/// What is rigid in a sketch that has these parts.
+fn rigid_of(alloc: Global, parts: &[Part], lines: &[bool]) -> Result<Rigid, NoMemory> {
+    let mut rigid = Rigid::new(alloc, lines)?;
+    for part in parts {
+        if part.elements.len() > 1 {
+            rigid.put(part.elements.as_slice())?;
+        }
+    }
+    Ok(rigid)
 }
 
 /// The number behind the last constraint's. None where there are as many as may be, or none is left.

@@ -8,11 +8,14 @@ ghost use Rattle.sk_complete.specs.Weights.{constraint_weight, weight_together, 
 ghost use Rattle.sk_complete.specs.Completions.{HasLinesAlone, Tells};
 
 use crate::completion::Reason;
-use crate::lines::Groups;
-use sk_base::{Constraint, Element, Rule, Sketch};
+use sk_base::{Constraint, Element, NoMemory, Rule, Sketch};
+use sk_rigid::Groups;
+use sk_verdict::Part;
+use std::alloc::Global;
 
-/// Why no completion is sought, if there is a reason. The sketch isn't over, and lacks so much weight.
-pub(crate) fn hindrance(s: &Sketch, classes: &Groups, missing: usize) -> Option<Reason>
+/// Why no completion is sought, if there is a reason. The sketch isn't over, lacks so much weight, and its parts tell the
+/// angles of lines in a ring or not.
+pub(crate) fn hindrance(s: &Sketch, is_ring: bool, missing: usize) -> Option<Reason>
     requires { missing ≡ due_for s.now - weight_together s.now.constraints }
     ensures not_over { result ≢ Some Reason.Over }
     ensures lines { (result ≡ Some Reason.Lines) ↔ HasLinesAlone s.now }
@@ -20,7 +23,7 @@ pub(crate) fn hindrance(s: &Sketch, classes: &Groups, missing: usize) -> Option<
 {
     if has_lines_alone(s) {
         Some(Reason::Lines)
-    } else if classes.is_circle {
+    } else if is_ring {
         Some(Reason::Angles)
     } else if missing == 0 {
         Some(Reason::Enough)
@@ -40,6 +43,17 @@ fn are_lines(elements: &[Element]) -> bool
     ensures { IsTrue result ↔ All (λ (e : TheElement). IsLine e.shape) elements.now }
 {
     elements.iter().all(|element| element.shape.is_line())
+}
+
+/// Whether two parts tell the angle of the same two lines, or more parts do in a ring.
+pub(crate) fn has_ring(alloc: Global, lines: &[bool], parts: &[Part]) -> Result<bool, NoMemory> {
+    let mut classes = Groups::none(alloc);
+    for part in parts {
+        if classes.join_lines(lines, part.elements.as_slice())? {
+            return Ok(true);
+        }
+    }
+    Ok(false)
 }
 
 /// What is due for all elements.

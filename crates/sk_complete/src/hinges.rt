@@ -1,76 +1,46 @@
-// Which elements a part joins to the base.
-use crate::lines::Groups;
+// Which elements a body joins to the base.
 use sk_base::{Elem, NoMemory};
-use sk_family::Cluster;
+use sk_rigid::Bodies;
 use sk_triangles::is_marked;
 use std::alloc::Global;
 
-/// An element of a part that shares one element with the base, that element, and the class of the part's lines.
-#[derive(Clone, Copy, PartialEq, Eq, PartialOrd, Ord)]
-pub(crate) struct Hinge {
-    pub outer: Elem,
-    pub shared: Elem,
-    pub class: Option<u32>,
-}
-
-/// The hinges of all parts, by the element outside, and then by the shared one. The base's elements are marked.
+/// By key of a body the element that it shares with the base, whose elements are marked. No body but the base's own shares
+/// two.
 pub(crate) fn hinges_of(
     alloc: Global,
-    lines: &[bool],
-    classes: &Groups,
-    clusters: &[Cluster],
+    bodies: &Bodies,
     inside: &[bool],
-) -> Result<Vec<Hinge>, NoMemory> {
+) -> Result<Vec<Option<Elem>>, NoMemory> {
     let mut hinges = Vec::new(alloc);
-    for cluster in clusters {
-        let elements = cluster.elements.as_slice();
-        if let Some(shared) = only_inside(elements, inside) {
-            let class = class_of(lines, classes, elements);
-            push_hinges(&mut hinges, elements, shared, class)?;
-        }
+    for key in 0..bodies.len() {
+        hinges.push(first_inside(bodies.elements(key), inside))?;
     }
-    hinges.sort_unstable();
     Ok(hinges)
 }
 
-fn push_hinges(
-    hinges: &mut Vec<Hinge>,
-    elements: &[Elem],
-    shared: Elem,
-    class: Option<u32>,
-) -> Result<(), NoMemory> {
-    for elem in elements {
-        if elem.0 != shared.0 {
-            hinges.push(Hinge {
-                outer: *elem,
-                shared,
-                class,
-            })?;
-        }
-    }
-    Ok(())
-}
-
-/// The only one of the elements that is marked.
-fn only_inside(elements: &[Elem], inside: &[bool]) -> Option<Elem> {
-    let mut only = None;
+fn first_inside(elements: &[Elem], inside: &[bool]) -> Option<Elem> {
     for elem in elements {
         if is_marked(inside, *elem) {
-            if only.is_some() {
-                return None;
-            }
-            only = Some(*elem);
-        }
-    }
-    only
-}
-
-/// The class of the first line among the elements.
-pub(crate) fn class_of(lines: &[bool], classes: &Groups, elements: &[Elem]) -> Option<u32> {
-    for elem in elements {
-        if is_marked(lines, *elem) {
-            return Some(classes.first(*elem));
+            return Some(*elem);
         }
     }
     None
+}
+
+/// The least element of the base that a body with this element outside shares with it.
+pub(crate) fn hinge_at(bodies: &Bodies, hinges: &[Option<Elem>], outer: Elem) -> Option<Elem> {
+    let mut least = None;
+    for key in bodies.holders(outer) {
+        if let Some(Some(shared)) = hinges.get(*key) {
+            least = Some(lesser(least, *shared));
+        }
+    }
+    least
+}
+
+fn lesser(least: Option<Elem>, elem: Elem) -> Elem {
+    match least {
+        Some(other) if other.0 < elem.0 => other,
+        _ => elem,
+    }
 }

@@ -7,7 +7,6 @@ mod draft;
 mod hindrance;
 mod hinges;
 mod law;
-mod lines;
 mod pair;
 mod proposal;
 mod text;

@@ -2,10 +2,9 @@
 ghost use Rattle.sk_base.specs.SoundSketch.{IsSoundSketch};
 
 use crate::choice::{Choice, Choices, link_of};
-use crate::hinges::{Hinge, class_of, hinges_of};
-use crate::lines::Groups;
+use crate::hinges::{hinge_at, hinges_of};
 use sk_base::{Elem, NoMemory, Sketch};
-use sk_family::Cluster;
+use sk_rigid::{Bodies, Groups, Rigid};
 use sk_triangles::{is_marked, mark};
 use std::alloc::Global;
 
@@ -51,9 +50,27 @@ impl Base {
         }
     }
 
-    /// Its elements, those that came first in front.
-    pub fn elements(&self) -> &[Elem] {
-        self.elements.as_slice()
+    /// Takes in the body that its elements have become part of, if there is one.
+    pub fn take_in_part(&mut self, bodies: &Bodies) -> Result<(), NoMemory> {
+        match self.part(bodies) {
+            Some(key) => self.take_in(bodies.elements(key)),
+            None => Ok(()),
+        }
+    }
+
+    /// The key of the body that has the first two of its elements. No other has both.
+    fn part(&self, bodies: &Bodies) -> Option<usize> {
+        let first = self.elements.first()?;
+        for key in bodies.holders(*first) {
+            if self
+                .elements
+                .get(1)
+                .is_none_or(|second| bodies.holds(*key, *second))
+            {
+                return Some(*key);
+            }
+        }
+        None
     }
 
     /// Takes in those of the elements that it doesn't have.
@@ -69,33 +86,30 @@ impl Base {
 
     /// The next pair, if there is one: an element of a part that shares one element with the base, where a constraint holds
     /// it firmly; else one that no chain of parts joins to the base; else one that is held thinly; else one that a chain of
-    /// parts joins; else one that is held flatly.
+    /// parts joins; else one that is held flatly. No pair is told by the wide bodies.
     pub fn next_pair(
         &mut self,
         alloc: Global,
         s: &Sketch,
-        lines: &[bool],
-        clusters: &[Cluster],
+        bodies: &Bodies,
+        wide: &Rigid,
     ) -> Result<Option<Pair>, NoMemory>
         requires { IsSoundSketch s.now }
     {
-        let classes = Groups::of_lines(alloc, lines, clusters)?;
-        let hinges = hinges_of(alloc, lines, &classes, clusters, self.marks.as_slice())?;
-        let class = class_of(lines, &classes, self.elements.as_slice());
-        let hinged = self.first_hinged(s, lines, class, hinges.as_slice())?;
+        let hinges = hinges_of(alloc, bodies, self.marks.as_slice())?;
+        let hinged = self.first_hinged(s, bodies, wide, hinges.as_slice())?;
         if hinged.firm.is_some() {
             return Ok(hinged.firm);
         }
-        let mut known = Vec::from_slice(alloc, self.marks.as_slice())?;
-        mark_outer(&mut known, hinges.as_slice())?;
-        let chains = Groups::of_all(alloc, clusters)?;
+        let known = self.known(alloc, s, bodies, hinges.as_slice())?;
+        let chains = Groups::of_bodies(alloc, bodies)?;
         let base = self.elements.as_slice();
-        let far = first_link(s, &classes, &chains, known.as_slice(), base, false);
+        let far = first_link(s, wide, &chains, known.as_slice(), base, false);
         let best = far.or(hinged.thin);
         if best.is_some() {
             return Ok(best);
         }
-        let near = first_link(s, &classes, &chains, known.as_slice(), base, true);
+        let near = first_link(s, wide, &chains, known.as_slice(), base, true);
         Ok(near.or(hinged.flat))
     }
 
@@ -103,9 +117,9 @@ impl Base {
     fn first_hinged(
         &mut self,
         s: &Sketch,
-        lines: &[bool],
-        class: Option<u32>,
-        hinges: &[Hinge],
+        bodies: &Bodies,
+        wide: &Rigid,
+        hinges: &[Option<Elem>],
     ) -> Result<Hinged, NoMemory>
         requires { IsSoundSketch s.now }
     {
@@ -114,34 +128,65 @@ impl Base {
             thin: None,
             flat: None,
         };
-        let mut last = None;
-        for hinge in hinges {
-            if last != Some(hinge.outer) && !is_stiff(lines, class, hinge) {
-                let choices = self.choices_at(s, hinge)?;
-                found = found_with(found, hinge.outer, choices);
+        for element in s.elements.as_slice() {
+            let outer = element.number;
+            if let Some(shared) = self.hinge(bodies, hinges, outer) {
+                let choices = self.choices_at(s, wide, outer, shared)?;
+                found = found_with(found, outer, choices);
                 if found.firm.is_some() {
                     return Ok(found);
                 }
             }
-            last = Some(hinge.outer);
         }
         Ok(found)
     }
 
-    /// The best choices for the element of the hinge, where only what wasn't seen yet is looked at.
-    fn choices_at(&mut self, s: &Sketch, hinge: &Hinge) -> Result<Choices, NoMemory>
+    /// The element at which this one, outside the base, is hinged, if it is.
+    fn hinge(&self, bodies: &Bodies, hinges: &[Option<Elem>], outer: Elem) -> Option<Elem> {
+        if is_marked(self.marks.as_slice(), outer) {
+            None
+        } else {
+            hinge_at(bodies, hinges, outer)
+        }
+    }
+
+    /// A mark at the number of each element that is in the base or hinged.
+    fn known(
+        &self,
+        alloc: Global,
+        s: &Sketch,
+        bodies: &Bodies,
+        hinges: &[Option<Elem>],
+    ) -> Result<Vec<bool>, NoMemory> {
+        let mut known = Vec::from_slice(alloc, self.marks.as_slice())?;
+        for element in s.elements.as_slice() {
+            if self.hinge(bodies, hinges, element.number).is_some() {
+                mark(&mut known, element.number)?;
+            }
+        }
+        Ok(known)
+    }
+
+    /// The best choices for the hinged element, where only what wasn't seen yet is looked at.
+    fn choices_at(
+        &mut self,
+        s: &Sketch,
+        wide: &Rigid,
+        outer: Elem,
+        shared: Elem,
+    ) -> Result<Choices, NoMemory>
         requires { IsSoundSketch s.now }
     {
-        let seen = self.seen_at(hinge);
+        let seen = self.seen_at(wide, outer, shared);
         let mut choices = seen.choices;
         if let Some(others) = self.elements.as_slice().get(seen.count..) {
-            choices.look_through(s, hinge.shared, hinge.outer, others);
+            choices.look_through(s, wide, shared, outer, others);
         }
         let count = self.elements.len();
         self.see(
-            hinge.outer,
+            outer,
             Seen {
-                shared: hinge.shared,
+                shared,
                 count,
                 choices,
             },
@@ -149,11 +194,11 @@ impl Base {
         Ok(choices)
     }
 
-    /// What was seen of the element of the hinge beside this hinge.
-    fn seen_at(&self, hinge: &Hinge) -> Seen {
-        match self.seen.get(hinge.outer.0 as usize) {
-            Some(seen) if seen.shared == hinge.shared => *seen,
-            _ => unseen(hinge.shared),
+    /// What was seen of the element beside this hinge, as long as none of its choices is told.
+    fn seen_at(&self, wide: &Rigid, outer: Elem, shared: Elem) -> Seen {
+        match self.seen.get(outer.0 as usize) {
+            Some(seen) if seen.shared == shared && !seen.choices.is_told(wide, outer) => *seen,
+            _ => unseen(shared),
         }
     }
 
@@ -176,14 +221,6 @@ fn unseen(shared: Elem) -> Seen {
     }
 }
 
-/// Marks the elements outside the base that hinges have.
-fn mark_outer(known: &mut Vec<bool>, hinges: &[Hinge]) -> Result<(), NoMemory> {
-    for hinge in hinges {
-        mark(known, hinge.outer)?;
-    }
-    Ok(())
-}
-
 /// What was found before, and what these choices have.
 fn found_with(found: Hinged, outer: Elem, choices: Choices) -> Hinged {
     Hinged {
@@ -203,16 +240,11 @@ fn pair_of(outer: Elem, choice: Option<Choice>) -> Option<Pair> {
     }
 }
 
-/// Whether the part can't turn about the shared point, since the angles of its lines with those of the base are known.
-fn is_stiff(lines: &[bool], class: Option<u32>, hinge: &Hinge) -> bool {
-    !is_marked(lines, hinge.shared) && class.is_some() && hinge.class == class
-}
-
 /// The first link of the elements that aren't known, of those that chains of parts join to the base, or of those that
 /// none does.
 fn first_link(
     s: &Sketch,
-    classes: &Groups,
+    wide: &Rigid,
     chains: &Groups,
     known: &[bool],
     base: &[Elem],
@@ -224,7 +256,7 @@ fn first_link(
     for element in s.elements.as_slice() {
         let outer = element.number;
         if !is_marked(known, outer) && chains.joins(outer, *first) == is_near {
-            if let Some(choice) = link_of(s, classes, outer, base) {
+            if let Some(choice) = link_of(s, wide, outer, base) {
                 return Some(Pair {
                     outer,
                     inner: choice.elem,

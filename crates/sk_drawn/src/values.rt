@@ -18,7 +18,7 @@ const MOST: u64 = 1_000_000_000;
 
 /// The rule that says what is drawn between two elements: of a point or centre and a line it names the line behind, else
 /// the lesser number first. A distance is in micrometres. None exactly where no sound rule says it: they are one, are
-/// drawn at one place or parallel, or are further apart than a length may be.
+/// drawn at one place or further apart than a length may be, or are lines so nearly parallel that the nearest ratio is 0.
 pub fn drawn_value(s: &Sketch, u: Elem, v: Elem) -> Option<Rule>
     requires { IsSoundSketch s.now }
     ensures some { IfSome result (IsDrawnRule s.now u v) }

@@ -1,6 +1,5 @@
-use Rattle.std.proofs.Common.{◌-◌, ◌<◌, length, sym, ap, arith}
-use Rattle.sk_complete.proofs.Adopting.{above_last}
-use Rattle.sk_complete.proofs.CountingOn.{last_is}
+use Rattle.std.proofs.Common.{◌-◌, ◌<◌, length, sym, arith}
+use Rattle.sk_complete.proofs.CountingOn.{above_last, last_is}
 use Rattle.sk_complete.proofs.draft.next_number.Goals as goal
 
 pub returns-in_ok-number-in-Some-clause-above : goal.returns-in_ok-number-in-Some-clause-above

@@ -1,0 +1,5 @@
+use Rattle.std.proofs.Common.{◌+◌, ◌-◌, vec_len}
+use Rattle.sk_rigid.proofs.rigid.Sights.see.Given as goal
+
+abbrev pub decreases-loop-self : goal.decreases-loop-self
+decreases-loop-self l = l.class + 1 - vec_len l.self.last
