@@ -11,9 +11,10 @@ from pertxogai.language import ClusterName, Constraint, Refusal, Sketch
 from pertxogai.program import Answer, Solver, Status
 from pertxogai.program.reports import (
     Cause, CheckReport, ConstraintFault, ExcessReport, Fault, FrameFault, NotAReport, NumberFault,
-    PartsReport, Plan, RangeFault, Refused, Solved, Spare, TurnedFault, Verdict, read_answer,
-    read_check, read_excess, read_fault, read_parts, read_plan, read_refusal, read_solve,
-    read_spare)
+    PartsReport, Plan, RangeFault, Refused, Solved, Spare, TurnedFault, Verdict, WhyReport,
+    read_answer, read_check, read_excess, read_fault, read_parts, read_plan, read_refusal,
+    read_solve, read_spare, read_why)
+from pertxogai.program.reports.why import WORK
 
 
 class TextRefused(Exception):
@@ -40,8 +41,8 @@ class JudgedSketch:
     it is well; the spare constraints where it is over, and what is left out of each part that is,
     with how far that is off; and the parts, each by itself, where it isn't well. limit: within
     what each constraint has to hold, as the program was asked. tried: where a step fails, what
-    came of other choices of the steps beneath. Whether it is good is for `judging.good` to
-    say."""
+    came of other choices of the steps beneath. why: against which others each that is left out is
+    too many; None where it wasn't asked. Whether it is good is for `judging.good` to say."""
 
     name: str
     sketch: Sketch
@@ -54,6 +55,7 @@ class JudgedSketch:
     parts: PartsReport | None = None
     limit: Limit = Limit()
     tried: Tried | None = None
+    why: WhyReport | None = None
 
     def picture(self, as_drawn: bool = False) -> Any:
         """As `picture_of_judged` of `pertxogai.output`, which is to be called: this goes with the
@@ -85,7 +87,11 @@ def judge_sketch(
         return JudgedSketch(name, sketch, check, parts=parts, limit=limit)
     spare = read_spare(_written(name, "spare", text, asks))
     excess = read_excess(_written(name, "excess", text, asks, within))
-    return JudgedSketch(name, sketch, check, None, None, None, spare, excess, parts, limit)
+    why = None
+    if check.too_many() * check.constraints <= WORK:
+        why = read_why(_written(name, "why", text, asks))
+    return JudgedSketch(name, sketch, check, None, None, None, spare, excess, parts, limit,
+                        why=why)
 
 
 def _written(name: str, command: str, text: str, asks: Solver, *keys: str) -> str:

@@ -9,6 +9,7 @@ from pertxogai.judging.choices import Tried, beneath, tried
 from pertxogai.judging.departures import Departure, warnings
 from pertxogai.judging.faults import Failure, failure
 from pertxogai.judging.freedoms import Freedoms, Twice, Whole, freedoms
+from pertxogai.judging.groups import groups_of
 from pertxogai.judging.limits import check_fits
 from pertxogai.judging.measure.deviation import Deviation, Unit
 from pertxogai.judging.measure.limit import Limit
@@ -303,7 +304,12 @@ def weighed(judged: Judgement, program: Solver) -> Judgement:
     if judged.verdict is not Verdict.OVER:
         return judged if judged.solution is not None else replace(judged, unmet=unmet(drawing))
     question = Question(drawing, program, judged.limit)
-    return replace(judged, surplus=what_may_go(question, judged.asked), loose=loose(judged.names))
+    surplus = what_may_go(question, judged.asked)
+    if judged.asked.check is not None:
+        numbers = [each.number for each in surplus]
+        groups = groups_of(judged.names, program, numbers, judged.asked.check)
+        surplus = tuple(replace(each, others=groups.get(each.number, ())) for each in surplus)
+    return replace(judged, surplus=surplus, loose=loose(judged.names))
 
 
 __all__ = ["Judgement", "Surplus", "judge", "judge_at_once", "weighed", "with_choices",

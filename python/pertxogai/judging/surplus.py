@@ -53,6 +53,9 @@ class Surplus:
     off: Deviation | None
     then: Then | None = None
     limit: Limit = Limit()
+    others: tuple[str, ...] = ()
+    """Those that it follows from, as the program names them; none where it wasn't asked, or keeps
+    it."""
 
     def repeats(self) -> bool | None:
         """Whether it says the same as the others; None where that can't be told."""

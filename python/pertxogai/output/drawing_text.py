@@ -25,6 +25,8 @@ UNMET = Lack.OFF, Lack.UNMEASURED, Lack.NOT_PRINTED, Lack.MISSING, Lack.MIRRORED
 """What of a drawing that is placed is told to be unmet; all else has a line of its own."""
 MOST_ADVICE = 5
 """The most pairs of pieces for which it is told what to do."""
+FOLLOWS = {True: "repeats", False: "contradicts", None: "follows from"}
+"""How a dimension that may go stands to the others of its group."""
 
 
 def drawing_json(judged: JudgedDrawing) -> dict[str, object]:
@@ -253,6 +255,8 @@ def _surplus_lines(judgement: Judgement) -> Iterator[str]:
         off = "" if each.off is None else f": off by {amount_text(each.off)}"
         then = "" if each.then is None else f"; the rest is {each.then.value} without it"
         yield f"    {each.name}{off}{then}"
+        if each.others:
+            yield f"      {FOLLOWS[each.repeats()]}: {', '.join(each.others)}"
     yield from (f"  lacks a dimension all the same: {what} (by rank)" for what in judgement.loose)
 
 
@@ -296,7 +300,8 @@ def spare_json(each: Surplus) -> SpareJson:
     return {"number": each.number, "name": each.name, "repeats": each.repeats(),
             "off": each.off.amount if each.off is not None else None,
             "unit": each.off.unit.value if each.off is not None else None,
-            "rest": each.then.value if each.then is not None else None}
+            "rest": each.then.value if each.then is not None else None,
+            "follows_from": list(each.others)}
 
 
 def _places(drawing: Drawing, solution: Solution) -> dict[str, object]:

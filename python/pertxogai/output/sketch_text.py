@@ -1,7 +1,7 @@
 """What is told of a judged sketch: lines to read, and one object for JSON."""
 from __future__ import annotations
 
-from collections.abc import Iterator, Sequence
+from collections.abc import Iterator, Mapping, Sequence
 
 from pertxogai.judging.choices import tried_json, tried_lines
 from pertxogai.judging.good import reasons_json
@@ -25,8 +25,9 @@ def sketch_lines(judged: JudgedSketch) -> Iterator[str]:
     if judged.parts:
         yield from (f"  {part.text().strip()}" for part in check.parts)
     if judged.excess:
+        groups = _groups(judged)
         for over in judged.excess.parts:
-            yield from _over(over)
+            yield from _over(over, groups)
     if judged.spare:
         yield "  what to do: take one of these away, and ask again"
         yield from (f"    {it.text()}" for it in judged.spare)
@@ -52,10 +53,21 @@ def _faulted(judged: JudgedSketch) -> Iterator[str]:
         yield f"  what to do: {what_to_do(judged.fault, judged.tried)}"
 
 
-def _over(over: OverPart) -> Iterator[str]:
-    """What is left out of a part, from the last constraint on, and how far off each is then."""
+def _over(over: OverPart, groups: Mapping[int, tuple[int, ...]]) -> Iterator[str]:
+    """What is left out of a part, from the last constraint on, how far off each is then, and
+    against which others it is too many."""
     yield f"  left out of part {over.part.number}, {_rest(over)}:"
     yield from (f"    {line}" for line in over.text().splitlines()[1:])
+    for each in over.left_out:
+        if each.number in groups:
+            because = ", ".join(f"c{number}" for number in groups[each.number])
+            yield f"    c{each.number} follows from {because}"
+
+
+def _groups(judged: JudgedSketch) -> dict[int, tuple[int, ...]]:
+    """The constraints that each that is left out follows from, by number."""
+    parts = judged.why.parts if judged.why else ()
+    return {each.number: each.because for part in parts for each in part.left_out}
 
 
 def _rest(over: OverPart) -> str:
@@ -81,7 +93,8 @@ def sketch_json(judged: JudgedSketch) -> dict[str, object]:
         "left_out": [],
         "frozen": [],
         "spare": [{"number": it.number, "name": it.constraint.text()} for it in judged.spare],
-        "excess": [_excess(it) for it in judged.excess.parts] if judged.excess else [],
+        "excess": ([_excess(it, _groups(judged)) for it in judged.excess.parts]
+                   if judged.excess else []),
         "places": _places(solved.places) if solved else None,
         "length_tolerance_nm": solved.length_tolerance_nm if solved else None,
         "angle_tolerance_ppb": solved.angle_tolerance_ppb if solved else None,
@@ -111,11 +124,12 @@ def _part(part: Part) -> dict[str, object]:
     }
 
 
-def _excess(over: OverPart) -> dict[str, object]:
+def _excess(over: OverPart, groups: Mapping[int, tuple[int, ...]]) -> dict[str, object]:
     """What is left out of a part that is over."""
     return {
         "part": over.part.number,
-        "left_out": [_left_out(it) for it in over.left_out],
+        "left_out": [{**_left_out(it), "follows_from": list(groups.get(it.number, ()))}
+                     for it in over.left_out],
         "fault": over.fault.text().strip() if over.fault else None,
         "stays_over": over.stays_over(),
     }

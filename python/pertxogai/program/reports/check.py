@@ -63,6 +63,10 @@ class CheckReport:
         )
         return head + "".join(part.text() for part in self.parts)
 
+    def too_many(self) -> int:
+        """How many more constraints the parts that are over hold than they are due."""
+        return sum(part.held - part.due for part in self.parts if part.over)
+
 
 def read_check(text: str) -> CheckReport:
     """The report of `check`. Raises NotAReport."""

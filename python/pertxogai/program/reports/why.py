@@ -10,6 +10,8 @@ from pertxogai.program.reports.check import Part, take_any_part
 from pertxogai.program.reports.plan import take_constraint
 from pertxogai.program.reports.rows import COUNT, Rows, whole
 
+WORK = 40_000
+"""What `why` answers within a second or so: constraints times those of them that are too many."""
 _WHY = re.compile(f"why ({COUNT})")
 _FOLLOWS = re.compile(f"c({COUNT}) : (.*) follows from((?: c{COUNT})+)")
 

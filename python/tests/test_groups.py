@@ -1,0 +1,86 @@
+"""Against which others a dimension is too many, as the program's `why` names them."""
+from __future__ import annotations
+
+import json
+
+import pytest
+
+from pertxogai.commands import main
+from pertxogai.drawing import read_drawing
+from pertxogai.judging import judge
+from pertxogai.judging.groups import MOST, groups_of
+from pertxogai.judging.judgement import Judgement
+from pertxogai.output.drawing_text import JudgedDrawing, drawing_json, drawing_lines
+from pertxogai.program import Program
+from pertxogai.program.reports import Verdict
+
+TRIANGLE = ("point A 0 0\npoint B 4 0\npoint C 4 3\n"
+            "Base: distance A B 4\nSide: distance B C 3\nFirst: distance A C 5\n")
+BRACED = ("point A 0 0\npoint B 4 0\npoint C 4 3\npoint D 0 3\n"
+          "AB: distance A B 4\nAC: distance A C 5\nAD: distance A D 3\n"
+          "BC: distance B C 3\nBD: distance B D 5\nCD: distance C D 4.5\n")
+ROW = ("point A 0 0\npoint B 50 0\npoint C 100 0\nfixed A\ny B 0\ny C 0\n"
+       "Left: x A B +50\nRight: x B C +60\nWidth: x A C +100\n")
+
+
+def others(judged: Judgement) -> dict[str, set[str]]:
+    return {each.name: set(each.others) for each in judged.surplus}
+
+
+@pytest.mark.parametrize("again_mm", ["5", "5.01"])
+def test_a_length_told_twice_follows_from_the_other(program: Program, again_mm: str) -> None:
+    found = judge(read_drawing(f"{TRIANGLE}Again: distance A C {again_mm}\n"), program)
+    assert found.verdict is Verdict.OVER
+    assert others(found) == {"First": {"Again"}, "Again": {"First"}}
+
+
+def test_the_sixth_length_of_four_points_follows_from_all_five(program: Program) -> None:
+    names = {"AB", "AC", "AD", "BC", "BD", "CD"}
+    found = others(judge(read_drawing(BRACED), program))
+    assert found == {name: names - {name} for name in names}
+
+
+def test_a_gap_contradicts_the_width_and_the_gap_on_the_other_side(program: Program) -> None:
+    found = others(judge(read_drawing(ROW), program))
+    assert {"Left", "Right", "Width"} <= found.keys()
+    for name in "Left", "Right", "Width":
+        assert {"Left", "Right", "Width"} <= found[name] | {name}
+
+
+def test_what_stands_beside_is_in_no_group(program: Program) -> None:
+    beside = "point E 2 -4\nAE: distance A E 4.472\nBE: distance B E 4.472\n"
+    found = others(judge(read_drawing(f"{TRIANGLE}{beside}Again: distance A C 5\n"), program))
+    assert found == {"First": {"Again"}, "Again": {"First"}}
+
+
+def test_the_group_is_told_below_the_dimension_and_in_json(program: Program) -> None:
+    drawing = read_drawing(f"{TRIANGLE}Again: distance A C 5.01\n")
+    judged = JudgedDrawing("it", drawing, judge(drawing, program))
+    lines = list(drawing_lines(judged))
+    place = next(at for at, line in enumerate(lines) if line.startswith("    Again: off by"))
+    assert lines[place + 1] == "      contradicts: First"
+    spare = {each["name"]: each["follows_from"] for each in drawing_json(judged)["spare"]}
+    assert spare == {"First": ["Again"], "Again": ["First"]}
+
+
+def test_a_repeat_says_that_it_repeats(program: Program, tmp_path, capsys) -> None:
+    path = tmp_path / "twice.drawing"
+    path.write_text(f"{TRIANGLE}Again: distance A C 5\n")
+    assert main(["judge", str(path), "--program", program.path]) == 1
+    assert "      repeats: First" in capsys.readouterr().out.splitlines()
+    main(["judge", str(path), "--json", "--program", program.path])
+    sketch, = json.loads(capsys.readouterr().out)["sketches"]
+    assert [each["follows_from"] for each in sketch["spare"]] == [["Again"], ["First"]]
+
+
+def test_of_many_only_the_first_are_asked_for(program: Program) -> None:
+    """A point on a ruler of seventy lengths, each told twice."""
+    text = "point O 0 0\n" + "".join(
+        f"point P{number} {number} 0\ndistance O P{number} {number}\n"
+        f"Again{number}: distance O P{number} {number}\n" for number in range(1, 71))
+    judged = judge(read_drawing(text), program)
+    numbers = [each.number for each in judged.surplus]
+    assert len(numbers) == 140
+    groups = groups_of(judged.names, program, numbers, judged.asked.check)
+    assert 0 < len(groups) <= MOST
+    assert set(groups) <= set(numbers[:MOST])
