@@ -28,6 +28,7 @@ known to be missing by rank, nothing is found to lie mirrored), or is drawn as i
 where something isn't, and a line says what; 2 where the words or a file can't be read, or nothing
 can be written; 3 where the program gave no answer; of many files the greatest. The program is found
 by --program, the variable PERTXOGAI_SKETCH, the repository's build, or the path."""
+AS_STORED = "tell how far the places in the file are off each constraint"
 CHECK = "have it read by sketch verify, sketch_claim.py and sketch_claim.c"
 COMPLETED = "the drawing with them as a .drawing, or the .FCStd or .slvs with them written in"
 CLAIM = "the sketch, its steps, places and tolerances, as verify reads them"
@@ -98,6 +99,7 @@ def _add_judge(commands: Commands) -> None:
     judge.add_argument("--write", type=Path, metavar="OUT", help=WRITE)
     judge.add_argument("--no-search", action="store_true", help=NO_SEARCH)
     judge.add_argument("--nearly", action="store_true", help=NEARLY)
+    judge.add_argument("--as-stored", action="store_true", help=AS_STORED)
 
 
 def _add_draw(commands: Commands) -> None:
@@ -143,7 +145,7 @@ def _command(commands: Commands, name: str, what: str) -> argparse.ArgumentParse
     parser.add_argument("--within", type=_limit, default=str(DEFAULT), metavar="N", help=WITHIN)
     parser.add_argument("--program", metavar="PATH", help="the program `sketch`")
     parser.add_argument("--seconds", type=float, default=60.0, help=SECONDS)
-    parser.set_defaults(nearly=False)
+    parser.set_defaults(as_stored=False, nearly=False)
     return parser
 
 

@@ -28,10 +28,17 @@ def outcome_of(found: Input, program: Solver, options: argparse.Namespace) -> Ou
     """What the program says of one sketch of a file. Raises CommandError, TextRefused and
     ProgramError."""
     if isinstance(found, SketchText):
+        if options.as_stored:
+            raise CommandError(f"{found.name}: --as-stored takes a drawing, or a file of FreeCAD,"
+                               " SolveSpace or DXF: a sketch of the language stores no places")
         return SketchOutcome(judge_sketch(found.name, found.text, program, options.within),
                              program)
     judged = JudgedDrawing(found.name, found.drawing, _judgement(found, program, options),
                            found.left_out, found.aside, options.within)
+    if options.as_stored:
+        from pertxogai.judging.as_stored import as_stored
+
+        judged = replace(judged, stored=as_stored(judged.judgement, program))
     return DrawingOutcome(_searched(judged, program, options))
 
 

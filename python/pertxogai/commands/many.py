@@ -43,6 +43,8 @@ def judge_files(options: argparse.Namespace) -> Exit:
     worst. Raises CommandError."""
     if options.write is not None:
         raise CommandError("--write takes one file")
+    if options.as_stored and not options.json:
+        raise CommandError("--as-stored takes one file, or many with --json")
     if options.jobs < 1:
         raise CommandError("--jobs takes a whole number from 1 on")
     program_of(options)  # What is wrong with all of them is told once.

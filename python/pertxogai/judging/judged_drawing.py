@@ -5,6 +5,7 @@ from __future__ import annotations
 from dataclasses import dataclass
 
 from pertxogai.drawing import Drawing
+from pertxogai.judging.as_stored import StoredOffs
 from pertxogai.judging.finding import Finding, Nearly, PlacesBy
 from pertxogai.judging.judgement import Judgement
 from pertxogai.judging.measure.deviation import Deviation, Unit, greatest
@@ -18,7 +19,8 @@ class JudgedDrawing:
     constraints only measure or are switched off, and within what each constraint has to hold;
     where it was searched, what was found, else why it wasn't, if it should have been; lines with
     which it would be well, and the relations that it nearly has, where these were asked for.
-    Whether it is good is for `pertxogai.judging.good` to say."""
+    stored: how far off the places are that it was stored with, where that was asked for. Whether it
+    is good is for `pertxogai.judging.good` to say."""
 
     name: str
     drawing: Drawing
@@ -30,6 +32,7 @@ class JudgedDrawing:
     not_searched: str = ""
     proposed: tuple[str, ...] = ()
     nearly: tuple[Nearly, ...] = ()
+    stored: StoredOffs | None = None
 
     def left_out(self) -> tuple[str, ...]:
         """What the file has and the drawing can't say, and what of the drawing can't be spelled."""

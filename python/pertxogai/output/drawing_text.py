@@ -16,6 +16,7 @@ from pertxogai.judging.measure import Deviation, Solution, Unit, amount_text
 from pertxogai.judging.measure.limit import units_text
 from pertxogai.judging.measure.upright import upright
 from pertxogai.output.finding_text import finding_json, finding_lines, freedoms_text
+from pertxogai.output.stored_text import stored_json, stored_lines
 from pertxogai.program.reports import CheckReport, Part, Solved
 
 __all__ = ["JudgedDrawing", "drawing_json", "drawing_lines", "spare_json", "spelled_json",
@@ -48,6 +49,7 @@ def drawing_json(judged: JudgedDrawing) -> dict[str, object]:
         **_placed_json(judged),
         "by_numbers": {"unmet": None if judgement.unmet is None else list(judgement.unmet)},
         "warnings": [each.text() for each in judgement.warnings],
+        **({"as_stored": stored_json(judged.stored, judged.drawing)} if judged.stored else {}),
     }
 
 
@@ -141,6 +143,8 @@ def drawing_lines(judged: JudgedDrawing) -> Iterator[str]:
     yield from _surplus_lines(judgement)
     yield from (f"  look: {warning.text()}" for warning in judgement.warnings)
     yield from _nearly_lines(judged)
+    if judged.stored is not None:
+        yield from stored_lines(judged.stored, judged.drawing)
 
 
 def _tried_lines(judgement: Judgement) -> Iterator[str]:

@@ -1,0 +1,8 @@
+#!/bin/sh
+# examples/as-stored.sh FILE ..: for each sketch of files of FreeCAD, SolveSpace or DXF, and of drawings, within what the
+# places that stand in the file hold, as the program measures them.
+for it; do
+    ./pertxogai judge --as-stored "$it" | awk -v it="$it" '
+        /^[^ ]/ { name = $0; sub(/: .*/, "", name) }
+        /^  as stored, measured by the program/ { sub(/.*program: /, ""); printf "%-44s %s: %s\n", it, name, $0 }'
+done

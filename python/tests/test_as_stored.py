@@ -1,0 +1,152 @@
+"""How far the places that a drawing was stored with are off, by the program's `measure`."""
+from __future__ import annotations
+
+import json
+from pathlib import Path
+
+import pytest
+
+from pertxogai.commands import main
+from pertxogai.drawing import Length, read_drawing
+from pertxogai.files.kinds import DesignerDrawing, read_inputs
+from pertxogai.judging import judge
+from pertxogai.judging.as_stored import StoredOffs, as_stored
+from pertxogai.judging.measure import Unit
+from pertxogai.program import Program
+
+FILES = Path(__file__).parent / "files"
+TRIANGLE = ("point A 0 0\npoint B {} 0\npoint C 4 3\n"
+            "AB: distance A B 4\nAC: distance A C 5\nBC: distance B C 3\n")
+PLATE = ("rectangle Plate 0 0 {} 40\ncoincident PlateBottom.start Origin\n"
+         "Width: length PlateTop 60\nHeight: length PlateLeft 40\n")
+EDGE = ("segment Edge 0 0 30 40\nfixed Edge.start\nx Edge.end 30\ny Edge.end 40\n"
+        "point C {} 3\nGap: distance C Edge 5\nx C -4\n")
+
+
+def stored(text: str, program: Program) -> StoredOffs:
+    drawing = read_drawing(text)
+    return as_stored(judge(drawing, program), program)
+
+
+def amounts(offs: StoredOffs) -> dict[tuple[str, ...], int]:
+    return {each.names: each.amount for each in offs.by_program}
+
+
+def test_a_triangle_that_is_stored_as_it_is_said_holds(program: Program) -> None:
+    found = stored(TRIANGLE.format("4"), program)
+    assert amounts(found) == {("AB",): 0, ("AC",): 0, ("BC",): 0}
+    assert (found.length_nm, found.angle_ppb) == (0, 0)
+
+
+def test_places_are_taken_to_the_nanometre_and_not_the_micrometre(program: Program) -> None:
+    """B lies 2 nm too far; BC is then the root of 3 mm squared and 2 nm squared, so less than a
+    nanometre longer."""
+    found = stored(TRIANGLE.format("4.000002"), program)
+    assert amounts(found) == {("AB",): 2, ("AC",): 0, ("BC",): 1}
+    assert found.length_nm == 2
+
+
+def test_what_the_places_give_less_is_below_zero(program: Program) -> None:
+    found = stored(TRIANGLE.format("3.9"), program)
+    assert amounts(found)[("AB",)] == -100_000
+    assert found.length_nm == 100_000
+
+
+def test_a_plate_that_is_stored_too_wide_is_off_by_its_width_alone(program: Program) -> None:
+    found = stored(PLATE.format("60.000003"), program)
+    wide = [each for each in found.by_program if "Width" in each.names]
+    assert wide and all(each.amount == 3 and each.unit is Unit.NM for each in wide)
+    assert all(each.amount == 0 for each in found.by_program if "Width" not in each.names)
+
+
+def test_a_line_runs_through_its_stored_ends(program: Program) -> None:
+    """The edge runs along 3 4, so a point that is stored 4 nm further in x is 3.2 nm further from
+    it, which is measured as 4."""
+    found = stored(EDGE.format("-4.000004"), program)
+    gap, = [each for each in found.by_program if each.names == ("Gap",)]
+    assert gap.amount == 4
+
+
+def test_points_that_are_told_to_be_one_and_stored_apart_are_measured_here(
+        program: Program) -> None:
+    """The program has one point for both."""
+    text = ("segment A 0 0 4 0\nsegment B 4.000007 0 4.000007 3\nJoin: coincident A.end B.start\n"
+            "fixed A.start\nhorizontal A\nvertical B\nlength A 4\nlength B 3\n")
+    others = {each.called(read_drawing(text)): each.amount for each in stored(text, program).others}
+    assert others["Join"] == 7
+
+
+def test_a_radius_that_no_line_of_the_sketch_says_is_measured_here(program: Program) -> None:
+    text = "circle C 0 0 5.000001\nfixed C.centre\nSize: radius C 5\npoint A 9 0\nfixed A\n"
+    found = stored(text, program)
+    assert not any("Size" in each.names for each in found.by_program)
+    others = {each.called(read_drawing(text)): each.amount for each in found.others}
+    assert others["Size"] == 1
+
+
+@pytest.mark.parametrize("name", ["plate", "bracket", "gusset", "flange", "hexagon"])
+def test_lengths_in_freecads_files_are_off_as_they_are_measured(program: Program,
+                                                               name: str) -> None:
+    """What the program says of a length alone is what the exact measure of this package says of
+    it."""
+    for found in read_inputs(FILES / f"{name}.FCStd"):
+        assert isinstance(found, DesignerDrawing)
+        judged = judge(found.drawing, program)
+        sketch = as_stored(judged, program)
+        by_name = {each.names[0]: each for each in sketch.by_program if len(each.names) == 1}
+        for number, constraint in enumerate(found.drawing.constraints, 1):
+            off = by_name.get(found.drawing.called(number))
+            if off is not None and isinstance(constraint, Length):
+                shape = found.drawing.shape(constraint.segment.name)
+                start, end = (found.drawing.drawn(ref) for ref in _ends(shape.name))
+                square = (start.x_um - end.x_um) ** 2 + (start.y_um - end.y_um) ** 2
+                given_nm = 1000 * float(square) ** 0.5
+                said_nm = 1000 * float(constraint.value_um)
+                assert abs(given_nm - said_nm - off.amount) <= 2
+
+
+def _ends(name: str):
+    from pertxogai.drawing import PointRef, Which
+
+    return PointRef(name, Which.START), PointRef(name, Which.END)
+
+
+def test_the_command_tells_it_behind_the_verdict(program: Program, tmp_path, capsys) -> None:
+    path = tmp_path / "wide.drawing"
+    path.write_text(TRIANGLE.format("4.1"))
+    main(["judge", str(path), "--as-stored", "--program", program.path])
+    lines = capsys.readouterr().out.splitlines()
+    at = lines.index("  as stored, measured by the program: within 0.1 mm and 0 ppb")
+    assert lines[at + 1] == "    AB: off by 0.1 mm, more than it says"
+    main(["judge", str(path), "--as-stored", "--json", "--program", program.path])
+    sketch, = json.loads(capsys.readouterr().out)["sketches"]
+    first = sketch["as_stored"]["by_program"][0]
+    assert first == {"of": ["AB"], "off": 100_000, "unit": "nm", "turned": False}
+
+
+def test_without_the_word_nothing_of_it_is_told(program: Program, tmp_path, capsys) -> None:
+    path = tmp_path / "wide.drawing"
+    path.write_text(TRIANGLE.format("4.1"))
+    main(["judge", str(path), "--json", "--program", program.path])
+    sketch, = json.loads(capsys.readouterr().out)["sketches"]
+    assert "as_stored" not in sketch
+
+
+def test_a_sketch_of_the_language_stores_no_places(program: Program, tmp_path, capsys) -> None:
+    path = tmp_path / "two.sketch"
+    path.write_text("sketch 1\npoint A 0 0\npoint B 3 4\ndistance A B 5\nend\n")
+    assert main(["judge", str(path), "--as-stored", "--program", program.path]) == 2
+    assert "stores no places" in capsys.readouterr().err
+
+
+def test_of_many_files_it_is_told_as_json(program: Program, tmp_path, capsys) -> None:
+    paths = [str(tmp_path / f"{number}.drawing") for number in range(2)]
+    for path in paths:
+        Path(path).write_text(TRIANGLE.format("4"))
+    words = ["judge", *paths, "--as-stored", "--jobs", "1", "--program", program.path]
+    assert main(words) == 2
+    capsys.readouterr()
+    main([*words, "--json"])
+    for line in capsys.readouterr().out.splitlines():
+        sketch, = json.loads(line)["sketches"]
+        assert sketch["as_stored"]["length_tolerance_nm"] == 0
