@@ -21,6 +21,7 @@ from pertxogai.drawing import Drawing, PointRef, Which, read_drawing, um_of_mm
 from pertxogai.judging.finding import Finding, PointMove
 from pertxogai.judging.measure import Unit, greatest
 from pertxogai.search import search
+from pertxogai.search.contradictions import has_shrunk
 from pertxogai.search.equations import Equations
 from pertxogai.search.searched import Searched
 from pertxogai.search.solving import solve
@@ -233,6 +234,24 @@ def test_what_contradicts_is_named(name, group):
     assert found.solution is None and found.is_doubtful
 
 
+def test_words_with_signs_may_turn_a_drawing_upside_down():
+    # By hand: A runs along x from the origin, B up from its end, C back to the left; what is free
+    # is how long A, B and C are. It is drawn downwards.
+    found = found_of("segment A 0 0 40 0\nsegment B A.end 45 -30\nsegment C B.end 5 -28\n"
+                     "segment D C.end A.start\ncoincident A.start Origin\nhorizontal A\n"
+                     "angle A B +90deg\nangle B C +90deg\n")
+    assert (found.freedoms, found.contradictions) == (3, ())
+    assert found.solution is not None
+    assert found.solution.spot(point("B.end"))[1] > 0
+
+
+def test_where_an_edge_has_shrunk_to_nothing_nothing_is_known_to_contradict():
+    drawing = read_drawing("segment A 0 0 40 0\ncoincident A.start Origin\n")
+    equations = Equations(drawing)
+    assert not has_shrunk(equations, equations.drawn)
+    assert has_shrunk(equations, equations.drawn * 0.01)
+
+
 def test_a_triangle_that_cannot_be_is_contradicted_by_its_three_lengths():
     found = found_of("point A 0 0\npoint B 10 0\npoint C 5 1\n"
                      "AB: distance A B 30\nBC: distance B C 10\nCA: distance C A 10\n")
@@ -260,7 +279,8 @@ def test_one_point_told_by_both_axes_has_no_freedom():
 
 
 @pytest.mark.parametrize("word, is_met", [
-    ("length Edge 40", True), ("distance Edge.start Edge.end 30", False), ("angle Edge 10deg", False)])
+    ("length Edge 40", True), ("distance Edge.start Edge.end 30", False),
+    ("angle Edge 10deg", False)])
 def test_what_speaks_only_of_outer_shapes_moves_nothing(word, is_met):
     # The edge is 40 long and level; the point beside it has x and y, of which nothing is told.
     found = search(read_drawing(f"outer segment Edge 0 0 40 0\npoint P 3 4\n{word}\n"))

@@ -83,6 +83,8 @@ def _placed_lines(judged: JudgedDrawing, finding: Finding) -> Iterator[str]:
             yield f"  only measured: {', '.join(finding.only_measured)}"
     elif finding.places_by is PlacesBy.NUMBERS:
         yield "  placed by numbers, not constructed"
+    elif not finding.contradictions:
+        yield "  no places are found that meet all of it (by numbers)"
     if finding.solution is not None:
         off = [each for each in judged.worst() if each.amount]
         yield from (f"  measured: at most {amount_text(each)} off, {each.called(judged.drawing)}"

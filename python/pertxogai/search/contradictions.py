@@ -9,17 +9,21 @@ from collections.abc import Iterable, Iterator
 
 import numpy as np
 
-from pertxogai.drawing import Drawing
+from pertxogai.drawing import Drawing, Segment, ShapeRef
+from pertxogai.search.arrays import Array
 from pertxogai.search.budget import Budget
+from pertxogai.search.combination import Combination
 from pertxogai.search.equations import Equations
 from pertxogai.search.freedom import Freedom
 from pertxogai.search.solving import Found, solve
-from pertxogai.search.unknowns import By
+from pertxogai.search.unknowns import By, Unknowns
 
 Numbers = tuple[int, ...]
 """Constraints by their places, from 1, the latest first."""
 MOST_LEFT_OUT = 12
 """So many constraints are left out, one after the other."""
+SHRUNK = 0.02
+"""Next to nothing: this part of the size as it is drawn."""
 STEPS, SECONDS = 60, 0.6
 """The most steps of each of these searches, and the most seconds of all."""
 
@@ -35,6 +39,28 @@ def contradictions(equations: Equations, found: Found, free: Freedom) -> tuple[N
         sharp = _sharp(equations, _worst(equations, found))
         return (sharp,) if sharp else ()
     return tuple(_sharp(equations, numbers) or _latest_first(numbers) for numbers in by_rank)
+
+
+def has_shrunk(equations: Equations, x: Array) -> bool:
+    """Whether an edge or a rim is next to nothing where the unknowns are x, and wasn't drawn so."""
+    drawn, there = (_sizes(equations.unknowns, each) for each in (equations.drawn, x))
+    return bool((there < SHRUNK * drawn).any())
+
+
+def _sizes(unknowns: Unknowns, x: Array) -> Array:
+    """The lengths of the edges, and the radii, in nanometres."""
+    edges = [ShapeRef(shape.name) for shape in unknowns.drawing.geometry
+             if isinstance(shape, Segment) and not shape.outer]
+    ways = (_way(unknowns.line(edge)[1], x) for edge in edges)
+    radii = x[2 * len(unknowns.points):]
+    return np.array([*(float(np.hypot(*way)) for way in ways), *np.abs(radii)])
+
+
+def _way(way: Combination, x: Array) -> Array:
+    ends = np.array([way.x_nm, way.y_nm])
+    for point, factor in way.factors.items():
+        ends += factor * x[2 * point:2 * point + 2]
+    return ends
 
 
 def without(drawing: Drawing, number: int) -> Drawing:

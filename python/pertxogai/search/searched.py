@@ -12,7 +12,7 @@ from pertxogai.program import Solver
 from pertxogai.program.reports import Verdict
 from pertxogai.search.budget import MOST_SECONDS, Budget
 from pertxogai.search.constructing import construct
-from pertxogai.search.contradictions import Numbers, contradictions, without
+from pertxogai.search.contradictions import Numbers, contradictions, has_shrunk, without
 from pertxogai.search.dependencies import Dependency
 from pertxogai.search.equations import Equations
 from pertxogai.search.freedom import Freedom, freedom
@@ -62,8 +62,10 @@ class Searched:
 
     def _unsolved(self) -> Finding:
         """What is found without places: the freedoms are those without the latest constraint of
-        each contradiction."""
-        groups = contradictions(self.equations, self.found, self.freedom)
+        each contradiction. Where the search has ended with an edge or a rim that has shrunk to
+        nothing, it is stuck, and nothing is known to contradict."""
+        is_stuck = has_shrunk(self.equations, self.found.x)
+        groups = () if is_stuck else contradictions(self.equations, self.found, self.freedom)
         drawing = self.drawing
         for latest in sorted({numbers[0] for numbers in groups}, reverse=True):
             drawing = without(drawing, latest)

@@ -6,8 +6,10 @@ In this order, until one meets all rows with nothing the other way round:
      are drawn;
   2. the same with that left open;
   3. the drawing in another scale;
-  4. a walk: the rows are led to 0 in 4, 16 and then 64 equal parts, each solved from the last;
-  5. 2 from places that are shaken a little, eight times.
+  4. where nothing meets them yet, 2 from the drawing upside down, and from it mirrored sideways: a
+     word with a sign may ask for that;
+  5. a walk: the rows are led to 0 in 4, 16 and then 64 equal parts, each solved from the last;
+  6. 2 from places that are shaken a little, eight times.
 Else the best of them is taken."""
 from __future__ import annotations
 
@@ -93,6 +95,7 @@ class _Solving:
         yield descend(self._firm, self._start, self._budget)
         yield descend(self._loose, self._start, self._budget)
         yield from self._other_scale()
+        yield from self._mirrored()
         yield from self._walks()
         yield from self._shaken()
 
@@ -101,6 +104,18 @@ class _Solving:
         other = scaled(self._loose, OTHER_SCALE) if self._start is drawn else drawn
         if other is not self._start:
             yield descend(self._loose, other, self._budget)
+
+    def _mirrored(self) -> Iterator[End]:
+        """From the drawing mirrored about the given places that it holds, or about its middle."""
+        unknowns = self._loose.unknowns
+        points = 2 * len(unknowns.points)
+        held = list(unknowns.held()) or self._start[:points].reshape(-1, 2).tolist()
+        for is_x in (1, 0):
+            if held and not any(found.is_solved() for found in self._found):
+                mirrored = self._start.copy()
+                about = sum(place[is_x] for place in held) / len(held)
+                mirrored[is_x:points:2] = 2 * about - mirrored[is_x:points:2]
+                yield descend(self._loose, mirrored, self._budget)
 
     def _walks(self) -> Iterator[End]:
         """Walks of more and more parts, as long as more seem to be worth it."""
