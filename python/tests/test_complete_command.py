@@ -33,9 +33,10 @@ def test_the_lines_to_add_and_what_each_fixes(capsys):
     # The plate's left side is drawn 79 long; its top and right end come with it.
     status, lines, err = told(capsys, "complete", PLATE)
     assert (status, err) == (0, "")
-    assert lines[0] == "open-plate-without-height: 1 line to add"
+    assert lines[0] == ("open-plate-without-height: 1 line to add, and what each fixes "
+                        "(by numbers)")
     assert lines[1].startswith("  length PlateRight 79   fixes PlateRight.end")
-    assert lines[2] == "  with these it is well and placed, each constraint within 0 nm"
+    assert lines[2] == "  with these it is well and placed, and meets each constraint exactly"
 
 
 def test_what_ties_the_whole_stands_apart(capsys):
@@ -61,6 +62,17 @@ def test_json_has_all_lines_the_verdict_and_what_each_fixes(capsys):
 def test_why_nothing_is_proposed(name, why, ends, capsys):
     status, lines, _ = told(capsys, "complete", TESTS / f"drawings/{name}.drawing")
     assert status == ends and len(lines) == 1 and why in lines[0]
+
+
+@pytest.mark.parametrize("name", ["ellipse.FCStd", "curved.slvs"])
+def test_of_what_its_file_leaves_out_nothing_is_good(name, capsys):
+    # An ellipse, a spline: the drawing can't say it.
+    status, lines, _ = told(capsys, "complete", TESTS / "files" / name)
+    assert status == 1
+    assert any(line.startswith("  left out of the file: ") for line in lines)
+    _, lines, _ = told(capsys, "complete", TESTS / "files" / name, "--json")
+    (sketch,) = json.loads("\n".join(lines))["sketches"]
+    assert sketch["good"] is False and sketch["left_out"]
 
 
 def test_the_drawing_with_the_lines_is_well(capsys, tmp_path):

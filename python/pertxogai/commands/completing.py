@@ -30,14 +30,16 @@ def complete_file(options: argparse.Namespace) -> Exit:
     program = program_of(options)
     found = [_completed(each, program, options) for each in drawings]
     if options.json:
-        sketches = [completion_json(it.name, each) for it, each in zip(drawings, found)]
+        sketches = [completion_json(it.name, each, it.left_out)
+                    for it, each in zip(drawings, found)]
         print(json.dumps({"file": str(options.file), "sketches": sketches}, indent=2))
     else:
         for it, each in zip(drawings, found):
-            print(*map(printable, completion_lines(it.name, each)), sep="\n")
+            print(*map(printable, completion_lines(it.name, each, it.left_out)), sep="\n")
     if options.output is not None:
         _write(options.file, options.output, drawings, found)
-    return Exit.GOOD if all(map(is_whole, found)) else Exit.NOT_GOOD
+    are_whole = (is_whole(each, it.left_out) for it, each in zip(drawings, found))
+    return Exit.GOOD if all(are_whole) else Exit.NOT_GOOD
 
 
 def _drawing(found: Input, path: Path) -> DesignerDrawing:
@@ -79,7 +81,5 @@ def _write_into(path: Path, out: Path, completed: Mapping[str, Completion]) -> N
 
 
 def _addition(completion: Completion) -> Addition:
-    solution = completion.judgement.solution
-    assert solution is not None, "what is completed is placed"
     added = tuple(each.constraint for each in completion.all())
-    return Addition(completion.drawing, added, solution)
+    return Addition(completion.drawing, added, completion.good.solution)

@@ -22,13 +22,13 @@ def complete(drawing: Drawing, program: Solver,
     proposed. Raises MissingLibrary without numpy or scipy, ProgramError, DrawingRefused, Refusal
     and NotHeld as `judge` does."""
     check_libraries()
-    from pertxogai.completing.completing import completed
-    return completed(drawing, program, limit)
+    from pertxogai.completing.completion import completion_of
+    return completion_of(drawing, program, limit)
 
 
 def nearly(drawing: Drawing) -> tuple[Nearly, ...]:
     """The relations that a sound drawing nearly has where the search places it, and that don't
     follow from what it says; none where no places are found. Raises MissingLibrary."""
     check_libraries()
-    from pertxogai.completing.nearly_so import nearly_of
+    from pertxogai.completing.near_relations import nearly_of
     return tuple(nearly_of(drawing))

@@ -6,13 +6,24 @@ from collections.abc import Iterable, Iterator, Sequence
 from dataclasses import dataclass, replace
 from enum import Enum
 
-from pertxogai.completing.dimensions import ORDERS, Kind, base_of, dimensions, ties
-from pertxogai.completing.figure import Figure
-from pertxogai.completing.relations import relations
-from pertxogai.completing.slack import Asked, Slack, Taking
-from pertxogai.drawing import (
-    ORIGIN, Constraint, Drawing, Horizontal, PointRef, ShapeRef, Vertical, words_of)
+import numpy as np
 
+from pertxogai.completing.dimensions import (
+    ORDERS, Kind, base_of, dimensions, run_x, run_y, size_of, ties)
+from pertxogai.completing.figure import Figure
+from pertxogai.completing.relations import NEAR_DEGREES, Relation, levels, relations
+from pertxogai.completing.slack import Demand, Slack, Remaining
+from pertxogai.drawing import (
+    ORIGIN, Constraint, Drawing, Horizontal, PointRef, ShapeRef, Vertical)
+from pertxogai.drawing.mentions import refs_of
+from pertxogai.search.rank import Free
+from pertxogai.search.values import told_best
+
+FIRMNESS = (0.2, 0.0)
+"""Which part of what moves a dimension fixes at least: first such are taken, and then others, as
+the x of a point that moves nearly along y."""
+ROUGH_DEGREES = 3.0
+"""What is no further off level or upright is so roughly."""
 SECONDS = 0.2
 """What the search may take for a drawing with one relation more."""
 
@@ -26,6 +37,10 @@ class Choice:
     datum: tuple[Constraint, ...]
 
 
+Subject = tuple[type[Constraint], tuple[PointRef | ShapeRef, ...]]
+"""What a constraint is about: its kind, and what it speaks of; not its value."""
+
+
 class Relate(Enum):
     """Which relations that a drawing nearly has are taken."""
 
@@ -33,39 +48,44 @@ class Relate(Enum):
     LEVEL = "level"
     """That edges are level or upright."""
     NONE = "none"
+    ROUGH = "rough"
+    """That edges are level or upright, also those that are so roughly."""
 
-    def takes(self, constraint: Constraint) -> bool:
-        """Whether a relation is taken."""
-        return self is Relate.ALL or self is Relate.LEVEL and is_level(constraint)
+    def found(self, figure: Figure) -> Iterator[Relation]:
+        """Those of a placed drawing."""
+        if self is Relate.ALL:
+            yield from relations(figure)
+        elif self is not Relate.NONE:
+            off = ROUGH_DEGREES if self is Relate.ROUGH else NEAR_DEGREES
+            yield from (each for each in levels(figure, off) if is_level(each.constraint))
 
 
 @dataclass(frozen=True)
 class Taste:
     """How to choose. order: of the kinds of dimensions. relate: which relations are taken. refused:
-    constraints that aren't taken, by their words without the value."""
+    what isn't taken, whatever its value."""
 
     order: Sequence[Kind]
     relate: Relate = Relate.ALL
-    refused: frozenset[str] = frozenset()
+    refused: frozenset[Subject] = frozenset()
 
     def allows(self, constraint: Constraint) -> bool:
         """Whether a constraint may be taken."""
-        return kind_words(constraint) not in self.refused
+        return subject_of(constraint) not in self.refused
 
     def without(self, constraint: Constraint) -> Taste:
         """The same without that constraint, whatever its value."""
-        return replace(self, refused=self.refused | {kind_words(constraint)})
+        return replace(self, refused=self.refused | {subject_of(constraint)})
 
 
 TASTES = (Taste(ORDERS[0]), *(Taste(order, Relate.LEVEL) for order in ORDERS),
-          *(Taste(order, Relate.NONE) for order in ORDERS[:2]))
+          *(Taste(order, Relate.NONE) for order in ORDERS[:2]), Taste(ORDERS[0], Relate.ROUGH))
 """How it is chosen, one after the other."""
 
 
-def kind_words(constraint: Constraint) -> str:
-    """The words of a constraint without its value."""
-    return " ".join(word for word in words_of(constraint).split()
-                    if not (word[0].isdigit() or word[0] in "+-"))
+def subject_of(constraint: Constraint) -> Subject:
+    """What a constraint is about."""
+    return type(constraint), tuple(refs_of(constraint))
 
 
 def with_more(drawing: Drawing, more: Iterable[Constraint]) -> Drawing:
@@ -76,39 +96,58 @@ def with_more(drawing: Drawing, more: Iterable[Constraint]) -> Drawing:
 def choose(slack: Slack, taste: Taste) -> Choice | None:
     """What is to be added to a drawing by that taste; None where it leaves something free."""
     related = with_relations(slack, taste)
-    own = list(related.drawing.constraints[len(slack.drawing.constraints):])
-    taking = Taking.nothing(related)
-    for each, asked in candidates(related, taste):
-        if taking.left() == taking.left_to_the_whole():
-            break
-        more = taking.with_taken(asked)
-        if more is not None:
-            taking, own = more, [*own, each]
-    if taking.left() > taking.left_to_the_whole():
+    own = [*related.drawing.constraints[len(slack.drawing.constraints):], *related.parallel]
+    remaining = Remaining.all(related)
+    for firmness in FIRMNESS:
+        for each, demand in candidates(related, taste):
+            if remaining.count() == remaining.of_the_whole():
+                break
+            more = remaining.after(demand, firmness)
+            if more is not None:
+                remaining, own = more, [*own, each]
+    if remaining.count() > remaining.of_the_whole():
         return None
-    datum = tied(related, taking)
+    datum = tied(related, remaining)
     return None if datum is None else Choice(tuple(own), datum)
 
 
-def tied(slack: Slack, taking: Taking) -> tuple[Constraint, ...] | None:
+def choose_places(slack: Slack) -> Choice | None:
+    """The radii, and x and y of the points that tell best what is free of a drawing that is tied;
+    None where it isn't."""
+    if slack.whole.shape[1]:
+        return None
+    unknowns, figure = slack.equations.unknowns, Figure(slack.placed, slack.drawing)
+    free = [Free(np.arange(unknowns.count), slack.ways)]
+    points = len(unknowns.points)
+    own: list[Constraint] = list(slack.parallel)
+    for column in told_best(unknowns, free):
+        if column >= 2 * points:
+            own.append(size_of(figure, unknowns.rims[column - 2 * points]))
+        else:
+            run = run_y if column % 2 else run_x
+            own.append(run(figure, ORIGIN, unknowns.points[column // 2]))
+    return Choice(tuple(own), ())
+
+
+def tied(slack: Slack, remaining: Remaining) -> tuple[Constraint, ...] | None:
     """What ties the whole of a placed drawing, where it is drawn, once some of its slack is taken;
     None where something is left free."""
     datum = list[Constraint]()
     drawn = Figure(slack.drawing)
-    for some in ties(drawn) if taking.left() and drawn.points else ():
-        for each, asked in slack.asked(some):
-            more = taking.with_taken(asked, ties_the_whole=True)
+    for some in ties(drawn) if remaining.count() and drawn.points else ():
+        for each, demand in slack.demands(some):
+            more = remaining.after(demand, ties_the_whole=True)
             if more is not None:
-                taking, datum = more, [*datum, each]
-        if not taking.left():
+                remaining, datum = more, [*datum, each]
+        if not remaining.count():
             break
-    return None if taking.left() else tuple(datum)
+    return None if remaining.count() else tuple(datum)
 
 
-def candidates(slack: Slack, taste: Taste) -> Iterator[tuple[Constraint, Asked]]:
+def candidates(slack: Slack, taste: Taste) -> Iterator[tuple[Constraint, Demand]]:
     """The dimensions that may be taken, in their order, with the values that they have where a
     drawing is placed."""
-    figure = Figure(slack.placed)
+    figure = Figure(slack.placed, slack.drawing)
     if figure.points:
         base = _base(slack, figure)
         for kind in taste.order:
@@ -122,11 +161,12 @@ def _base(slack: Slack, figure: Figure) -> PointRef:
 
 
 def _as_placed(slack: Slack,
-               constraints: Sequence[Constraint]) -> Iterator[tuple[Constraint, Asked]]:
+               constraints: Sequence[Constraint]) -> Iterator[tuple[Constraint, Demand]]:
     """Those of some constraints that hold where a drawing is placed; what doesn't, since the
     drawing decides otherwise to which side it is meant, would turn something round."""
     most_nm = slack.most_off_nm()
-    return ((each, asked) for each, asked in slack.asked(constraints) if asked.off_nm <= most_nm)
+    demands = slack.demands(constraints)
+    return ((each, demand) for each, demand in demands if demand.off_nm <= most_nm)
 
 
 # -- relations
@@ -135,7 +175,7 @@ def _as_placed(slack: Slack,
 def with_relations(slack: Slack, taste: Taste) -> Slack:
     """A drawing with the relations that it nearly has, as far as they are free and can be met
     together. One that isn't met as it is drawn moves it, so it is placed anew."""
-    unmet: set[str] = set()
+    unmet: set[Subject] = set()
     while True:
         held, near = _next_relations(slack, taste, unmet)
         if near is None and not held:
@@ -147,24 +187,24 @@ def with_relations(slack: Slack, taste: Taste) -> Slack:
         elif near is None:
             return slack
         else:
-            unmet.add(words_of(near))
+            unmet.add(subject_of(near))
 
 
 def _next_relations(slack: Slack, taste: Taste,
-                    unmet: set[str]) -> tuple[list[Constraint], Constraint | None]:
+                    unmet: set[Subject]) -> tuple[list[Constraint], Constraint | None]:
     """Relations that are free and hold where a drawing is placed, up to the first that only nearly
     does, and that one."""
-    taking, held = Taking.nothing(slack), list[Constraint]()
-    found = [each for each in relations(Figure(slack.placed))
-             if taste.allows(each.constraint) and words_of(each.constraint) not in unmet
-             and taste.relate.takes(each.constraint)]
-    for relation, (constraint, asked) in zip(found, slack.asked([it.constraint for it in found])):
-        more = taking.with_taken(asked, is_level(constraint))
+    remaining, held = Remaining.all(slack), list[Constraint]()
+    found = [each for each in taste.relate.found(Figure(slack.placed))
+             if taste.allows(each.constraint) and subject_of(each.constraint) not in unmet]
+    demands = slack.demands([each.constraint for each in found])
+    for relation, (constraint, demand) in zip(found, demands):
+        more = remaining.after(demand, ties_the_whole=is_level(constraint))
         if more is None:
             continue
         if not relation.holds():
             return held, constraint
-        taking, held = more, [*held, constraint]
+        remaining, held = more, [*held, constraint]
     return held, None
 
 

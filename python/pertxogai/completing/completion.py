@@ -4,14 +4,15 @@ from __future__ import annotations
 
 from collections.abc import Iterable, Iterator
 
-from pertxogai.completing.asking import Asking, State
+from pertxogai.completing.trials import Trials, State
 from pertxogai.completing.choosing import (
-    TASTES, Choice, Taste, candidates, choose, tied, with_more, with_relations)
+    TASTES, Choice, Relate, Taste, candidates, choose, choose_places, tied, with_more,
+    with_relations)
 from pertxogai.completing.figure import Figure
 from pertxogai.completing.fixes import proposals
 from pertxogai.completing.proposal import Completion, NoProposal, WhyNot
-from pertxogai.completing.slack import Slack, Taking
-from pertxogai.completing.told_back import Words
+from pertxogai.completing.slack import Slack, Remaining
+from pertxogai.completing.from_program import Words
 from pertxogai.drawing import Drawing
 from pertxogai.judging import Question, first_good
 from pertxogai.judging.measure import Limit
@@ -22,18 +23,19 @@ ROUNDS = 6
 """So many dimensions at most are given up for others since they leave their values no room."""
 
 
-def completed(drawing: Drawing, program: Solver, limit: Limit) -> Completion | NoProposal:
+def completion_of(drawing: Drawing, program: Solver, limit: Limit) -> Completion | NoProposal:
     """What completes a sound drawing. Raises ProgramError, DrawingRefused, Refusal, NotHeld."""
-    asking = Asking(program, limit)
+    trials = Trials(program, limit)
     state, slack = State.of(first_good(Question(drawing, program, limit))), Slack.of(drawing)
     why = _why_not(state, slack)
     if why is None:
         assert slack is not None
-        found = _first_tied(_completion(drawing, choice, asking)
-                            for choice in _choices(slack, state, asking))
+        found = _first_tied(_completion(drawing, choice, trials)
+                            for choice in _choices(slack, state, trials))
         if found is not None:
             return found
-    return NoProposal(why or WhyNot.STUCK, state.verdict, state.is_placed)
+    is_good = why is WhyNot.NOTHING and trials.good(drawing) is not None
+    return NoProposal(why or WhyNot.STUCK, state.verdict, state.is_placed, is_good)
 
 
 def _first_tied(found: Iterable[Completion | None]) -> Completion | None:
@@ -59,39 +61,49 @@ def _why_not(state: State, slack: Slack | None) -> WhyNot | None:
     return WhyNot.NOTHING if state.verdict is Verdict.WELL else WhyNot.RIGID
 
 
-def _choices(slack: Slack, state: State, asking: Asking) -> Iterator[Choice]:
+def _choices(slack: Slack, state: State, trials: Trials) -> Iterator[Choice]:
     """What may complete it, with room for each value, in the order in which it is tried."""
-    ways = (*(_by_rank(slack, taste, asking) for taste in TASTES),
-            *(_one_by_one(slack, taste, state, asking) for taste in TASTES),
-            _told_back(slack, state, asking))
+    ways = (*(_by_rank(slack, taste, trials) for taste in TASTES), _by_places(slack, trials),
+            *(_one_by_one(slack, taste, state, trials) for taste in TASTES),
+            _told_back(slack, state, trials))
     for way in ways:
         yield from way
-        if asking.is_over():
+        if trials.is_over():
             return
 
 
-def _by_rank(slack: Slack, taste: Taste, asking: Asking) -> Iterator[Choice]:
+def _by_rank(slack: Slack, taste: Taste, trials: Trials) -> Iterator[Choice]:
     """What completes it by rank, once the program leaves each of its values some room."""
     for _ in range(ROUNDS):
         choice = choose(slack, taste)
-        told = _placed(slack.drawing, choice, asking) if choice else None
+        told = _placed(slack.drawing, choice, trials) if choice else None
         if choice is None or told is None:
             return
         first = len(slack.drawing.constraints)
-        tight = asking.without_room(told, range(first, first + len(choice.own)))
+        tight = trials.without_room(told, range(first, first + len(choice.own)))
         if tight is None:
             yield choice
-        if tight is None or asking.is_over():
+        if tight is None or trials.is_over():
             return
         taste = taste.without(tight)
 
 
-def _placed(drawing: Drawing, choice: Choice, asking: Asking) -> Drawing | None:
+def _by_places(slack: Slack, trials: Trials) -> Iterator[Choice]:
+    """What completes it by x and y of points, and radii."""
+    choice = choose_places(slack)
+    told = _placed(slack.drawing, choice, trials) if choice else None
+    if choice is not None and told is not None:
+        first = len(slack.drawing.constraints)
+        if trials.without_room(told, range(first, first + len(choice.own))) is None:
+            yield choice
+
+
+def _placed(drawing: Drawing, choice: Choice, trials: Trials) -> Drawing | None:
     """The drawing with a choice, without what ties the whole where it is placed so; None where it
     isn't placed with that either, as where a part of it is tied already."""
     for more in (choice.own, (*choice.own, *choice.datum)):
         told = with_more(drawing, more)
-        state = asking.state(told)
+        state = trials.state(told)
         if state is not None and state.is_placed:
             return told
     return None
@@ -100,68 +112,67 @@ def _placed(drawing: Drawing, choice: Choice, asking: Asking) -> Drawing | None:
 # -- where that isn't enough
 
 
-def _one_by_one(slack: Slack, taste: Taste, state: State, asking: Asking) -> Iterator[Choice]:
+def _one_by_one(slack: Slack, taste: Taste, state: State, trials: Trials) -> Iterator[Choice]:
     """What completes it where each constraint is taken once the program sees less missing with it,
     and finds places for all that had some, also with a little more and a little less."""
     related = with_relations(slack, taste)
     chosen = list(related.drawing.constraints[len(slack.drawing.constraints):])
-    told, taking = related.drawing, Taking.nothing(related)
-    state = asking.state(told, by_parts=True) or state
-    for constraint, asked in candidates(related, taste):
-        more = taking.with_taken(asked)
-        if more is None or asking.is_over():
+    told, remaining = related.drawing, Remaining.all(related)
+    state = trials.state(told, by_parts=True) or state
+    for constraint, demand in candidates(related, taste):
+        more = remaining.after(demand)
+        if more is None or trials.is_over():
             continue
-        better = asking.better(told, constraint, state)
+        better = trials.better(told, constraint, state)
         if better is not None:
-            told, state, taking = with_more(told, [constraint]), better, more
+            told, state, remaining = with_more(told, [constraint]), better, more
             chosen.append(constraint)
-        if state.is_placed and taking.left() == taking.left_to_the_whole():
-            yield Choice(tuple(chosen), tied(related, taking) or ())
+        if state.is_placed and remaining.count() == remaining.of_the_whole():
+            yield Choice(tuple(chosen), tied(related, remaining) or ())
             return
 
 
-def _told_back(slack: Slack, state: State, asking: Asking) -> Iterator[Choice]:
+def _told_back(slack: Slack, state: State, trials: Trials) -> Iterator[Choice]:
     """What completes it as the program completes its spelled sketch: that may be spelled otherwise
     with each line more, so it is asked again."""
-    there = with_relations(slack, TASTES[-1])
-    state = asking.state(there.drawing, by_parts=True) or state
+    there = with_relations(slack, Taste((), Relate.LEVEL))
+    state = trials.state(there.drawing, by_parts=True) or state
     for _ in range(ROUNDS):
-        more = _told_back_once(there, state, asking)
+        more = _told_back_once(there, state, trials)
         if more is None:
             return
         there, state = more
         if state.is_placed:
             chosen = there.drawing.constraints[len(slack.drawing.constraints):]
-            yield Choice(tuple(chosen), tied(there, Taking.nothing(there)) or ())
+            yield Choice(tuple(chosen), tied(there, Remaining.all(there)) or ())
             return
 
 
-def _told_back_once(slack: Slack, state: State, asking: Asking) -> tuple[Slack, State] | None:
+def _told_back_once(slack: Slack, state: State, trials: Trials) -> tuple[Slack, State] | None:
     """A drawing with what one completion of it adds, as far as that is better; None where nothing
     of it is."""
-    completion = None if asking.is_over() else asking.completion(slack.drawing)
+    completion = None if trials.is_over() else trials.completion(slack.drawing)
     if completion is None:
         return None
     names, added = completion
-    words, told, taking = Words(names, Figure(slack.placed)), slack.drawing, Taking.nothing(slack)
-    for constraint, asked in slack.asked([each for it in added for each in words.of(it)]):
-        more = taking.with_taken(asked, ties_the_whole=True)
-        better = asking.better(told, constraint, state) if more is not None else None
+    words, told, remaining = Words(names, Figure(slack.placed)), slack.drawing, Remaining.all(slack)
+    for constraint, demand in slack.demands([each for it in added for each in words.of(it)]):
+        more = remaining.after(demand, ties_the_whole=True)
+        better = trials.better(told, constraint, state) if more is not None else None
         if more is not None and better is not None:
-            taking, state, told = more, better, with_more(told, [constraint])
+            remaining, state, told = more, better, with_more(told, [constraint])
     there = Slack.of(told) if told is not slack.drawing else None
     return (there, state) if there is not None else None
 
 
-def _completion(drawing: Drawing, choice: Choice, asking: Asking) -> Completion | None:
+def _completion(drawing: Drawing, choice: Choice, trials: Trials) -> Completion | None:
     """The completion by a choice, without what ties the whole where that isn't placed; None where
-    it isn't placed at all."""
+    it isn't good at all."""
     for datum in dict.fromkeys((choice.datum, ())):
         added = (*choice.own, *datum)
-        told = with_more(drawing, added)
-        judgement = asking.good(told)
-        if judgement is not None and judgement.solution is not None:
-            found = tuple(proposals(drawing, added, judgement.solution))
+        good = trials.good(with_more(drawing, added))
+        if good is not None:
+            found = tuple(proposals(drawing, added, good.solution))
             own = len(choice.own)
-            return Completion(found[:own], found[own:], told, judgement, datum == choice.datum)
+            return Completion(found[:own], found[own:], good, datum == choice.datum)
     return None

@@ -3,17 +3,18 @@ by kind and in the order in which a designer gives them."""
 from __future__ import annotations
 
 from cmath import phase
-from collections.abc import Iterator, Sequence
+from collections.abc import Callable, Iterator, Sequence
 from enum import Enum
+from fractions import Fraction
 from itertools import combinations
 from math import degrees
 
 from pertxogai.completing.figure import Figure, ends
 from pertxogai.completing.values import round_degrees, round_um
 from pertxogai.drawing import (
-    ORIGIN, X_AXIS, Y_AXIS, AngleBetween, Coincident, Constraint, Degrees, Diameter, Distance,
-    Horizontal, Length, Pair, Perpendicular, PointLineDistance, PointOn, PointRef, Radius, Segment,
-    Sense, ShapeRef, Vertical, XDistance, YDistance)
+    ORIGIN, X_AXIS, Y_AXIS, AngleBetween, Circle, Coincident, Constraint, Degrees, Diameter,
+    Distance, Horizontal, Length, Pair, Perpendicular, PointLineDistance, PointOn, PointRef, Radius,
+    Segment, Sense, ShapeRef, Vertical, XDistance, YDistance)
 
 LEAST_UM, LEAST_PART = 1.0, 2e-4
 """What is shorter, and shorter than this part of the drawing's size, is nothing."""
@@ -22,7 +23,8 @@ LEAST_DEGREES = 0.5
 SLANT = 1e-6
 """An edge is slanted that rises by more than this part of its length."""
 MOST_EACH = 2000
-"""The most dimensions of a kind that are looked at."""
+"""The most dimensions of a kind that are looked at: of a large drawing those of the points and
+edges that are drawn first."""
 
 
 class Kind(Enum):
@@ -68,10 +70,15 @@ def dimensions(figure: Figure, kind: Kind, base: PointRef) -> Iterator[Constrain
 
 
 def _sizes(figure: Figure) -> Iterator[Constraint]:
-    for circle in figure.circles:
-        yield Diameter(ShapeRef(circle.name), round_um(2 * figure.radius_um(circle)))
-    for arc in figure.arcs:
-        yield Radius(ShapeRef(arc.name), round_um(figure.radius_um(arc)))
+    yield from (size_of(figure, rim.name) for rim in (*figure.circles, *figure.arcs))
+
+
+def size_of(figure: Figure, name: str) -> Constraint:
+    """The diameter of a circle, or the radius of an arc."""
+    radius_um = float(figure.drawing.drawn_radius_um(name))
+    if isinstance(figure.drawing.shape(name), Circle):
+        return Diameter(ShapeRef(name), round_um(2 * radius_um))
+    return Radius(ShapeRef(name), round_um(radius_um))
 
 
 def _lengths(figure: Figure) -> Iterator[Constraint]:
@@ -86,22 +93,37 @@ def _lengths(figure: Figure) -> Iterator[Constraint]:
 
 def runs(figure: Figure, base: PointRef, points: Sequence[PointRef]) -> Iterator[Constraint]:
     """x and y of some points from a base: that one is level with it where that is nothing."""
-    at = 0j if base == ORIGIN else figure.at(base)
     for point in points:
         if point != base:
-            yield from _runs(base, point, figure.at(point) - at, nothing_um(figure))
+            yield from (run_x(figure, base, point), run_y(figure, base, point))
 
 
-def _runs(base: PointRef, point: PointRef, way: complex, nothing: float) -> Iterator[Constraint]:
-    """x and y of a point that lies so from the base, in micrometres."""
-    if abs(way.real) > nothing:
-        yield XDistance(base, point, round_um(abs(way.real)))
-    else:
-        yield PointOn(point, Y_AXIS) if base == ORIGIN else Vertical(Pair(base, point))
-    if abs(way.imag) > nothing:
-        yield YDistance(base, point, round_um(abs(way.imag)))
-    else:
-        yield PointOn(point, X_AXIS) if base == ORIGIN else Horizontal(Pair(base, point))
+def run_x(figure: Figure, base: PointRef, point: PointRef) -> Constraint:
+    """x of a point from a base, with a sign where it isn't on the side where it is drawn."""
+    way_um, drawn_um = (_way(at, base, point).real for at in (figure.at, figure.drawn_at))
+    if abs(way_um) > nothing_um(figure):
+        return XDistance(base, point, *_signed(way_um, drawn_um))
+    return PointOn(point, Y_AXIS) if base == ORIGIN else Vertical(Pair(base, point))
+
+
+def run_y(figure: Figure, base: PointRef, point: PointRef) -> Constraint:
+    """y of a point from a base, likewise."""
+    way_um, drawn_um = (_way(at, base, point).imag for at in (figure.at, figure.drawn_at))
+    if abs(way_um) > nothing_um(figure):
+        return YDistance(base, point, *_signed(way_um, drawn_um))
+    return PointOn(point, X_AXIS) if base == ORIGIN else Horizontal(Pair(base, point))
+
+
+def _way(at: Callable[[PointRef], complex], base: PointRef, point: PointRef) -> complex:
+    return at(point) - (0j if base == ORIGIN else at(base))
+
+
+def _signed(way_um: float, drawn_um: float) -> tuple[Fraction, Sense]:
+    """A value above 0 where the drawing tells the side; what counts as plus is 0 too."""
+    value = round_um(abs(way_um))
+    if (way_um > 0) == (drawn_um >= 0):
+        return value, Sense.DRAWN
+    return (value if way_um > 0 else -value), Sense.SIGNED
 
 
 def nothing_um(figure: Figure) -> float:
@@ -137,12 +159,13 @@ def _distances(figure: Figure) -> Iterator[Constraint]:
 
 
 def _angles(figure: Figure) -> Iterator[Constraint]:
-    """Those of a corner first, then those of other edges."""
+    """Those of a corner first, then those of other edges, then directions against the x axis."""
     pairs = [pair for _, pair in zip(range(MOST_EACH), combinations(figure.edges, 2))]
     for is_corner in (True, False):
         for first, second in pairs:
             if (figure.corner(first, second) is not None) is is_corner:
                 yield from angles_of(figure, first, second)
+    yield from (direction(figure, edge) for edge in figure.edges)
 
 
 def angles_of(figure: Figure, first: Segment, second: Segment) -> Iterator[Constraint]:
@@ -179,9 +202,8 @@ def ties(drawn: Figure) -> Iterator[list[Constraint]]:
 def _across(drawn: Figure, base: PointRef, far: PointRef) -> Iterator[Constraint]:
     """What keeps a far point from turning about the base: the lesser of its x and y from there."""
     if far != base:
-        along_x, along_y = runs(drawn, base, [far])
         way = drawn.at(far) - drawn.at(base)
-        yield along_x if abs(way.real) < abs(way.imag) else along_y
+        yield (run_x if abs(way.real) < abs(way.imag) else run_y)(drawn, base, far)
 
 
 def direction(figure: Figure, edge: Segment) -> Constraint:

@@ -15,10 +15,10 @@ LEAST_UM = 1.0
 
 class Figure:
     """The shapes of a drawing that aren't outer, and where they lie. size_um: the greatest of the
-    width and the height over its points, and of the diameters."""
+    width and the height over its points, and of the diameters. drawn: the same as it is drawn."""
 
-    def __init__(self, placed: Drawing) -> None:
-        self.drawing = placed
+    def __init__(self, placed: Drawing, drawn: Drawing | None = None) -> None:
+        self.drawing, self._drawn = placed, drawn or placed
         own = [shape for shape in placed.geometry if not shape.outer]
         self.edges = [shape for shape in own
                       if isinstance(shape, Segment) and self.length_um(shape) >= LEAST_UM]
@@ -48,6 +48,11 @@ class Figure:
     def at(self, ref: PointRef) -> complex:
         """Where a point lies."""
         place = self.drawing.meetings.drawn(ref)
+        return complex(place.x_um, place.y_um)
+
+    def drawn_at(self, ref: PointRef) -> complex:
+        """Where a point is drawn."""
+        place = self._drawn.meetings.drawn(ref)
         return complex(place.x_um, place.y_um)
 
     def way(self, edge: Segment) -> complex:

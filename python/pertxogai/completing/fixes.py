@@ -5,11 +5,15 @@ from __future__ import annotations
 from collections.abc import Iterator, Sequence
 from dataclasses import dataclass, replace
 
+import numpy as np
+
 from pertxogai.completing.proposal import Proposal
 from pertxogai.drawing import (
-    AngleBetween, Constraint, Drawing, Horizontal, Parallel, Perpendicular, PointRef, Vertical)
+    ORIGIN, AngleBetween, Constraint, Distance, Drawing, Horizontal, Length, Parallel,
+    Perpendicular, PointRef, Vertical, Which, XDistance, YDistance)
 from pertxogai.drawing.mentions import refs_of
 from pertxogai.judging.measure import Solution
+from pertxogai.search.arrays import Array
 from pertxogai.search.equations import Equations
 from pertxogai.search.freedom import freedom
 from pertxogai.search.rounding import unknowns_of
@@ -17,6 +21,8 @@ from pertxogai.search.rounding import unknowns_of
 _DIRECTIONS = Horizontal, Vertical, Parallel, Perpendicular, AngleBetween
 Way = tuple[float, float]
 """A direction of length 1."""
+SEEN = 1e-6
+"""Of motions of length 1, what moves by less stays."""
 NEARLY_ALONG = 1e-3
 """A direction of which the one part is less runs along an axis."""
 
@@ -24,11 +30,13 @@ NEARLY_ALONG = 1e-3
 @dataclass(frozen=True)
 class Loose:
     """What is loose of a drawing: of each point the ways in which it still moves, the circles and
-    arcs of which the radius may change, and in how many ways the whole moves."""
+    arcs of which the radius may change, in how many directions the whole may be moved, and whether
+    it turns."""
 
     ways: dict[PointRef, tuple[Way, ...]]
     rims: frozenset[str]
-    of_the_whole: int
+    shifts: int
+    turns: bool
 
     @staticmethod
     def of(drawing: Drawing, solution: Solution) -> Loose:
@@ -40,7 +48,14 @@ class Loose:
             of_leader.setdefault(each.point, []).append((each.dx, each.dy))
         ways = {ref: tuple(of_leader.get(equations.unknowns.leader(ref), ()))
                 for ref in drawing.points()}
-        return Loose(ways, frozenset(found.rims), found.of_the_whole)
+        turns = _turns(found.whole[:2 * len(equations.unknowns.points)])
+        return Loose(ways, frozenset(found.rims), found.of_the_whole - turns, turns)
+
+
+def _turns(whole: Array) -> bool:
+    """Whether one of the motions of the whole, by x and y of its points, is more than a shift."""
+    apart = (each - each.mean(axis=0) for each in (whole[0::2], whole[1::2]) if len(each))
+    return any(bool(np.abs(each).max(initial=0.0) > SEEN) for each in apart)
 
 
 def proposals(drawing: Drawing, added: Sequence[Constraint],
@@ -51,31 +66,65 @@ def proposals(drawing: Drawing, added: Sequence[Constraint],
     for constraint in added:
         drawing = replace(drawing, constraints=(*drawing.constraints, constraint))
         after = Loose.of(drawing, solution)
-        fixed = tuple(_fixed(drawing, before, after))
+        fixed = tuple(_fixed(drawing, constraint, before, after))
         yield Proposal(constraint, fixed or tuple(_against(constraint)))
         before = after
 
 
-def _fixed(drawing: Drawing, before: Loose, after: Loose) -> Iterator[str]:
+def _fixed(drawing: Drawing, constraint: Constraint, before: Loose,
+           after: Loose) -> Iterator[str]:
     """What is less loose than before."""
-    if after.of_the_whole < before.of_the_whole:
-        yield "the whole"
+    yield from _of_the_whole(before, after)
     yield from (f"the size of {name}" for name in sorted(before.rims - after.rims))
+    fixed = list(_points(drawing, before, after))
+    own = {drawing.meetings.leader(ref) for ref in _ends(constraint)}
+    if own and own <= {drawing.meetings.leader(ref) for ref in fixed}:
+        # Neither end is fixed by itself, but how far they are apart.
+        yield from _against(constraint)
+        fixed = [ref for ref in fixed if drawing.meetings.leader(ref) not in own]
+    yield from (f"{ref}{_but_along(after.ways[ref])}" for ref in fixed)
+
+
+def _of_the_whole(before: Loose, after: Loose) -> Iterator[str]:
+    if before.shifts + before.turns and not after.shifts + after.turns:
+        yield "the whole"
+        return
+    if before.turns and not after.turns:
+        yield "the turn of the whole"
+    if after.shifts < before.shifts:
+        yield f"the place of the whole{' one way' if after.shifts else ''}"
+
+
+def _points(drawing: Drawing, before: Loose, after: Loose) -> Iterator[PointRef]:
+    """The points that move in fewer ways, of those that are one the first."""
     seen: set[PointRef] = set()
     for ref in drawing.points():
         leader = drawing.meetings.leader(ref)
         if leader not in seen and len(after.ways[ref]) < len(before.ways[ref]):
             seen.add(leader)
-            yield f"{ref}{_but_along(after.ways[ref])}"
+            yield ref
+
+
+def _ends(constraint: Constraint) -> Sequence[PointRef]:
+    """The two points whose distance a constraint tells; none of others."""
+    match constraint:
+        case Length(segment):
+            return [PointRef(segment.name, which) for which in (Which.START, Which.END)]
+        case (Distance(first, second) | XDistance(first, second) | YDistance(first, second)):
+            return [] if ORIGIN in (first, second) else [first, second]
+        case _:
+            return []
 
 
 def _against(constraint: Constraint) -> Iterator[str]:
     """What a constraint tells of things that still move as before, but no longer each by itself."""
     named = list(dict.fromkeys(map(str, refs_of(constraint))))
-    if isinstance(constraint, _DIRECTIONS):
+    if isinstance(constraint, Length):
+        yield f"the length of {named[0]}"
+    elif isinstance(constraint, _DIRECTIONS):
         yield f"the direction of {named[-1]}"
     elif len(named) > 1:
-        yield f"{' and '.join(named)} against each other"
+        yield f"how {' and '.join(named)} lie to each other"
     else:
         yield from named
 

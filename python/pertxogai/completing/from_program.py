@@ -5,7 +5,8 @@ from __future__ import annotations
 from collections.abc import Iterator
 
 from pertxogai import language
-from pertxogai.completing.dimensions import angles_of, direction, height_of, nothing_um, runs
+from pertxogai.completing.dimensions import (
+    angles_of, direction, height_of, nothing_um, run_x, run_y)
 from pertxogai.completing.figure import Figure, centre, ends
 from pertxogai.completing.values import round_um
 from pertxogai.drawing import (
@@ -70,8 +71,7 @@ class Words:
         is_datum = heading.rail is not None and heading.rail.datum()
         base = ORIGIN if is_datum else self._on.get(line)
         if base is not None:
-            found = list(runs(self._figure, base, [point]))
-            yield from found[:1] if heading.quarters % 2 else found[1:]
+            yield (run_x if heading.quarters % 2 else run_y)(self._figure, base, point)
 
     def _turned(self, first: str, second: str) -> Iterator[Constraint]:
         """The angle of two edges, or the direction of one."""

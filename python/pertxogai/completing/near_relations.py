@@ -5,7 +5,7 @@ from collections.abc import Iterator
 
 from pertxogai.completing.figure import Figure
 from pertxogai.completing.relations import relations
-from pertxogai.completing.slack import Slack, Taking
+from pertxogai.completing.slack import Slack, Remaining
 from pertxogai.drawing import Drawing, line_of
 from pertxogai.judging.finding import Nearly
 
@@ -15,11 +15,11 @@ def nearly_of(drawing: Drawing) -> Iterator[Nearly]:
     slack = Slack.of(drawing)
     if slack is None:
         return
-    taking, said = Taking.nothing(slack), set(drawing.wordings)
+    remaining, said = Remaining.all(slack), set(drawing.wordings)
     found = list(relations(Figure(slack.placed)))
     of = {id(each.constraint): each for each in found}
-    for constraint, asked in slack.asked([each.constraint for each in found]):
+    for constraint, demand in slack.demands([each.constraint for each in found]):
         relation, line = of[id(constraint)], line_of(constraint)
-        is_free = taking.with_taken(asked, ties_the_whole=True) is not None
+        is_free = remaining.after(demand, ties_the_whole=True) is not None
         if line not in said and (is_free or not relation.holds()):
             yield Nearly(line, relation.off, relation.unit.value, is_free)

@@ -6,7 +6,7 @@ from dataclasses import dataclass
 from enum import Enum
 
 from pertxogai.drawing import Constraint, Drawing, line_of
-from pertxogai.judging import Judgement
+from pertxogai.judging import GoodJudgement
 from pertxogai.program.reports import Verdict
 
 
@@ -25,16 +25,20 @@ class Proposal:
 
 @dataclass(frozen=True)
 class Completion:
-    """A drawing that the program calls well and places, and what of it was added. proposals: the
-    dimensions and relations. datum: apart from these, what ties the whole to the origin and the
-    axes. drawing: with all of these. judgement: the program's, on that. ties_the_whole: whether all
-    is tied; else it may still be moved, since nothing that ties it is placed."""
+    """A drawing that is good, and what of it was added. proposals: the dimensions and relations.
+    datum: apart from these, what ties the whole to the origin and the axes. good: the judgement on
+    the drawing with all of these. ties_the_whole: whether all is tied; else it may still be moved,
+    since nothing is found that ties it and is placed."""
 
     proposals: tuple[Proposal, ...]
     datum: tuple[Proposal, ...]
-    drawing: Drawing
-    judgement: Judgement
+    good: GoodJudgement
     ties_the_whole: bool = True
+
+    @property
+    def drawing(self) -> Drawing:
+        """The drawing with all of these."""
+        return self.good.drawing
 
     def all(self) -> Iterator[Proposal]:
         """All that was added, what ties the whole last."""
@@ -49,13 +53,15 @@ class WhyNot(Enum):
     OVER = "it is over-constrained: take away what may go first, as ./pertxogai judge tells"
     NO_PLACES = "no places are found that meet all of it"
     RIGID = "nothing of it is free (by numbers), though the program doesn't find it rigid"
-    STUCK = "no dimensions are found with which the program calls it well and places it"
+    STUCK = "no dimensions are found with which it is well, placed and good"
 
 
 @dataclass(frozen=True)
 class NoProposal:
-    """Nothing is proposed. verdict and is_placed: what the program says of the drawing."""
+    """Nothing is proposed. verdict and is_placed: what the program says of the drawing. is_good:
+    whether it is good as it stands."""
 
     why: WhyNot
     verdict: Verdict
     is_placed: bool
+    is_good: bool = False

@@ -52,7 +52,9 @@ class Relation:
 
 def relations(figure: Figure) -> Iterator[Relation]:
     """The relations that a placed drawing nearly has, in a designer's order."""
-    for kind in (_joined, _level, _square, _parallel, _equal, _touching, _on_an_edge):
+    yield from _joined(figure)
+    yield from levels(figure, NEAR_DEGREES)
+    for kind in (_square, _parallel, _equal, _touching, _on_an_edge):
         yield from kind(figure)
 
 
@@ -104,22 +106,24 @@ def _on_an_edge(figure: Figure) -> Iterator[Relation]:
 # -- directions
 
 
-def _level(figure: Figure) -> Iterator[Relation]:
-    """Edges along an axis, then the centres of circles on one level or one above the other."""
+def levels(figure: Figure, degrees_off: float) -> Iterator[Relation]:
+    """Edges within so many degrees of an axis, then the centres of circles on one level or one
+    above the other."""
     for edge in figure.edges:
-        yield from _along_an_axis(figure.way(edge), ShapeRef(edge.name))
+        yield from _along_an_axis(figure.way(edge), ShapeRef(edge.name), degrees_off)
     along_x = sorted(map(centre, figure.circles), key=lambda ref: figure.at(ref).real)
     along_y = sorted(map(centre, figure.circles), key=lambda ref: figure.at(ref).imag)
     for first, second in dict.fromkeys((*pairwise(along_x), *pairwise(along_y))):
         if figure.apart_um(first, second) > HAIR * figure.size_um:
-            yield from _along_an_axis(figure.at(second) - figure.at(first), Pair(first, second))
+            yield from _along_an_axis(figure.at(second) - figure.at(first), Pair(first, second),
+                                      degrees_off)
 
 
-def _along_an_axis(way: complex, of: ShapeRef | Pair) -> Iterator[Relation]:
+def _along_an_axis(way: complex, of: ShapeRef | Pair, degrees_off: float) -> Iterator[Relation]:
     turn = degrees(phase(way)) % 180 if way else 45.0
-    if min(turn, 180 - turn) <= NEAR_DEGREES:
+    if min(turn, 180 - turn) <= degrees_off:
         yield Relation(Horizontal(of), min(turn, 180 - turn), Unit.DEGREES)
-    elif abs(turn - 90) <= NEAR_DEGREES:
+    elif abs(turn - 90) <= degrees_off:
         yield Relation(Vertical(of), abs(turn - 90), Unit.DEGREES)
 
 

@@ -1,5 +1,5 @@
-"""What may still move of a drawing where the search has placed it, and which constraints take of
-that: by the rank of what they ask there, in floats."""
+"""What may still move of a drawing where the search has placed it, and what a constraint would fix
+of that: by the rank of what it asks there, in floats."""
 from __future__ import annotations
 
 from collections.abc import Sequence
@@ -9,9 +9,9 @@ from fractions import Fraction
 import numpy as np
 
 from pertxogai.drawing import (
-    Coincident, Concentric, Constraint, Drawing, PointOn, PointRef, Sense, Which, XDistance,
-    YDistance)
-from pertxogai.search.arrays import Array, dense, row_squares
+    Coincident, Concentric, Constraint, Drawing, Parallel, ParallelDistance, PointOn, PointRef,
+    Sense, Which, XDistance, YDistance)
+from pertxogai.search.arrays import Array, Indices, dense
 from pertxogai.search.budget import MOST_SECONDS
 from pertxogai.search.equations import Equations
 from pertxogai.search.rank import wide
@@ -21,7 +21,7 @@ from pertxogai.search.unknowns import By
 from pertxogai.search.values import drawn_at
 
 FIRM = 1e-3
-"""A constraint takes a motion only if it changes by more than this part of what moves."""
+"""A constraint fixes a motion only if it changes by more than this part of it."""
 SEEN = 1e-6
 """What changes by less stays."""
 OFF_NM, OFF_SIZE = 2e4, 2e-4
@@ -33,7 +33,8 @@ nanometres and this part of the drawing's size; else it means another side than 
 class Slack:
     """A drawing that the search has placed. placed: the same drawn where it was placed. ways: how
     the unknowns may move, and whole: those ways in which all of it moves at once, as columns of
-    length 1 that are square to each other."""
+    length 1 that are square to each other. parallel: that lines are parallel of which a distance
+    is told, and of which nothing else says so."""
 
     drawing: Drawing
     placed: Drawing
@@ -41,6 +42,7 @@ class Slack:
     x: Array
     ways: Array
     whole: Array
+    parallel: tuple[Parallel, ...]
 
     @staticmethod
     def of(drawing: Drawing, seconds: float = MOST_SECONDS) -> Slack | None:
@@ -53,17 +55,21 @@ class Slack:
             return None
         placed = drawn_at(drawing, solution_of(equations.unknowns, x))
         whole = ways.T @ searched.freedom.motions.whole
-        return Slack(drawing, placed, equations, x, ways, whole)
+        distances = (drawing.constraints[number - 1]
+                     for number in sorted(searched.freedom.crooked))
+        parallel = tuple(Parallel(each.first, each.second) for each in distances
+                         if isinstance(each, ParallelDistance))
+        return Slack(drawing, placed, equations, x, ways, whole, parallel)
 
-    def asked(self, constraints: Sequence[Constraint]) -> list[tuple[Constraint, Asked]]:
-        """Some constraints with what each asks."""
-        # A point on an edge tells where a tangent touches: so those are asked apart.
+    def demands(self, constraints: Sequence[Constraint]) -> list[tuple[Constraint, Demand]]:
+        """Some constraints, each with what it asks."""
+        # A point on an edge tells where a tangent touches: so those are looked at apart.
         on = [isinstance(each, PointOn) for each in constraints]
-        kinds = {is_on: iter(self._asked_together(
+        kinds = {is_on: iter(self._demands_together(
             [each for each, it in zip(constraints, on) if it is is_on])) for is_on in set(on)}
         return [(each, next(kinds[is_on])) for each, is_on in zip(constraints, on)]
 
-    def _asked_together(self, constraints: Sequence[Constraint]) -> list[Asked]:
+    def _demands_together(self, constraints: Sequence[Constraint]) -> list[Demand]:
         told = [(place, each) for place, constraint in enumerate(constraints)
                 for each in _without_joining(constraint)]
         own = self.drawing.constraints
@@ -73,13 +79,20 @@ class Slack:
         for number, row in enumerate(equations.rows):
             if row.source.by is not By.SHAPE and row.source.number > len(own):
                 rows[told[row.source.number - len(own) - 1][0]].append(number)
-        lengths = np.sqrt(row_squares(jacobian))
-        return [self._asked(dense(jacobian[numbers]), off[numbers], lengths[numbers])
-                for numbers in rows]
+        return [self._demand(dense(jacobian[numbers]), off[numbers]) for numbers in rows]
 
-    def _asked(self, rows: Array, off: Array, lengths: Array) -> Asked:
+    def _demand(self, rows: Array, off: Array) -> Demand:
+        lengths = np.linalg.norm(rows, axis=1)
         unit = rows / np.where(lengths > SEEN, lengths, 1.0)[:, None]
-        return Asked(unit @ self.ways, float(np.abs(off).max(initial=0.0)))
+        there = tuple(self.ways[self._of_points(row)] for row in unit)
+        return Demand(unit @ self.ways, there, float(np.abs(off).max(initial=0.0)))
+
+    def _of_points(self, row: Array) -> Indices:
+        """The unknowns that a row speaks of, of a point both x and y."""
+        coordinates = 2 * len(self.equations.unknowns.points)
+        columns = np.flatnonzero(np.abs(row) > SEEN)
+        pairs = columns[columns < coordinates]
+        return np.unique(np.concatenate([columns, pairs ^ 1]))
 
     def most_off_nm(self) -> float:
         """By how many nanometres a constraint may be off whose value was read off the places."""
@@ -87,11 +100,13 @@ class Slack:
 
 
 @dataclass(frozen=True)
-class Asked:
-    """What a constraint asks: how each of its rows, of length 1, changes with the ways in which a
-    drawing may move; and by how many nanometres it is off where the drawing is placed."""
+class Demand:
+    """What a constraint asks where a drawing is placed. by_way: how each of its rows, of length 1,
+    changes with the ways in which the drawing may move. there: how the points and radii of each row
+    move by these. off_nm: by how much it is off."""
 
     by_way: Array
+    there: tuple[Array, ...]
     off_nm: float
 
 
@@ -110,49 +125,52 @@ def _without_joining(constraint: Constraint) -> tuple[Constraint, ...]:
 
 
 @dataclass(frozen=True)
-class Taking:
-    """What of a drawing's slack is taken: directions of length 1 among its ways to move, square to
-    each other."""
+class Remaining:
+    """What of a drawing's slack remains: without some directions, of length 1 and square to each
+    other, among its ways to move."""
 
     slack: Slack
-    directions: Array
+    without: Array
 
     @staticmethod
-    def nothing(slack: Slack) -> Taking:
-        """Nothing is taken."""
-        return Taking(slack, np.zeros((0, slack.ways.shape[1])))
+    def all(slack: Slack) -> Remaining:
+        """All of it."""
+        return Remaining(slack, np.zeros((0, slack.ways.shape[1])))
 
-    def left(self) -> int:
-        """How many ways are left to move."""
-        return self.slack.ways.shape[1] - len(self.directions)
+    def count(self) -> int:
+        """How many ways to move remain."""
+        return self.slack.ways.shape[1] - len(self.without)
 
-    def left_to_the_whole(self) -> int:
+    def of_the_whole(self) -> int:
         """How many of these move the whole."""
-        return int(self._whole_left().shape[1])
+        return int(self._whole().shape[1])
 
-    def with_taken(self, asked: Asked, ties_the_whole: bool = False) -> Taking | None:
-        """With all that a constraint asks taken; None where some of it isn't free, or moves the
-        whole and may not: `ties_the_whole`."""
-        if not ties_the_whole and self._moves_with_the_whole(asked):
+    def after(self, demand: Demand, firmness: float = 0.0,
+              ties_the_whole: bool = False) -> Remaining | None:
+        """What remains once all that a constraint asks is fixed; None where some of it is fixed
+        already, or moves the whole and may not (`ties_the_whole`). firmness: which part of what
+        moves there it has to fix at least, from 0 to 1: less is nearly square to the motion."""
+        if not ties_the_whole and self._moves_with_the_whole(demand):
             return None
-        directions = self.directions
-        for row in asked.by_way:
-            rest = row - directions.T @ (directions @ row)
+        without = self.without
+        for row, there in zip(demand.by_way, demand.there):
+            rest = row - without.T @ (without @ row)
             size = float(np.linalg.norm(rest))
-            if size <= FIRM:
+            moving = np.linalg.norm(there - there @ without.T @ without)
+            if size <= max(FIRM, firmness * float(moving)):
                 return None
-            directions = np.vstack([directions, rest / size])
-        return Taking(self.slack, directions) if len(asked.by_way) else None
+            without = np.vstack([without, rest / size])
+        return Remaining(self.slack, without) if len(demand.by_way) else None
 
-    def _moves_with_the_whole(self, asked: Asked) -> bool:
-        return bool(np.abs(asked.by_way @ self._whole_left()).max(initial=0.0) > SEEN)
+    def _moves_with_the_whole(self, demand: Demand) -> bool:
+        return bool(np.abs(demand.by_way @ self._whole()).max(initial=0.0) > SEEN)
 
-    def _whole_left(self) -> Array:
-        """The motions of the whole that nothing taken changes."""
+    def _whole(self) -> Array:
+        """The motions of the whole that remain."""
         whole = self.slack.whole
-        if not len(self.directions) or not whole.shape[1]:
+        if not len(self.without) or not whole.shape[1]:
             return whole
-        _, sizes, combinations = np.linalg.svd(self.directions @ whole)
+        _, sizes, combinations = np.linalg.svd(self.without @ whole)
         sizes = np.concatenate([sizes, np.zeros(whole.shape[1] - len(sizes))])
         found: Array = whole @ combinations[sizes <= SEEN].T
         return found

@@ -12,7 +12,8 @@ from pertxogai.drawing import (
     AngleBetween, Constraint, Degrees, Diameter, Distance, Drawing, Length, PointLineDistance,
     Radius, XDistance, YDistance)
 from pertxogai.judging import (
-    DrawingRefused, Judgement, Names, PlaceBy, Question, Trial, first_good, judge_at_once)
+    DrawingRefused, GoodJudgement, JudgedDrawing, Names, PlaceBy, Question, Trial, first_good,
+    good_of, judge_at_once)
 from pertxogai.judging.measure import Limit
 from pertxogai.judging.remembering import Remembering
 from pertxogai.judging.trials import written_by
@@ -33,9 +34,10 @@ Valued = (Length, Distance, XDistance, YDistance, PointLineDistance, Radius, Dia
 
 @dataclass(frozen=True)
 class State:
-    """What the program says of a drawing. lacks: its own count of what is missing, of the spelled
-    sketch. left_out: how many constraints couldn't be spelled. unplaced: how many of its parts have
-    no places; None where that wasn't asked."""
+    """What the program says of a drawing. lacks: how many of the constraints that its spelled
+    sketch needs are missing, by the counts of the program's report. left_out: how many constraints
+    couldn't be spelled. unplaced: how many of its parts have no places; None where that wasn't
+    asked."""
 
     verdict: Verdict
     is_placed: bool
@@ -46,9 +48,9 @@ class State:
     @staticmethod
     def of(trial: Trial) -> State:
         """What a trial says."""
-        sketch = trial.spelled.sketch
+        check = trial.check
         return State(trial.verdict, isinstance(trial.solved, Solved),
-                     2 * len(sketch.elements) - 3 - len(sketch.constraints),
+                     0 if check is None else 2 * check.elements - 3 - check.constraints,
                      len(trial.spelled.left_out))
 
     def is_better_than(self, before: State) -> bool:
@@ -60,15 +62,15 @@ class State:
         return self.is_placed or self.verdict is Verdict.OPEN and self.lacks < before.lacks
 
 
-class Asking:
-    """Asks the program about drawings, so many and for so many seconds at most."""
+class Trials:
+    """Tries drawings by the program, so many and for so many seconds at most."""
 
     def __init__(self, program: Solver, limit: Limit) -> None:
         self._program, self._limit = Remembering(Wider(program, limit)), limit
         self._left, self._end = MOST_ASKED, monotonic() + MOST_SECONDS
 
     def is_over(self) -> bool:
-        """Whether no more may be asked."""
+        """Whether no more may be tried."""
         return self._left <= 0 or monotonic() >= self._end
 
     def state(self, drawing: Drawing, by_parts: bool = False) -> State | None:
@@ -104,16 +106,14 @@ class Asking:
             first = first or state
         return first
 
-    def good(self, drawing: Drawing) -> Judgement | None:
-        """The judgement on a drawing that is well and placed, and on which each constraint is met;
-        None where it isn't so. Raises ProgramError."""
+    def good(self, drawing: Drawing) -> GoodJudgement | None:
+        """The judgement on a drawing that is good; None where it isn't. Raises ProgramError."""
         try:
-            judged = judge_at_once(drawing, self._program, limit=self._limit)
+            judgement = judge_at_once(drawing, self._program, limit=self._limit)
         except (DrawingRefused, Refusal, NotHeld):
             return None
-        if judged.solution is None or any(self._limit.beyond(judged.deviations)):
-            return None
-        return judged
+        found = good_of(JudgedDrawing("", drawing, judgement, limit=self._limit))
+        return found if isinstance(found, GoodJudgement) else None
 
     def without_room(self, drawing: Drawing, places: range) -> Constraint | None:
         """Of the constraints of a drawing at some places, from 0, the last by which it has no

@@ -6,11 +6,13 @@ from dataclasses import dataclass
 
 from pertxogai.drawing import Drawing
 from pertxogai.judging.as_stored import StoredOffs
+from pertxogai.judging.departures import Departure, warnings
 from pertxogai.judging.finding import Finding, Nearly, PlacesBy
 from pertxogai.judging.judgement import Judgement
 from pertxogai.judging.measure.deviation import Deviation, Unit, greatest
 from pertxogai.judging.measure.limit import Limit
 from pertxogai.judging.measure.solution import Solution
+from pertxogai.judging.printed import is_tied
 
 
 @dataclass(frozen=True)
@@ -49,6 +51,15 @@ class JudgedDrawing:
         if self.judgement.solution is not None:
             return PlacesBy.PROGRAM
         return self.finding.places_by if self.finding else None
+
+    def warnings(self) -> tuple[Departure, ...]:
+        """What lies otherwise than it is drawn, where it lies: as the judgement has it, else as it
+        was found."""
+        if self.judgement.solution is not None or not self.finding or not self.finding.solution:
+            return self.judgement.warnings
+        asked = self.judgement.asked
+        is_free = not is_tied(asked.axes, asked.spelled)
+        return warnings(self.drawing, self.finding.solution, is_free)
 
     def worst(self) -> tuple[Deviation, ...]:
         """The greatest deviation in nm and that in ppb, where something was measured so."""

@@ -48,7 +48,7 @@ def drawing_json(judged: JudgedDrawing) -> dict[str, object]:
         "spare": [spare_json(each) for each in judgement.surplus],
         **_placed_json(judged),
         "by_numbers": {"unmet": None if judgement.unmet is None else list(judgement.unmet)},
-        "warnings": [each.text() for each in judgement.warnings],
+        "warnings": [each.text() for each in judged.warnings()],
         **({"as_stored": stored_json(judged.stored, judged.drawing)} if judged.stored else {}),
     }
 
@@ -141,7 +141,7 @@ def drawing_lines(judged: JudgedDrawing) -> Iterator[str]:
     yield from _proposed_lines(judged)
     yield from _unmet_lines(judgement)
     yield from _surplus_lines(judgement)
-    yield from (f"  look: {warning.text()}" for warning in judgement.warnings)
+    yield from (f"  look: {warning.text()}" for warning in judged.warnings())
     yield from _nearly_lines(judged)
     if judged.stored is not None:
         yield from stored_lines(judged.stored, judged.drawing)
