@@ -7,10 +7,11 @@ import pytest
 
 from pertxogai.commands import main
 from pertxogai.drawing import read_drawing
-from pertxogai.judging import judge
-from pertxogai.judging.groups import MOST, groups_of
+from pertxogai.judging import judge, judge_sketch
+from pertxogai.judging.groups import groups_of
 from pertxogai.judging.judgement import Judgement
 from pertxogai.output.drawing_text import JudgedDrawing, drawing_json, drawing_lines
+from pertxogai.output.sketch_text import sketch_json, sketch_lines
 from pertxogai.program import Program
 from pertxogai.program.reports import Verdict
 
@@ -73,14 +74,32 @@ def test_a_repeat_says_that_it_repeats(program: Program, tmp_path, capsys) -> No
     assert [each["follows_from"] for each in sketch["spare"]] == [["Again"], ["First"]]
 
 
-def test_of_many_only_the_first_are_asked_for(program: Program) -> None:
-    """A point on a ruler of seventy lengths, each told twice."""
+def test_of_many_only_the_first_are_asked_for(program: Program, monkeypatch) -> None:
+    """Points of which four lengths from one point are told twice."""
     text = "point O 0 0\n" + "".join(
         f"point P{number} {number} 0\ndistance O P{number} {number}\n"
-        f"Again{number}: distance O P{number} {number}\n" for number in range(1, 71))
+        f"Again{number}: distance O P{number} {number}\n" for number in range(1, 5))
     judged = judge(read_drawing(text), program)
     numbers = [each.number for each in judged.surplus]
-    assert len(numbers) == 140
+    assert len(numbers) == 8 and all(each.others for each in judged.surplus)
+    monkeypatch.setattr("pertxogai.judging.groups.MOST", 2)
     groups = groups_of(judged.names, program, numbers, judged.asked.check)
-    assert 0 < len(groups) <= MOST
-    assert set(groups) <= set(numbers[:MOST])
+    assert groups.keys() == set(numbers[:2])
+
+
+SQUARE = ("sketch 1\npoint A 0 0\npoint B 4 0\npoint C 4 3\npoint D 0 3\ndistance A B 4\n"
+          "distance A C 5\ndistance A D 3\ndistance B C 3\ndistance B D 5\ndistance C D 4\nend\n")
+
+
+def test_of_a_sketch_each_that_is_left_out_follows_from_others(program: Program) -> None:
+    judged = judge_sketch("square", SQUARE, program)
+    assert "    c6 follows from c1, c2, c3, c4, c5" in list(sketch_lines(judged))
+    part, = sketch_json(judged)["excess"]
+    assert [each["follows_from"] for each in part["left_out"]] == [[1, 2, 3, 4, 5]]
+
+
+def test_a_sketch_that_would_take_long_is_not_asked_about(program: Program, monkeypatch) -> None:
+    monkeypatch.setattr("pertxogai.judging.judged_sketch.WORK", 35)
+    judged = judge_sketch("square", SQUARE, program)  # One too many of six: 36.
+    assert judged.why is None and judged.excess is not None
+    assert not any("follows from" in line for line in sketch_lines(judged))

@@ -14,7 +14,7 @@ from pertxogai.judging.naming import Names
 from pertxogai.judging.trials import written_by
 from pertxogai.program import Solver
 from pertxogai.program.reports import CheckReport, read_why
-from pertxogai.program.reports.why import WORK
+from pertxogai.program.reports.why import WORK, work_of
 from pertxogai.spelling.facts import Owner
 
 MOST = 64
@@ -26,7 +26,7 @@ def groups_of(names: Names, program: Solver, numbers: Sequence[int],
     """The others in the group of each of these dimensions, by its place: of the first of them, as
     many as are answered soon, and only where the program leaves a line of it out. check: what the
     program says of the sketch. Raises ProgramError."""
-    most = min(MOST, WORK // max(1, check.too_many() * check.constraints))
+    most = min(MOST, WORK // max(1, work_of(check)))
     found = {number: _others(names, program, Owner(number)) for number in numbers[:most]}
     return MappingProxyType({number: others for number, others in found.items() if others})
 

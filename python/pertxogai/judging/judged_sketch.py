@@ -14,7 +14,7 @@ from pertxogai.program.reports import (
     PartsReport, Plan, RangeFault, Refused, Solved, Spare, TurnedFault, Verdict, WhyReport,
     read_answer, read_check, read_excess, read_fault, read_parts, read_plan, read_refusal,
     read_solve, read_spare, read_why)
-from pertxogai.program.reports.why import WORK
+from pertxogai.program.reports.why import WORK, work_of
 
 
 class TextRefused(Exception):
@@ -88,7 +88,7 @@ def judge_sketch(
     spare = read_spare(_written(name, "spare", text, asks))
     excess = read_excess(_written(name, "excess", text, asks, within))
     why = None
-    if check.too_many() * check.constraints <= WORK:
+    if work_of(check) <= WORK:
         why = read_why(_written(name, "why", text, asks))
     return JudgedSketch(name, sketch, check, None, None, None, spare, excess, parts, limit,
                         why=why)

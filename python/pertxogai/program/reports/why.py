@@ -6,12 +6,12 @@ import re
 from dataclasses import dataclass
 
 from pertxogai.language.constraints import Block, Constraint
-from pertxogai.program.reports.check import Part, take_any_part
+from pertxogai.program.reports.check import CheckReport, Part, take_any_part
 from pertxogai.program.reports.plan import take_constraint
 from pertxogai.program.reports.rows import COUNT, Rows, whole
 
-WORK = 40_000
-"""What `why` answers within a second or so: constraints times those of them that are too many."""
+WORK = 4_000_000
+"""What `why` answers within a second or two, by `work_of`."""
 _WHY = re.compile(f"why ({COUNT})")
 _FOLLOWS = re.compile(f"c({COUNT}) : (.*) follows from((?: c{COUNT})+)")
 
@@ -52,6 +52,12 @@ class WhyReport:
     def text(self) -> str:
         """The report as the program writes it."""
         return f"why {len(self.parts)}\n" + "".join(part.text() for part in self.parts)
+
+
+def work_of(check: CheckReport) -> int:
+    """How much `why` has to do for a sketch of which this is said: it takes as long, about, as the
+    square of the constraints times those of them that are too many."""
+    return check.too_many() * check.constraints ** 2
 
 
 def read_why(text: str) -> WhyReport:
