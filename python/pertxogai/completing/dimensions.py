@@ -70,7 +70,8 @@ def dimensions(figure: Figure, kind: Kind, base: PointRef) -> Iterator[Constrain
 
 
 def _sizes(figure: Figure) -> Iterator[Constraint]:
-    yield from (size_of(figure, rim.name) for rim in (*figure.circles, *figure.arcs))
+    names = [*(circle.name for circle in figure.circles), *(arc.name for arc in figure.arcs)]
+    yield from (size_of(figure, name) for name in names)
 
 
 def size_of(figure: Figure, name: str) -> Constraint:
