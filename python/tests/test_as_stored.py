@@ -150,3 +150,21 @@ def test_of_many_files_it_is_told_as_json(program: Program, tmp_path, capsys) ->
     for line in capsys.readouterr().out.splitlines():
         sketch, = json.loads(line)["sketches"]
         assert sketch["as_stored"]["length_tolerance_nm"] == 0
+
+
+ROUNDED = "segment A 0 0 {} {}\nfixed A.start\nA1: angle XAxis A {}\nlength A 10\n"
+
+
+def test_a_word_of_which_a_line_is_rounded_is_measured_here_whole(program: Program) -> None:
+    """The edge runs at the arctangent of 1/10, which is 0.2894 degrees less than six."""
+    found = stored(ROUNDED.format(10, 1, "6deg"), program)
+    assert not any("A1" in each.names for each in found.by_program)
+    measured = {each.number: each for each in found.others}
+    assert measured[2].unit is Unit.PPB and 5_000_000 < measured[2].amount < 5_100_000
+
+
+def test_an_angle_that_is_exact_is_measured_by_the_program(program: Program) -> None:
+    """A rise of 3 in 4, on an edge of 10 mm, is 6 mm and 8 mm."""
+    found = stored(ROUNDED.format(8, 6, "3/4"), program)
+    told = [each for each in found.by_program if "A1" in each.names]
+    assert told and all(each.amount == 0 and not each.turned for each in told)

@@ -7,7 +7,7 @@ program can't be asked so is measured here, on the same places: what isn't spell
 said, and what is told with lines or points of help, which no file has."""
 from __future__ import annotations
 
-from collections.abc import Iterator, Mapping
+from collections.abc import Iterable, Iterator, Mapping, Sequence
 from dataclasses import dataclass, replace
 from fractions import Fraction
 from math import isqrt
@@ -24,7 +24,7 @@ from pertxogai.language.numbers import nearest_whole
 from pertxogai.language.places import Placed, PlacedLine, PlacedPoint
 from pertxogai.program import Solver
 from pertxogai.program.reports import Measured, MeasuredOff, NotAReport, read_answer
-from pertxogai.spelling.facts import DATUM, ORIGIN_KNOT, Facts, Knot
+from pertxogai.spelling.facts import DATUM, ORIGIN_KNOT, Facts, Knot, Owner
 from pertxogai.spelling.rails import Rail
 from pertxogai.spelling.writing import Track
 
@@ -48,8 +48,8 @@ class StoredOff:
 class StoredOffs:
     """How far the stored places are off.
 
-    by_program: each of the words that the program measured, in the order of their first lines; of
-    several lines that the same words say the one that is off most. length_nm and angle_ppb: the
+    by_program: each of the words that the program measured whole, in the order of their first
+    lines; of several lines that the same words say the one that is off most, in nm and in ppb. length_nm and angle_ppb: the
     least tolerances within which the program says that these hold; None where it wasn't asked.
     others: what else the drawing says, and what its shapes imply, as it was measured here."""
 
@@ -63,11 +63,14 @@ def as_stored(judged: Judgement, program: Solver) -> StoredOffs:
     """How far the stored places of a judged drawing are off. Raises ProgramError."""
     stored = _Stored(judged)
     told = _asked(judged, stored, program)
-    offs, numbers = _by_words(judged, stored.lines, told.offs if told else ())
+    owners = judged.asked.spelled.owners
+    numbers = {each.number for place in stored.lines for each in _words(owners[place])
+               if not each.shape}
     others = tuple(each for each in measure(judged.names.drawing, _solution(judged.names.drawing))
                    if each.number not in numbers)
     if told is None:
         return StoredOffs((), None, None, others)
+    offs = _by_words(judged, stored.lines, told.offs)
     length = whole_up(Fraction(told.tolerances.length_nm, judged.asked.spelled.scale))
     return StoredOffs(offs, length, told.tolerances.angle_ppb, others)
 
@@ -92,26 +95,47 @@ def _asked(judged: Judgement, stored: _Stored, program: Solver) -> Measured | No
     sketch = replace(spelled.sketch, elements=elements, constraints=lines)
     places = "".join(f"{each.text()}\n" for each in stored.places.values())
     words = "measure", f"within={min(MOST, judged.limit.amount * spelled.scale)}"
-    told = read_answer(words, program.ask(words, f"{sketch.text()}{places}end\n"))
+    answer = program.ask(words, f"{sketch.text()}{places}end\n")
+    told = read_answer(words, answer)
     if not isinstance(told, Measured):
-        raise NotAReport("the program doesn't measure the places that it was given")
+        raise NotAReport(f"the program doesn't measure the stored places: {answer.text.strip()}")
     return told
 
 
-def _by_words(judged: Judgement, lines: tuple[int, ...],
-              offs: tuple[MeasuredOff, ...]) -> tuple[tuple[StoredOff, ...], set[int]]:
-    """What the program measured, by the words that say each line, and the places of these words.
-    Of lines of help alone nothing is told."""
-    found: dict[tuple[str, ...], StoredOff] = {}
-    numbers: set[int] = set()
+def _by_words(judged: Judgement, lines: Sequence[int],
+              offs: Sequence[MeasuredOff]) -> tuple[StoredOff, ...]:
+    """What the program measured of these lines, by the words that say each; of several lines that
+    the same words say, the one that is off most in each unit. Of lines of help alone nothing is
+    told."""
+    found: dict[tuple[tuple[str, ...], Unit], StoredOff] = {}
     for place, off in zip(lines, offs):
-        owners = [each for each in judged.asked.spelled.owners[place] if each.number]
-        numbers |= {each.number for each in owners if not each.shape}
-        names = judged.names.owners(owners)
+        names = judged.names.owners(_words(judged.asked.spelled.owners[place]))
         mine = _stored_off(names, off, judged.asked.spelled.scale)
-        if names and (names not in found or abs(mine.amount) > abs(found[names].amount)):
-            found[names] = mine
-    return tuple(found.values()), numbers
+        before = found.get((names, mine.unit))
+        if before is not None:
+            most = max(before, mine, key=lambda each: abs(each.amount))
+            mine = replace(most, turned=before.turned or mine.turned)
+        if names:
+            found[names, mine.unit] = mine
+    return tuple(found.values())
+
+
+def _words(owners: Iterable[Owner]) -> list[Owner]:
+    """Those that say a line, without what is only of help."""
+    return [each for each in owners if each.number]
+
+
+def _whole(owners: Sequence[Sequence[Owner]], lines: Iterable[int]) -> tuple[int, ...]:
+    """Those of these lines of which each word has all its lines among them: a word of which a part
+    isn't measured counts as measured nowhere."""
+    left = set(lines)
+    while True:
+        partly = {word for place, line in enumerate(owners) if place not in left
+                  for word in _words(line)}
+        gone = {place for place in left if partly.intersection(_words(owners[place]))}
+        if not gone:
+            return tuple(sorted(left))
+        left -= gone
 
 
 def _stored_off(names: tuple[str, ...], off: MeasuredOff, scale: int) -> StoredOff:
@@ -123,7 +147,7 @@ def _stored_off(names: tuple[str, ...], off: MeasuredOff, scale: int) -> StoredO
 class _Stored:
     """The elements of a sketch where their drawing has them, so many times as large as the sketch
     is. places: by their names. lines: the places of the constraints between these that are spelled
-    just as they are said."""
+    just as they are said, each by words of which all lines are."""
 
     def __init__(self, judged: Judgement) -> None:
         self._asked = judged.asked
@@ -134,7 +158,7 @@ class _Stored:
             each.name: at for each in spelled.sketch.elements
             if (at := self._place(each)) is not None}
         exact = not (judged.frozen or judged.grown)
-        self.lines = tuple(self._measurable()) if exact else ()
+        self.lines = _whole(spelled.owners, self._measurable()) if exact else ()
 
     def _measurable(self) -> Iterator[int]:
         spelled = self._asked.spelled
