@@ -92,7 +92,8 @@ class Slack:
         coordinates = 2 * len(self.equations.unknowns.points)
         columns = np.flatnonzero(np.abs(row) > SEEN)
         pairs = columns[columns < coordinates]
-        return np.unique(np.concatenate([columns, pairs ^ 1]))
+        found: Indices = np.unique(np.concatenate([columns, pairs ^ 1]))
+        return found
 
     def most_off_nm(self) -> float:
         """By how many nanometres a constraint may be off whose value was read off the places."""

@@ -7,7 +7,7 @@ program can't be asked so is measured here, on the same places: what isn't spell
 said, and what is told with lines or points of help, which no file has."""
 from __future__ import annotations
 
-from collections.abc import Iterable, Iterator, Mapping, Sequence
+from collections.abc import Collection, Iterable, Iterator, Mapping, Sequence
 from dataclasses import dataclass, replace
 from fractions import Fraction
 from math import isqrt
@@ -125,7 +125,7 @@ def _words(owners: Iterable[Owner]) -> list[Owner]:
     return [each for each in owners if each.number]
 
 
-def _whole(owners: Sequence[Sequence[Owner]], lines: Iterable[int]) -> tuple[int, ...]:
+def _whole(owners: Sequence[Collection[Owner]], lines: Iterable[int]) -> tuple[int, ...]:
     """Those of these lines of which each word has all its lines among them: a word of which a part
     isn't measured counts as measured nowhere."""
     left = set(lines)

@@ -289,7 +289,8 @@ def _part(judgement: Judgement, part: Part) -> dict[str, object]:
 
 class SpareJson(TypedDict):
     """A dimension that may go, as JSON. off, unit: how far it is off without it; rest: what the
-    others are then; null where that isn't known."""
+    others are then; null where that isn't known. follows_from: the names of the others that it
+    repeats or contradicts, by the program's `why`."""
 
     number: int
     name: str
@@ -297,6 +298,7 @@ class SpareJson(TypedDict):
     off: int | None
     unit: str | None
     rest: str | None
+    follows_from: list[str]
 
 
 def spare_json(each: Surplus) -> SpareJson:

@@ -128,7 +128,7 @@ def _excess(over: OverPart, groups: Mapping[int, tuple[int, ...]]) -> dict[str, 
     """What is left out of a part that is over."""
     return {
         "part": over.part.number,
-        "left_out": [{**_left_out(it), "follows_from": list(groups.get(it.number, ()))}
+        "left_out": [_left_out(it) | {"follows_from": list(groups.get(it.number, ()))}
                      for it in over.left_out],
         "fault": over.fault.text().strip() if over.fault else None,
         "stays_over": over.stays_over(),

@@ -47,7 +47,8 @@ export interface Line {
 
 /**
  * A dimension that may go, as JSON. off, unit: how far it is off without it; rest: what the
- * others are then; null where that isn't known.
+ * others are then; null where that isn't known. follows_from: the names of the others that it
+ * repeats or contradicts, by the program's `why`.
  */
 export interface SpareJson {
   number: number;
@@ -56,6 +57,7 @@ export interface SpareJson {
   off: number | null;
   unit: string | null;
   rest: string | null;
+  follows_from: string[];
 }
 
 /**
