@@ -49,9 +49,10 @@ class StoredOffs:
     """How far the stored places are off.
 
     by_program: each of the words that the program measured whole, in the order of their first
-    lines; of several lines that the same words say the one that is off most, in nm and in ppb. length_nm and angle_ppb: the
-    least tolerances within which the program says that these hold; None where it wasn't asked.
-    others: what else the drawing says, and what its shapes imply, as it was measured here."""
+    lines; of several lines that the same words say the one that is off most, in nm and in ppb.
+    length_nm and angle_ppb: the least tolerances within which the program says that these hold;
+    None where it wasn't asked. others: what else the drawing says, and what its shapes imply, as
+    it was measured here."""
 
     by_program: tuple[StoredOff, ...]
     length_nm: int | None

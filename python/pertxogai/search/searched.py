@@ -62,16 +62,16 @@ class Searched:
 
     def _unsolved(self) -> Finding:
         """What is found without places: the freedoms are those without the latest constraint of
-        each contradiction. Where the search has ended with an edge or a rim that has shrunk to
-        nothing, it is stuck, and nothing is known to contradict."""
+        what is taken for a contradiction. Where the search has ended with an edge or a rim that has
+        shrunk to nothing, it is stuck, and nothing is told to contradict."""
+        groups = contradictions(self.equations, self.found, self.freedom)
         is_stuck = has_shrunk(self.equations, self.found.x)
-        groups = () if is_stuck else contradictions(self.equations, self.found, self.freedom)
         drawing = self.drawing
         for latest in sorted({numbers[0] for numbers in groups}, reverse=True):
             drawing = without(drawing, latest)
         rest = Searched(drawing, REST_SECONDS).freedom if groups else self.freedom
         return Finding(rest.count, rest.motions.of_the_whole, True, repeats=self._repeats(),
-                       contradictions=tuple(map(self._names, groups)))
+                       contradictions=() if is_stuck else tuple(map(self._names, groups)))
 
     def _repeats(self) -> tuple[Group, ...]:
         """What says what others do, the latest first."""
