@@ -17,7 +17,8 @@ from typing import Any
 from pertxogai.commands import main
 
 SECONDS = float(os.environ.get("HUNT_SECONDS", "60"))
-"""An answer takes no longer, or is none; on a machine that is busy it may be given more."""
+"""An answer takes no more of a processor, or is none: on a machine that does something else besides,
+the clock says nothing. The program has a limit of its own."""
 
 
 class Late(BaseException):
@@ -73,10 +74,10 @@ def _within(seconds: float) -> Iterator[None]:
     def late(_: int, __: FrameType | None) -> None:
         raise Late
 
-    before = signal.signal(signal.SIGALRM, late)
-    signal.setitimer(signal.ITIMER_REAL, seconds)
+    before = signal.signal(signal.SIGPROF, late)
+    signal.setitimer(signal.ITIMER_PROF, seconds)
     try:
         yield
     finally:
-        signal.setitimer(signal.ITIMER_REAL, 0)
-        signal.signal(signal.SIGALRM, before)
+        signal.setitimer(signal.ITIMER_PROF, 0)
+        signal.signal(signal.SIGPROF, before)

@@ -48,7 +48,7 @@ class Cause(Enum):
     CONFLICT_CALLED_REPEAT = "a contradiction is called a repeat"
     CONFLICT_SILENT = "a contradiction is passed over in silence"
     TRACEBACK = "a traceback"
-    LATE = "no answer in a minute"
+    LATE = "no answer in a minute of a processor"
     REFUSED = "a sound drawing is refused"
 
 
