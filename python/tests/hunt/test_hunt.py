@@ -125,6 +125,15 @@ def test_a_part_that_lies_mirrored_is_found() -> None:
     assert causes(plate_of(plain), places=places) == {Cause.GOOD_BUT_TURNED_OVER}
 
 
+def test_three_points_on_a_line_that_rounding_turns_are_not_mirrored() -> None:
+    """The middle of a segment from the origin lies 4 nm above it, and is drawn below."""
+    text = ("segment S1 1 1 -20 1\npoint P2 -10 1\nmidpoint P2 S1\ncoincident S1.start Origin\n"
+            "length S1 22\nangle S1 176.396deg\n")
+    ends = {"start": {"x_nm": 0, "y_nm": 0}, "end": {"x_nm": -21956492, "y_nm": 1382924}}
+    places = {"S1": ends, "P2": {"at": {"x_nm": -10978246, "y_nm": 691458}}}
+    assert causes(plate_of(text), places=places) == set()
+
+
 def test_a_verdict_that_is_not_so_is_found() -> None:
     whole, loose = plate_of(), plate_of(PLATE.replace("x Hole 45\n", ""))
     twice = plate_of(PLATE + "length PlateTop 120\n", Kind.REPEATED)

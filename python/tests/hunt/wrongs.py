@@ -23,8 +23,9 @@ ROUNDING_NM, ROUNDING_PPB = 4.0, 1e7
 right; no line is so short that this turns it further."""
 NM = 1e6
 STEP_MM = 1e-6
-FLAT_MM2 = 1e-6
-"""Three points of which the triangle is no larger lie on one line."""
+FLAT_MM = 1e-3
+"""A triangle that is no higher on a side as long as all of the drawing is flat: whole nanometres turn
+it over."""
 
 
 class Cause(Enum):
@@ -112,9 +113,10 @@ def _is_turned_over(text: str, places: dict[str, Any]) -> bool:
     """Whether each three points that don't lie on one line go round the other way than they are
     drawn."""
     model = Model.of(read(text))
-    drawn, placed = (turns(model, at) for at in (model.index.vector(model.sheet.drawn, model.sheet.radii),
-                                                 _vector(model, places)))
-    told = (np.abs(drawn) > FLAT_MM2) & (np.abs(placed) > FLAT_MM2)
+    at = model.index.vector(model.sheet.drawn, model.sheet.radii), _vector(model, places)
+    drawn, placed = (turns(model, each) for each in at)
+    flat = [FLAT_MM * np.ptp(np.append(each.real, 0)) for each in at]
+    told = (np.abs(drawn) > flat[0]) & (np.abs(placed) > flat[1])
     return bool(told.any()) and not (drawn * placed > 0)[told].any()
 
 
