@@ -6,7 +6,7 @@ fn the_text_goes_where_there_is_room(rt: HostRuntime) -> Result<(), Fail> {
     let rows: [(&[u8], &[u8], i32, &[u8; 9], usize); 4] = [
         (b"check", b"point", 1, b"refused l", 25),
         (b"  check  order=last ", b"", 1, b"refused l", 25),
-        (b"\xFF", b"", 2, b"usage: sk", 223),
+        (b"\xFF", b"", 2, b"usage: sk", 244),
         (b"session", b"", 0, b"\0\0\0\0\0\0\0\0\0", 0),
     ];
     for (words, input, status, front, length) in rows {
