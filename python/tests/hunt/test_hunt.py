@@ -134,6 +134,17 @@ def test_three_points_on_a_line_that_rounding_turns_are_not_mirrored() -> None:
     assert causes(plate_of(text), places=places) == set()
 
 
+@pytest.mark.parametrize("kind, found", [
+    (Kind.COMPLETE, {Cause.GOOD_BUT_TURNED_OVER}),
+    (Kind.ELSEWHERE, set()),
+])
+def test_what_is_moved_past_the_origin_is_not_mirrored(kind: Kind, found: set[Cause]) -> None:
+    """An upright edge is drawn to the left of the origin, and lies to the right of it."""
+    text = "segment S1 -1 -5 -1 5\nlength S1 10\nvertical S1\nx S1.end +2\n"
+    ends = {"start": {"x_nm": 2000000, "y_nm": -5000000}, "end": {"x_nm": 2000000, "y_nm": 5000000}}
+    assert causes(plate_of(text, kind), places={"S1": ends}) == found
+
+
 def test_a_verdict_that_is_not_so_is_found() -> None:
     whole, loose = plate_of(), plate_of(PLATE.replace("x Hole 45\n", ""))
     twice = plate_of(PLATE + "length PlateTop 120\n", Kind.REPEATED)

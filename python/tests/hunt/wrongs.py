@@ -9,7 +9,7 @@ from typing import Any
 import numpy as np
 
 from .asking import Answer
-from .making import Made, turns
+from .making import Kind, Made, turns
 from .plane import Plane, Vector, real, size
 from .reading import LEVELS, Spot, Word, read
 from .rows import Row
@@ -105,18 +105,22 @@ def _good(made: Made, answer: Answer) -> Iterator[Found]:
         yield Found(Cause.GOOD_BUT_SIZELESS, " ".join(sorted(sizeless)))
     elif made.truth.lacks:
         yield Found(Cause.GOOD_BUT_LACKS, f"{made.truth.lacks}")
-    if _is_turned_over(made.text, answer.said.get("places") or {}):
+    if _is_turned_over(made, answer.said.get("places") or {}):
         yield Found(Cause.GOOD_BUT_TURNED_OVER)
 
 
-def _is_turned_over(text: str, places: dict[str, Any]) -> bool:
+def _is_turned_over(made: Made, places: dict[str, Any]) -> bool:
     """Whether each three points that don't lie on one line go round the other way than they are
-    drawn."""
-    model = Model.of(read(text))
+    drawn; of what is tied elsewhere than it is drawn without the origin, on whose other side it may
+    come to lie."""
+    model = Model.of(read(made.text))
     at = model.index.vector(model.sheet.drawn, model.sheet.radii), _vector(model, places)
     drawn, placed = (turns(model, each) for each in at)
     flat = [FLAT_MM * np.ptp(np.append(each.real, 0)) for each in at]
     told = (np.abs(drawn) > flat[0]) & (np.abs(placed) > flat[1])
+    if made.kind is Kind.ELSEWHERE:
+        own = np.array([name != "Origin" for name in model.sheet.drawn])
+        told &= own[:, None, None] & own[None, :, None] & own[None, None, :]
     return bool(told.any()) and not (drawn * placed > 0)[told].any()
 
 
