@@ -542,3 +542,17 @@ def test_what_is_well_and_says_too_much_by_rank_says_among_what(program):
             in drawing_lines(judged))
     fewer = judge(read_drawing(BY_A_MIDDLE.replace("End: x S.end +30\n", "")), program)
     assert fewer.verdict is Verdict.WELL and fewer.too_many == ()
+
+
+def test_what_is_well_by_its_count_alone_is_over(program):
+    """P2's x is told twice, and so L3.end's x is 50.3; nothing tells P2's height. L3 runs 27.03 to
+    the left and is 27.03 * hypot(5, 2) / 5 long, so of a triangle of 29.1123, 24.5 and 37 the
+    height on 24.5 is told too: by Heron's formula it is 29.0678, and 20.648 is told."""
+    found = judge(read_drawing(
+        "point P2 -31 36\nsegment L3 71 5 50 -3\nsegment L4 L3.end 35 16\nx P2 L3.end +81\n"
+        "distance L3.start L4.end 37\nlength L4 24.5\nangle L3 2/5\nx P2 -30.7\n"
+        "Height: distance L3.start L4 20.648\nx L3.start +77.33\n"), program)
+    assert found.verdict is Verdict.OVER and len(found.surplus) == 7
+    height = next(each for each in found.surplus if each.name == "Height")
+    assert height.off.amount == pytest.approx(8_419_800, abs=300)
+    assert found.loose == ("nothing tells the height of P2",)

@@ -7,6 +7,7 @@ from __future__ import annotations
 from collections.abc import Iterator, Sequence
 from dataclasses import dataclass, replace
 from enum import Enum
+from functools import partial
 from itertools import islice
 
 from pertxogai.drawing import Drawing
@@ -96,7 +97,7 @@ def first_good(question: Question, freeze: bool = False, before: Drawing = Drawi
         asked = _best_style(question, spellings, quick)
         if isinstance(asked.solved, Solved):
             return asked
-        if best is None or _worth(asked) > _worth(best):
+        if best is None or _worth(question, asked) > _worth(question, best):
             best = asked
     assert best is not None
     if freeze and best.verdict is Verdict.OPEN:
@@ -116,7 +117,7 @@ def _best_style(question: Question, spellings: Interpretation, quick: bool) -> T
             continue
         if _is_enough(trial, quick and twice):
             return trial
-        best = trial if best is None else max(best, trial, key=_worth)
+        best = trial if best is None else max(best, trial, key=partial(_worth, question))
     if best is not None and (best.verdict is Verdict.OVER or not twice):
         return best
     return placed(ask(question, axes, Style.VALUES, Care(insist=True)), question.program)
@@ -158,8 +159,9 @@ def finer(question: Question, asked: Trial) -> Trial:
         return asked
     fine = placed(ask(question, asked.axes, asked.spelled.style, Care(fine=True)),
                   question.program)
-    return replace(fine, grown=asked.grown + fine.grown,
-                   frozen=asked.frozen) if _worth(fine) >= _worth(asked) else asked
+    if _worth(question, fine) < _worth(question, asked):
+        return asked
+    return replace(fine, grown=asked.grown + fine.grown, frozen=asked.frozen)
 
 
 def ask(question: Question, axes: Axes, style: Style, care: Care = Care()) -> Trial:
@@ -288,7 +290,8 @@ def _frozen(question: Question, asked: Trial) -> Trial:
             trial = ask(question, choice.axes, asked.spelled.style)
             trial = replace(placed(trial, question.program), grown=asked.grown + trial.grown,
                             frozen=asked.frozen | {choice.owner})
-            if trial.verdict is not Verdict.OVER and _worth(trial) > _worth(best):
+            if (trial.verdict is not Verdict.OVER
+                    and _worth(question, trial) > _worth(question, best)):
                 best = trial
         if best is asked or best.verdict is Verdict.WELL:
             return best
@@ -296,9 +299,21 @@ def _frozen(question: Question, asked: Trial) -> Trial:
     return asked
 
 
-def _worth(asked: Trial) -> tuple[int, bool, int, int]:
+def _worth(question: Question, asked: Trial) -> tuple[int, bool, int, int]:
     """What is well and placed before what is well, then what is over, then what leaves less out,
-    then the fewer parts."""
-    order = {Verdict.WELL: 2, Verdict.OVER: 1, Verdict.OPEN: 0}
-    return (order[asked.verdict], isinstance(asked.solved, Solved),
-            -len(asked.spelled.left_out), -len(asked.parts))
+    then the fewer parts. What is well by its count alone comes behind what is over."""
+    order = {Verdict.WELL: 3, Verdict.OVER: 2, Verdict.OPEN: 0}
+    is_placed = isinstance(asked.solved, Solved)
+    worth = order[asked.verdict]
+    if asked.verdict is Verdict.WELL and not is_placed and _says_too_much(question, asked.axes):
+        worth = 1
+    return worth, is_placed, -len(asked.spelled.left_out), -len(asked.parts)
+
+
+def _says_too_much(question: Question, axes: Axes) -> bool:
+    """Whether one of the drawing's constraints is too many by rank, beside what only repeats
+    others, so that where it has no places it is well by its count alone: one is missing where the
+    count needs it."""
+    free = freedoms(question.drawing)
+    repeats = {owner.number for owner in axes.repeats() if not owner.shape}
+    return free is not None and any(free.too_many(repeats))
