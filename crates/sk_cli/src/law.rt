@@ -230,8 +230,8 @@ pub fn why_measure_ends()
 
 /// Where each element has a place, `measure` tells by how much the places are off each constraint, in order, and the least tolerances
 /// with which all holds there, whatever its status (`offs`). Of one constraint where the elements lie so there is one such answer
-/// (`same`), which `excess` tells too of what is left out. Of the places of a claim that `verify` accepts none is off by more than the
-/// claim's tolerance, and no sign is turned over (`accepted`). With the element lines of `solve`, an `end` behind them and the same limit
+/// (`same`). Where the elements lie as in a claim that `verify` accepts, no constraint is off by more than the claim's tolerance, and
+/// no sign is turned over (`accepted`). With the element lines of `solve`, an `end` behind them and the same limit
 /// it is done, and tells the tolerances that `solve` told (`solved`).
 pub fn given_places_are_measured()
     ensures offs { (words : List (List ℕ)) (bytes text : List ℕ) (status : Status) (request : Request) (f : Front) (c : Claim) → IsOutcome words bytes status text → Asks words request
