@@ -8,10 +8,8 @@ tells whether a sketch is fully constrained, and not how far it is from that: so
 told as they are, one after the other, each that FreeCAD doesn't call redundant, until it is.
 """
 
-import os
-
-import FreeCAD
 import Sketcher
+from listed_files import tell
 
 SOLVED = 0
 START, END, CENTRE = 1, 2, 3
@@ -48,24 +46,10 @@ def freedoms(sketch):
     return count if sketch.FullyConstrained else None
 
 
-def lines(path):
-    """The lines of one file."""
-    document = FreeCAD.openDocument(path)
-    for sketch in document.Objects:
-        if sketch.TypeId == "Sketcher::SketchObject":
-            count = freedoms(sketch)
-            told = "none" if count is None else str(count)
-            yield "%s %s %s" % (os.path.basename(path), sketch.Name, told)
-    FreeCAD.closeDocument(document.Name)
+def lines(sketch, names):
+    """The line of one sketch."""
+    count = freedoms(sketch)
+    yield "%s %s" % (names, "none" if count is None else count)
 
 
-def main():
-    """Tells all that is listed."""
-    with open(os.environ["LISTED"], encoding="utf-8") as listed:
-        paths = [line.strip() for line in listed if line.strip()]
-    with open(os.environ["TOLD"], "w", encoding="utf-8") as told:
-        for path in paths:
-            told.writelines(line + "\n" for line in lines(path))
-
-
-main()
+tell(lines)

@@ -7,9 +7,7 @@ LISTED names a file with a line for each file to open; TOLD the file to write: f
 `solved ..` as `place`, once FreeCAD solved it itself. Lengths are millimetres.
 """
 
-import os
-
-import FreeCAD
+from listed_files import tell
 
 
 def places(sketch):
@@ -23,29 +21,15 @@ def places(sketch):
             yield "%d %d %.12f %.12f" % (shape, position, at.x, at.y)
 
 
-def lines(path):
-    """The lines of one file."""
-    document = FreeCAD.openDocument(path)
-    for sketch in document.Objects:
-        if sketch.TypeId == "Sketcher::SketchObject":
-            head = "%s %s" % (os.path.basename(path), sketch.Name)
-            for place in places(sketch):
-                yield "place %s %s" % (head, place)
-            code = sketch.solve()
-            fully = "yes" if sketch.FullyConstrained else "no"
-            yield "facts %s %d %s" % (head, code, fully)
-            for place in places(sketch):
-                yield "solved %s %s" % (head, place)
-    FreeCAD.closeDocument(document.Name)
+def lines(sketch, names):
+    """The lines of one sketch."""
+    for place in places(sketch):
+        yield "place %s %s" % (names, place)
+    code = sketch.solve()
+    fully = "yes" if sketch.FullyConstrained else "no"
+    yield "facts %s %d %s" % (names, code, fully)
+    for place in places(sketch):
+        yield "solved %s %s" % (names, place)
 
 
-def main():
-    """Tells all that is listed."""
-    with open(os.environ["LISTED"], encoding="utf-8") as listed:
-        paths = [line.strip() for line in listed if line.strip()]
-    with open(os.environ["TOLD"], "w", encoding="utf-8") as told:
-        for path in paths:
-            told.writelines(line + "\n" for line in lines(path))
-
-
-main()
+tell(lines)
