@@ -243,7 +243,7 @@ REFUSED = [
     ("length Bottom 0", "0", "above 0"),
     ("length Bottom 0.0004", "0.0004", "write 0.001 or more"),
     ("length Bottom -3", "-3", "without the minus"),
-    ("length Bottom 4 5", "4", "is a number where a segment, circle or arc is meant"),
+    ("length Bottom 4 5", "5", "stands behind a whole expression: write + - * or / between them"),
     ("distance A A 4", "A", "stands twice"),
     ("distance A B 0", "0", "write `coincident` or `on` instead"),
     ("distance Bottom Bottom 4", "Bottom", "stands twice"),

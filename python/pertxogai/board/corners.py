@@ -193,7 +193,8 @@ class _Cut:
         asked_for = self.drawing.constraints
         said = [self._said(each, name) for each in asked_for if not self._joins(each)]
         gone = [number for number, each in enumerate(asked_for) if self._joins(each)]
-        drawing = Drawing(geometry, tuple(said), self._notes(first, keeps, gone))
+        drawing = replace(self.drawing, geometry=geometry, constraints=tuple(said),
+                          notes=self._notes(first, keeps, gone))
         on = [["on", name, each.shape] for each in opened] if keeps else []
         for words in [*on, *asks]:
             drawing = asking(drawing, words)
@@ -215,7 +216,7 @@ class _Cut:
         match constraint:
             case Length(ShapeRef(segment), value) if segment in names:
                 ends = _in_order(names[segment], PointRef(name))
-                return Distance(*ends, value, constraint.name)
+                return Distance(*ends, value, constraint.name, expression=constraint.expression)
             case Midpoint(point, ShapeRef(segment)) if segment in names:
                 return Symmetric(*_in_order(names[segment], PointRef(name)), point, constraint.name)
             case Perpendicular(first, second, Pair() as pair) if _is_at(pair, self._at_corner()):

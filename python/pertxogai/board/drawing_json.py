@@ -12,7 +12,8 @@ from pertxogai.board.marks import marks
 from pertxogai.board.protocol import (
     ChangedDrawing, Constraint as ConstraintJson, Drawing as DrawingJson, Kind, Mark,
     Shape as ShapeJson)
-from pertxogai.drawing import Arc, Circle, Constraint, Drawing, Segment, Shape, points_of
+from pertxogai.drawing import (
+    Arc, Circle, Constraint, Drawing, Segment, Shape, Valued, points_of, value_text)
 from pertxogai.drawing.geometry import Point as DrawnPoint
 from pertxogai.drawing.mentions import named
 from pertxogai.drawing.named_shapes import shares
@@ -128,7 +129,6 @@ def _kind(shape: Shape) -> Kind:
 
 
 def _constraint(drawing: Drawing, number: int, constraint: Constraint) -> ConstraintJson:
-    words = drawing.wordings[number - 1].split()
-    has_value = hasattr(constraint, "value_um") or hasattr(constraint, "value")
+    value = value_text(constraint) if isinstance(constraint, Valued) else None
     return {"number": number, "name": constraint.name, "called": drawing.called(number),
-            "words": " ".join(words), "value": words[-1] if has_value else None}
+            "words": drawing.wordings[number - 1], "value": value}

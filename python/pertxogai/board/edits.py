@@ -43,8 +43,8 @@ class Draw:
         count = len(drawing.geometry)
         notes = tuple(replace(note, before=note.before + len(shapes))
                       if note.before >= count > 0 else note for note in drawing.notes)
-        whole = Drawing((*drawing.geometry, *shapes),
-                        (*drawing.constraints, *said.constraints), notes)
+        whole = replace(drawing, geometry=(*drawing.geometry, *shapes),
+                        constraints=(*drawing.constraints, *said.constraints), notes=notes)
         return _asking(whole, ([word.replace("*", name) for word in each] for each in self.asks))
 
     def _said(self, drawing: Drawing, name: str) -> Expansion:

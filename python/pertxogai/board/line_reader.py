@@ -4,7 +4,8 @@ from __future__ import annotations
 from dataclasses import replace
 
 from pertxogai.board.typed import value_word
-from pertxogai.drawing import Constraint, Drawing, NamedShapes, Shape, WordFault, words_of
+from pertxogai.drawing import (
+    Constraint, Drawing, NamedShapes, Shape, Valued, WordFault, asked_of, words_of)
 from pertxogai.drawing.constraint_checks import check_constraint
 from pertxogai.drawing.constraint_lines import ConstraintWord, read_constraints
 from pertxogai.drawing.cursor import Cursor
@@ -36,10 +37,9 @@ def asking(drawing: Drawing, words: list[str]) -> Drawing:
 
 def valued(drawing: Drawing, constraint: Constraint, value: str) -> Constraint:
     """A constraint with another value, as it is written. Raises WordFault."""
-    if not hasattr(constraint, "value_um") and not hasattr(constraint, "value"):
+    if not isinstance(constraint, Valued):
         raise WordFault(words_of(constraint), "has no value that could be changed")
-    words = words_of(constraint).split()[:-1]
-    (found,) = asked(drawing, [*words, value_word(value)])
+    (found,) = asked(drawing, [*asked_of(constraint), *value_word(value).split()])
     return replace(found, name=constraint.name)
 
 

@@ -32,7 +32,7 @@ _FIRST_LETTER = {
 def free_name(drawing: Drawing, figure: Figure) -> str:
     """The first of S1, S2, .. that no shape has, nor begins with."""
     letter = _FIRST_LETTER[figure]
-    taken = {shape.name for shape in drawing.geometry}
+    taken = {each.name for each in (*drawing.geometry, *drawing.values)}
     stems = tuple(taken) if figure in (Figure.RECTANGLE, Figure.SLOT) else ()
     return next(name for name in (f"{letter}{number}" for number in count(1))
                 if name not in taken and not _begins(stems, name))

@@ -2,7 +2,7 @@
 from __future__ import annotations
 
 from collections.abc import Iterator
-from dataclasses import dataclass, field
+from dataclasses import dataclass, field, replace
 
 from pertxogai.board.anchors import leader_of, with_spot
 from pertxogai.drawing import Anchor, Drawing, Note, PointRef, Shape, points_of
@@ -17,8 +17,9 @@ def without(drawing: Drawing, shapes: frozenset[str], numbers: frozenset[int]) -
     kept = tuple(heirs.freed(shape) for shape in drawing.geometry if shape.name not in shapes)
     asks = [number for number, each in enumerate(drawing.constraints, 1)
             if number not in numbers and not shapes.intersection(named(each))]
-    return Drawing(kept, tuple(drawing.constraints[number - 1] for number in asks),
-                   tuple(_notes(drawing, shapes, frozenset(asks))))
+    said = tuple(drawing.constraints[number - 1] for number in asks)
+    notes = tuple(_notes(drawing, shapes, frozenset(asks)))
+    return replace(drawing, geometry=kept, constraints=said, notes=notes)
 
 
 @dataclass(frozen=True)
@@ -66,6 +67,9 @@ def _notes(drawing: Drawing, gone: frozenset[str], asks: frozenset[int]) -> Iter
     stays = [*(shape.name not in gone for shape in drawing.geometry),
              *(number in asks for number in range(1, len(drawing.constraints) + 1))]
     for note in drawing.notes:
+        if note.before < 0:
+            yield note
+            continue
         place = min(note.before, len(stays))
         if note.beside and not stays[place]:
             continue

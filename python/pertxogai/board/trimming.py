@@ -119,8 +119,8 @@ class _Straight:
         assert isinstance(old, Segment)
         place = drawing.geometry.index(old)
         rest = replace(old, name=name, start=_place(second.at))
-        made = Drawing((*drawing.geometry[:place + 1], rest, *drawing.geometry[place + 1:]),
-                       drawing.constraints, _behind(drawing, place))
+        shapes = *drawing.geometry[:place + 1], rest, *drawing.geometry[place + 1:]
+        made = replace(drawing, geometry=shapes, notes=_behind(drawing, place))
         made = _moved_end(made, PointRef(self.name, Which.END), PointRef(name, Which.END))
         made = _ended(made, PointRef(self.name, Which.END), first)
         made = asking(made, ["collinear", self.name, name])
@@ -285,7 +285,7 @@ def _alone(drawing: Drawing, end: PointRef) -> Drawing:
     said = drawing.constraints
     if heir is not None:
         said = tuple(_handed_on(each, end, heir) for each in said)
-    return Drawing(tuple(shapes), said, drawing.notes)
+    return replace(drawing, geometry=tuple(shapes), constraints=said)
 
 
 def _handed_on(constraint: Constraint, end: PointRef, heir: PointRef) -> Constraint:

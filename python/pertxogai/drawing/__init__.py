@@ -5,8 +5,8 @@ from pertxogai.drawing.changes import moved
 from pertxogai.drawing.constraints import (
     AngleBetween, AngleValue, Coincident, Collinear, Concentric, Constraint, Degrees, Diameter,
     Distance, Equal, Fixed, Horizontal, Length, Midpoint, Parallel, ParallelDistance,
-    Perpendicular, PointLineDistance, PointOn, Radius, Ratio, Sense, Symmetric, Tangent, Vertical,
-    XDistance, YDistance)
+    Perpendicular, PointLineDistance, PointOn, Radius, Ratio, Sense, Symmetric, Tangent, Valued,
+    Vertical, XDistance, YDistance)
 from pertxogai.drawing.drawing import Drawing, Note
 from pertxogai.drawing.geometry import (
     Anchor, Arc, Axis, Circle, Datum, Origin, Point, Segment, Shape)
@@ -20,20 +20,28 @@ from pertxogai.drawing.refusal import DrawingRefusal, DrawingUnsound, WordFault
 from pertxogai.drawing.senses import Slope, Touch, Turn, run_um, touch, turn, way
 from pertxogai.drawing.shorthands import Expansion, polyline, rectangle
 from pertxogai.drawing.soundness import checked, ends_made_one, faults
-from pertxogai.drawing.wording import line_of, words_of
+from pertxogai.drawing.values.expression import Expression
+from pertxogai.drawing.values.parsing import read_expression
+from pertxogai.drawing.values.quantity import Quantity
+from pertxogai.drawing.values.reckoning import (
+    ReckonedValue, reckoned_values, rounded_roots, with_values)
+from pertxogai.drawing.values.table import Value
+from pertxogai.drawing.wording import asked_of, line_of, value_text, words_of
 from pertxogai.drawing.writing import write_drawing
 
 __all__ = ["Anchor", "AngleBetween", "AngleValue", "Arc", "Axis", "Circle", "Coincident",
            "Collinear", "Concentric", "Constraint", "DATUM_NAMES", "Datum", "Degrees", "Diameter",
            "Distance", "Drawing", "DrawingRefusal", "DrawingUnsound", "Equal", "Expansion",
-           "Fixed", "Horizontal", "Length", "Meetings", "Midpoint", "NamedShapes", "Note",
-           "ORIGIN", "Origin", "Pair", "Parallel", "ParallelDistance", "Perpendicular", "Place",
-           "Point", "PointLineDistance", "PointOn", "PointRef", "Radius", "Ratio", "Segment",
-           "Sense", "Shape", "ShapeRef", "Slope", "Symmetric", "Tangent", "Touch", "Turn",
-           "Vertical", "Which", "WordFault", "XDistance", "X_AXIS", "YDistance", "Y_AXIS",
-           "checked", "ends_made_one", "faults", "line_of", "moved", "place_mm", "points_of",
-           "polyline", "read_drawing", "rectangle", "run_um", "spot_of", "touch", "turn",
-           "um_of_mm", "way", "words_of", "write_drawing"]
+           "Expression", "Fixed", "Horizontal", "Length", "Meetings", "Midpoint", "NamedShapes",
+           "Note", "ORIGIN", "Origin", "Pair", "Parallel", "ParallelDistance", "Perpendicular",
+           "Place", "Point", "PointLineDistance", "PointOn", "PointRef", "Quantity", "Radius",
+           "Ratio", "ReckonedValue", "Segment", "Sense", "Shape", "ShapeRef", "Slope", "Symmetric",
+           "Tangent", "Touch", "Turn", "Value", "Valued", "Vertical", "Which", "WordFault",
+           "XDistance", "X_AXIS", "YDistance", "Y_AXIS", "asked_of", "checked", "ends_made_one",
+           "faults", "line_of", "moved", "place_mm", "points_of", "polyline", "read_drawing",
+           "read_expression", "reckoned_values", "rectangle", "rounded_roots", "run_um", "spot_of",
+           "touch", "turn", "um_of_mm", "value_text", "way", "with_values", "words_of",
+           "write_drawing"]
 
 if not TYPE_CHECKING:
     from pertxogai._former import former_names

@@ -20,7 +20,7 @@ def standing(scene: NamedShapes, name: str, word: str) -> Shape | Datum:
     """The shape of that name; raises WordFault at the `word` that names it where none has it."""
     if not scene.has(name):
         raise WordFault(word, "isn't drawn: write its line further up"
-                        + nearest(name, scene.names()))
+                        + nearest(name, (*scene.names(), *scene.values.names())))
     return scene.shape(name)
 
 

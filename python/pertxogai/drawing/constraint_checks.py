@@ -2,6 +2,7 @@
 
 from __future__ import annotations
 
+from fractions import Fraction
 from typing import assert_never
 
 from pertxogai.drawing.checks import (
@@ -9,21 +10,56 @@ from pertxogai.drawing.checks import (
 from pertxogai.drawing.constraints import (
     AngleBetween, AngleValue, Coincident, Collinear, Concentric, Constraint, Degrees, Diameter,
     Distance, Equal, Fixed, Horizontal, Length, Midpoint, Parallel, ParallelDistance,
-    Perpendicular, PointLineDistance, PointOn, Radius, Sense, Symmetric, Tangent, Vertical,
+    Perpendicular, PointLineDistance, PointOn, Radius, Sense, Symmetric, Tangent, Valued, Vertical,
     XDistance, YDistance)
 from pertxogai.drawing.geometry import Point
 from pertxogai.drawing.named_shapes import NamedShapes
-from pertxogai.drawing.numbers import MOST_MM, MOST_RATIO, angle_text, mm_text
+from pertxogai.drawing.numbers import (
+    MOST_MM, MOST_RATIO, angle_text, degrees_of, mm_text, um_of)
 from pertxogai.drawing.references import DATUM_NAMES, Pair, PointRef, ShapeRef, Which
 from pertxogai.drawing.refusal import WordFault
-
-Measured = (AngleBetween | Length | Distance | XDistance | YDistance | PointLineDistance
-            | ParallelDistance | Radius | Diameter)
-"""The constraints that carry a value."""
+from pertxogai.drawing.values.expression import Expression
 
 
 def check_constraint(scene: NamedShapes, constraint: Constraint) -> None:
     """Raises WordFault unless the constraint's shapes, points and values are what it takes."""
+    try:
+        _check(scene, constraint)
+    except WordFault as fault:
+        if not isinstance(constraint, Valued) or constraint.expression is None:
+            raise
+        raise _of_expression(constraint, constraint.expression, fault) from None
+
+
+def check_expression(scene: NamedShapes, constraint: Constraint) -> None:
+    """Raises WordFault where the value of a constraint isn't what its expression comes to."""
+    if not isinstance(constraint, Valued) or constraint.expression is None:
+        return
+    found: Fraction | Degrees
+    if isinstance(constraint, AngleBetween):
+        found = Degrees(degrees_of(constraint.expression, scene.values))
+        told: Fraction | AngleValue = constraint.value
+    else:
+        found, told = um_of(constraint.expression, scene.values), constraint.value_um
+    if found != told:
+        raise WordFault(constraint.expression.text, "comes to another value than the constraint's: "
+                        "take the expression away, or reckon it anew")
+
+
+def _of_expression(constraint: Valued, expression: Expression, fault: WordFault) -> WordFault:
+    """A fault of what an expression comes to, told of the expression."""
+    if isinstance(constraint, AngleBetween):
+        word = text = angle_text(constraint.value, constraint.sense is Sense.SIGNED)
+    else:
+        word = mm_text(constraint.value_um)
+        text = f"{mm_text(Fraction(round(constraint.value_um * 1000), 1000))} mm"
+    if fault.word != word:
+        return fault
+    what = fault.what.partition(":")[0]
+    return WordFault(expression.text, f"comes to {text}, and that {what}: change a value in it")
+
+
+def _check(scene: NamedShapes, constraint: Constraint) -> None:
     match constraint:
         case Coincident(first, second):
             _check_points(scene, first, second)
@@ -71,7 +107,7 @@ def _check_shapes(scene: NamedShapes, constraint: Parallel | Collinear | Perpend
             assert_never(constraint)
 
 
-def _check_measured(scene: NamedShapes, constraint: Measured) -> None:
+def _check_measured(scene: NamedShapes, constraint: Valued) -> None:
     match constraint:
         case AngleBetween(line, other, value, sense):
             _check_lines(scene, line, other)

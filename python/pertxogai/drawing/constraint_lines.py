@@ -4,15 +4,14 @@ from __future__ import annotations
 
 from collections.abc import Callable, Iterable
 from enum import Enum
-from fractions import Fraction
 
 from pertxogai.drawing.checks import check_line
 from pertxogai.drawing.constraints import (
     AngleBetween, Coincident, Collinear, Concentric, Constraint, Diameter, Distance, Equal, Fixed,
     Horizontal, Length, Midpoint, Parallel, ParallelDistance, Perpendicular, PointLineDistance,
-    PointOn, Radius, Sense, Symmetric, Tangent, Vertical, XDistance, YDistance)
+    PointOn, Radius, Symmetric, Tangent, Vertical, XDistance, YDistance)
 from pertxogai.drawing.cursor import Cursor
-from pertxogai.drawing.numbers import has_sign, is_number, read_angle, read_um
+from pertxogai.drawing.numbers import WrittenLength
 from pertxogai.drawing.references import ORIGIN, X_AXIS, Pair, PointRef, ShapeRef, Which
 from pertxogai.drawing.refusal import WordFault
 
@@ -110,21 +109,24 @@ def _valued(word: ConstraintWord, words: Cursor, name: str | None) -> Iterable[C
         case ConstraintWord.X | ConstraintWord.Y:
             return (_read_run(word, words, name),)
         case ConstraintWord.LENGTH:
-            return _sizes(words, lambda shape, um: Length(shape, um, name))
+            return _sizes(words, lambda shape, it: Length(shape, it.value_um, name,
+                                                          expression=it.expression))
         case ConstraintWord.RADIUS:
-            return _sizes(words, lambda shape, um: Radius(shape, um, name))
+            return _sizes(words, lambda shape, it: Radius(shape, it.value_um, name,
+                                                          expression=it.expression))
         case ConstraintWord.DIAMETER:
-            return _sizes(words, lambda shape, um: Diameter(shape, um, name))
+            return _sizes(words, lambda shape, it: Diameter(shape, it.value_um, name,
+                                                            expression=it.expression))
     raise AssertionError(word)
 
 
-def _sizes(words: Cursor, made: Callable[[ShapeRef, Fraction], Constraint]
+def _sizes(words: Cursor, made: Callable[[ShapeRef, WrittenLength], Constraint]
            ) -> Iterable[Constraint]:
     """One size for each of some shapes."""
     shapes = [words.shape()]
-    while words.left() > 1:
+    while words.left() > 1 and not words.begins_value():
         shapes.append(words.shape())
-    value = words.um("a number of millimetres")
+    value = words.length()
     return tuple(made(shape, value) for shape in shapes)
 
 
@@ -196,11 +198,10 @@ def _symmetric(words: Cursor, name: str | None) -> Symmetric:
 def _angle(words: Cursor, name: str | None) -> AngleBetween:
     """A segment, whose angle is to the x axis, or two; and the angle."""
     first = words.shape("a segment")
-    second = words.shape("a segment") if words.left() > 1 else None
-    word = words.word("an angle, as 60deg,")
-    sense = Sense.SIGNED if has_sign(word) else Sense.DRAWN
-    lines = (X_AXIS, first) if second is None else (first, second)
-    return AngleBetween(*lines, read_angle(word), sense, name)
+    is_one = words.left() <= 1 or words.begins_value()
+    lines = (X_AXIS, first) if is_one else (first, words.shape("a segment"))
+    angle = words.angle()
+    return AngleBetween(*lines, angle.value, angle.sense, name, expression=angle.expression)
 
 
 def _distance(words: Cursor, name: str | None
@@ -208,14 +209,15 @@ def _distance(words: Cursor, name: str | None
     """Two points, a point and a line in either order, or two parallel lines."""
     first, second = (_point_or_line(words, words.thing(meant))
                      for meant in ("a point or a segment", "a second point or a segment"))
-    value = words.um("a number of millimetres")
+    it = words.length()
+    value, expression = it.value_um, it.expression
     match first, second:
         case (PointRef() as one, PointRef() as other):
-            return Distance(one, other, value, name)
+            return Distance(one, other, value, name, expression=expression)
         case (PointRef() as point, ShapeRef() as line) | (ShapeRef() as line, PointRef() as point):
-            return PointLineDistance(point, line, value, name)
+            return PointLineDistance(point, line, value, name, expression=expression)
         case (ShapeRef() as line, ShapeRef() as parallel):
-            return ParallelDistance(line, parallel, value, name)
+            return ParallelDistance(line, parallel, value, name, expression=expression)
     raise AssertionError(first, second)
 
 
@@ -228,10 +230,9 @@ def _point_or_line(words: Cursor, thing: PointRef | ShapeRef) -> PointRef | Shap
 def _read_run(word: ConstraintWord, words: Cursor, name: str | None) -> XDistance | YDistance:
     """One point, told from the origin, or two; and how far the second lies from the first."""
     first, second = ORIGIN, words.point()
-    if words.left() and not is_number(words.peek()):
+    if words.left() and not words.begins_value():
         first, second = second, words.point()
-    number = words.word("a number of millimetres")
-    sense = Sense.SIGNED if has_sign(number) else Sense.DRAWN
+    it = words.length()
     if word is ConstraintWord.X:
-        return XDistance(first, second, read_um(number), sense, name)
-    return YDistance(first, second, read_um(number), sense, name)
+        return XDistance(first, second, it.value_um, it.sense, name, expression=it.expression)
+    return YDistance(first, second, it.value_um, it.sense, name, expression=it.expression)

@@ -1,6 +1,7 @@
 """The constraints that a designer gives, each a dataclass with the name its owner gave it.
 
-Lengths and radii are in micrometres. A constraint without a name is called by its place in
+Lengths and radii are in micrometres. A value that is written as an expression has that in
+`expression`, and what it comes to beside it. A constraint without a name is called by its place in
 `Drawing.constraints`, counted from 1 (`Drawing.called`).
 
 A line is a `ShapeRef` to a segment or to an axis; a segment counts as the endless line through
@@ -10,11 +11,12 @@ its whole circle.
 
 from __future__ import annotations
 
-from dataclasses import dataclass
+from dataclasses import dataclass, field
 from enum import Enum
 from fractions import Fraction
 
 from pertxogai.drawing.references import Pair, PointRef, ShapeRef
+from pertxogai.drawing.values.expression import Expression
 
 
 class Sense(Enum):
@@ -127,6 +129,7 @@ class AngleBetween:
     value: AngleValue
     sense: Sense = Sense.DRAWN
     name: str | None = None
+    expression: Expression | None = field(default=None, kw_only=True)
 
 
 @dataclass(frozen=True)
@@ -136,6 +139,7 @@ class Length:
     segment: ShapeRef
     value_um: Fraction
     name: str | None = None
+    expression: Expression | None = field(default=None, kw_only=True)
 
 
 @dataclass(frozen=True)
@@ -146,6 +150,7 @@ class Distance:
     second: PointRef
     value_um: Fraction
     name: str | None = None
+    expression: Expression | None = field(default=None, kw_only=True)
 
 
 @dataclass(frozen=True)
@@ -161,6 +166,7 @@ class XDistance:
     value_um: Fraction
     sense: Sense = Sense.DRAWN
     name: str | None = None
+    expression: Expression | None = field(default=None, kw_only=True)
 
 
 @dataclass(frozen=True)
@@ -172,6 +178,7 @@ class YDistance:
     value_um: Fraction
     sense: Sense = Sense.DRAWN
     name: str | None = None
+    expression: Expression | None = field(default=None, kw_only=True)
 
 
 @dataclass(frozen=True)
@@ -182,6 +189,7 @@ class PointLineDistance:
     line: ShapeRef
     value_um: Fraction
     name: str | None = None
+    expression: Expression | None = field(default=None, kw_only=True)
 
 
 @dataclass(frozen=True)
@@ -193,6 +201,7 @@ class ParallelDistance:
     second: ShapeRef
     value_um: Fraction
     name: str | None = None
+    expression: Expression | None = field(default=None, kw_only=True)
 
 
 @dataclass(frozen=True)
@@ -202,6 +211,7 @@ class Radius:
     rim: ShapeRef
     value_um: Fraction
     name: str | None = None
+    expression: Expression | None = field(default=None, kw_only=True)
 
 
 @dataclass(frozen=True)
@@ -211,6 +221,7 @@ class Diameter:
     rim: ShapeRef
     value_um: Fraction
     name: str | None = None
+    expression: Expression | None = field(default=None, kw_only=True)
 
 
 @dataclass(frozen=True)
@@ -282,3 +293,7 @@ Constraint = (
     | Midpoint | Fixed
 )
 """What holds shapes to each other, or to a place."""
+
+Valued = (AngleBetween | Length | Distance | XDistance | YDistance | PointLineDistance
+          | ParallelDistance | Radius | Diameter)
+"""The constraints that carry a value."""

@@ -8,7 +8,8 @@ from fractions import Fraction
 from pertxogai.drawing.checks import check_point, points_told, standing
 from pertxogai.drawing.geometry import Anchor, Arc, Circle, Origin, Point
 from pertxogai.drawing.named_shapes import NamedShapes
-from pertxogai.drawing.numbers import is_number, read_um
+from pertxogai.drawing.numbers import (
+    WrittenAngle, WrittenLength, begins_value, is_number, read_length, read_um, read_written_angle)
 from pertxogai.drawing.places import Place
 from pertxogai.drawing.references import PointRef, ShapeRef, Which
 from pertxogai.drawing.refusal import WordFault
@@ -54,6 +55,25 @@ class Cursor:
     def um(self, meant: str) -> Fraction:
         """A number of millimetres, in micrometres."""
         return read_um(self.word(meant))
+
+    def begins_value(self) -> bool:
+        """Whether the next word begins a number or an expression."""
+        return begins_value(self.peek(), self.scene.values)
+
+    def rest(self, meant: str) -> str:
+        """All words that are left, with single blanks between them."""
+        first = self.word(meant)
+        rest = self._words[self._taken:]
+        self._taken = len(self._words)
+        return " ".join([first, *rest])
+
+    def length(self) -> WrittenLength:
+        """A number of millimetres, or an expression, to the end of the line."""
+        return read_length(self.rest("a number of millimetres"), self.scene.values)
+
+    def angle(self) -> WrittenAngle:
+        """An angle, or an expression, to the end of the line."""
+        return read_written_angle(self.rest("an angle, as 60deg,"), self.scene.values)
 
     def place(self) -> Place:
         """A place, by two numbers."""

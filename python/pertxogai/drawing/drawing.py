@@ -14,6 +14,7 @@ from pertxogai.drawing.meetings import Meetings
 from pertxogai.drawing.named_shapes import NamedShapes, points_of, shares, spot_of
 from pertxogai.drawing.places import Place
 from pertxogai.drawing.references import Pair, PointRef
+from pertxogai.drawing.values.table import Value, Values
 from pertxogai.drawing.wording import words_of
 
 
@@ -43,11 +44,12 @@ class Drawing:
     geometry: tuple[Shape, ...] = ()
     constraints: tuple[Constraint, ...] = ()
     notes: tuple[Note, ...] = ()
+    values: tuple[Value, ...] = ()
 
     @cached_property
     def scene(self) -> NamedShapes:
-        """The shapes by their names."""
-        return NamedShapes(self.geometry)
+        """The shapes by their names, and the values."""
+        return NamedShapes(self.geometry, Values(self.values))
 
     @cached_property
     def meetings(self) -> Meetings:

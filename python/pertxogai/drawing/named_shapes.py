@@ -1,4 +1,5 @@
-"""The shapes that stand, looked up by name: the datum from the start, and those added since."""
+"""The shapes that stand, looked up by name: the datum from the start, and those added since; and
+the named values."""
 
 from __future__ import annotations
 
@@ -12,12 +13,15 @@ from pertxogai.drawing.geometry import (
 from pertxogai.drawing.places import Place
 from pertxogai.drawing.references import ORIGIN, X_AXIS, Y_AXIS, PointRef, Which
 from pertxogai.drawing.roots import root_near
+from pertxogai.drawing.values.table import Values
 
 
 class NamedShapes:
-    """Shapes by their names. All lookups raise KeyError at a name that isn't there."""
+    """Shapes by their names, and beside them `values`, whose names are others. All lookups of
+    shapes raise KeyError at a name that isn't there."""
 
-    def __init__(self, shapes: Iterable[Shape] = ()) -> None:
+    def __init__(self, shapes: Iterable[Shape] = (), values: Values = Values()) -> None:
+        self.values = values
         self._shapes: dict[str, Shape | Datum] = {
             ORIGIN.shape: Origin(), X_AXIS.name: Axis(False), Y_AXIS.name: Axis(True)}
         self._drawn: dict[PointRef, Place] = {}

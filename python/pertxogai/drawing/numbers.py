@@ -1,13 +1,20 @@
-"""Numbers of the text: millimetres, inches, degrees, ratios; read exactly, written exactly."""
+"""Numbers of the text: millimetres, inches, degrees, ratios; read exactly, written exactly. Where a
+constraint takes one, an expression may stand instead."""
 
 from __future__ import annotations
 
 import re
+from dataclasses import dataclass
 from fractions import Fraction
 
-from pertxogai.drawing.constraints import AngleValue, Degrees, Ratio
+from pertxogai.drawing.constraints import AngleValue, Degrees, Ratio, Sense
+from pertxogai.drawing.names import nearest
 from pertxogai.drawing.places import UM_PER_MM
 from pertxogai.drawing.refusal import WordFault
+from pertxogai.drawing.values.expression import Expression, Function
+from pertxogai.drawing.values.parsing import read_expression
+from pertxogai.drawing.values.quantity import Misfit
+from pertxogai.drawing.values.table import Values
 
 MOST_MM = 1_000_000
 """No coordinate, length or radius is greater, in millimetres, as in the language."""
@@ -20,6 +27,10 @@ _BEYOND = f"is beyond {MOST_MM} mm: give lengths in millimetres, or as 1.5in"
 _NUMBER = re.compile(r"([+-]?)([0-9]{1,7}(?:\.[0-9]{1,20})?)(mm|in)?\Z")
 _DEGREES = re.compile(r"([+-]?)([0-9]{1,3}(?:\.[0-9]{1,20})?)(?:deg|°)\Z")
 _RATIO = re.compile(r"([+-]?)([0-9]{1,5})/([0-9]{1,5})\Z")
+_PLAIN = re.compile(r"[+-]?[0-9.][^-+*/()×·÷−\s]*\Z")
+"""What is meant as a number alone, sound or not."""
+_NAME = re.compile(r"[^\W\d]\w*")
+_FUNCTIONS = frozenset(each.value for each in Function)
 _UM_OF_UNIT = {None: Fraction(UM_PER_MM), "mm": Fraction(UM_PER_MM), "in": Fraction(25_400)}
 
 
@@ -31,6 +42,88 @@ def is_number(word: str) -> bool:
 def has_sign(word: str) -> bool:
     """Whether a number is written with its sign."""
     return word[:1] in "+-"
+
+
+@dataclass(frozen=True)
+class WrittenLength:
+    """A length as it is written: its micrometres, who says its sign, and its expression where it is
+    one."""
+
+    value_um: Fraction
+    sense: Sense
+    expression: Expression | None = None
+
+
+@dataclass(frozen=True)
+class WrittenAngle:
+    """An angle as it is written: what it is, who says its sign, and its expression where it is
+    one."""
+
+    value: AngleValue
+    sense: Sense
+    expression: Expression | None = None
+
+
+def begins_value(word: str, values: Values) -> bool:
+    """Whether a word that may name a shape begins a number or an expression: no shape has the name
+    of a value."""
+    name = _NAME.match(word)
+    if name is None:
+        return is_number(word) or word[:1] in ("(", "+", "-", "−")
+    behind = word[name.end():]
+    if behind:
+        return not behind.startswith(".")
+    return values.has(word) or word in _FUNCTIONS
+
+
+def read_length(text: str, values: Values) -> WrittenLength:
+    """A number of millimetres, or an expression over values that comes to a length. Raises
+    WordFault, and ValueFault where a value that it uses can't be reckoned."""
+    if _PLAIN.match(text):
+        return WrittenLength(read_um(text), _sense(has_sign(text)))
+    _check_name(text, values, f"is no number and no value: write millimetres, as 12.5, or a line "
+                              f"as `value {text} 12.5`")
+    expression = read_expression(text)
+    return WrittenLength(um_of(expression, values), _sense(expression.has_sign), expression)
+
+
+def read_written_angle(text: str, values: Values) -> WrittenAngle:
+    """An angle, or an expression over values that comes to one. Raises as `read_length`."""
+    if _PLAIN.match(text) or _RATIO.match(text):
+        return WrittenAngle(read_angle(text), _sense(has_sign(text)))
+    _check_name(text, values, f"is no angle and no value: write degrees, as 60deg, a ratio, as "
+                              f"1/2, or a line as `value {text} 60deg`")
+    expression = read_expression(text)
+    degrees = Degrees(degrees_of(expression, values))
+    return WrittenAngle(degrees, _sense(expression.has_sign), expression)
+
+
+def _check_name(text: str, values: Values, what: str) -> None:
+    """Raises WordFault at a text that is a name alone, and of no value."""
+    if _NAME.fullmatch(text) and not values.has(text):
+        raise WordFault(text, what + nearest(text, values.names()))
+
+
+def um_of(expression: Expression, values: Values) -> Fraction:
+    """The micrometres that an expression comes to. Raises as `read_length`."""
+    quantity = values.evaluated(expression)
+    try:
+        return quantity.um()
+    except Misfit as misfit:
+        raise WordFault(expression.text, str(misfit)) from None
+
+
+def degrees_of(expression: Expression, values: Values) -> Fraction:
+    """The degrees that an expression comes to. Raises as `read_length`."""
+    quantity = values.evaluated(expression)
+    try:
+        return quantity.degrees()
+    except Misfit as misfit:
+        raise WordFault(expression.text, str(misfit)) from None
+
+
+def _sense(is_signed: bool) -> Sense:
+    return Sense.SIGNED if is_signed else Sense.DRAWN
 
 
 def read_um(word: str) -> Fraction:

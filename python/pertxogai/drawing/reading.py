@@ -1,13 +1,16 @@
 """The text of a drawing, read.
 
-A line draws a shape or asks for a constraint; `#` begins a note; blank lines are passed over. A
-name is drawn in a line above the one that uses it. A constraint may have a name in front, as
-`Left width: length Bottom 120`. The first line may be `drawing 1`.
+A line draws a shape, asks for a constraint or names a value; `#` begins a note; blank lines are
+passed over. A shape is drawn in a line above the one that uses it; a value stands in any line. A
+constraint may have a name in front, as `Left width: length Bottom 120`. The first line may be
+`drawing 1`.
 """
 
 from __future__ import annotations
 
+from collections.abc import Sequence
 from dataclasses import dataclass
+from enum import Enum
 
 from pertxogai.drawing.constraint_checks import check_constraint
 from pertxogai.drawing.constraint_lines import ConstraintWord, read_constraints
@@ -21,6 +24,8 @@ from pertxogai.drawing.refusal import DrawingRefusal, WordFault
 from pertxogai.drawing.shape_lines import Flag, ShapeWord, read_shape
 from pertxogai.drawing.shorthands import Expansion
 from pertxogai.drawing.soundness import check_name
+from pertxogai.drawing.values.table import MOST_VALUES, Value, ValueFault, Values
+from pertxogai.drawing.values.lines import WORD, WrittenValues, read_value
 from pertxogai.drawing.writing import HEADER
 
 MOST_BYTES = 1_048_576
@@ -40,10 +45,15 @@ def read_drawing(text: str) -> Drawing:
     """The drawing that a text says; raises DrawingRefusal at its first faulty line."""
     if len(text.encode("utf-8", "surrogatepass")) > MOST_BYTES:
         raise DrawingRefusal(0, "", f"has more than {MOST_BYTES} bytes: split the drawing")
-    reader = _Reader()
-    for number, line in enumerate(text.split("\n"), start=1):
+    lines = [line.removesuffix("\r") for line in text.split("\n")]
+    written = WrittenValues.of(lines)
+    reader = _Reader(written.values())
+    for number, line in enumerate(lines, start=1):
         try:
-            reader.take(line.removesuffix("\r"))
+            reader.take(line)
+        except ValueFault as fault:
+            at = written.line_of(fault.name)
+            raise DrawingRefusal(at, fault.word, fault.what) from None
         except WordFault as fault:
             raise DrawingRefusal(number, fault.word, fault.what) from None
     if not reader.shapes:
@@ -51,12 +61,20 @@ def read_drawing(text: str) -> Drawing:
     return reader.drawing()
 
 
+class _Kind(Enum):
+    """What a line says."""
+
+    VALUE = "value"
+    SHAPE = "shape"
+    CONSTRAINT = "constraint"
+
+
 @dataclass(frozen=True)
 class _Mark:
-    """What a note stands at: the shape or the constraint of this place among its own."""
+    """What a note stands at: the value, shape or constraint of this place among its own."""
 
     text: str
-    asks: bool
+    kind: _Kind
     place: int
     beside: bool
 
@@ -64,13 +82,14 @@ class _Mark:
 class _Reader:
     """What stands above the line that is read."""
 
-    def __init__(self) -> None:
+    def __init__(self, values: Values) -> None:
         self.shapes: list[Shape] = []
         self._constraints: list[Constraint] = []
+        self._values: list[Value] = []
         self._marks: list[_Mark] = []
         self._loose: list[str] = []
         self._names: set[str] = set()
-        self._scene = NamedShapes()
+        self._scene = NamedShapes(values=values)
         self._began = False
 
     def take(self, line: str) -> None:
@@ -84,31 +103,47 @@ class _Reader:
         self._began = True
         if first and said.split() == HEADER.split():
             return
-        shapes, constraints = len(self.shapes), len(self._constraints)
-        asks = self._say(said)
-        place = constraints if asks else shapes
-        self._marks.extend(_Mark(text, asks, place, False) for text in self._loose)
-        self._marks.extend([_Mark(note.strip(), asks, place, True)] if mark else [])
+        places = {_Kind.VALUE: len(self._values), _Kind.SHAPE: len(self.shapes),
+                  _Kind.CONSTRAINT: len(self._constraints)}
+        kind = self._say(said)
+        self._marks.extend(_Mark(text, kind, places[kind], False) for text in self._loose)
+        self._marks.extend([_Mark(note.strip(), kind, places[kind], True)] if mark else [])
         self._loose.clear()
 
-    def _say(self, said: str) -> bool:
-        """Takes what a line says; whether it asks for a constraint."""
+    def _say(self, said: str) -> _Kind:
+        """Takes what a line says."""
         name, colon, rest = said.rpartition(":")
         words = rest.split()
         if not words:
             raise WordFault(said.strip(), "names nothing: write a constraint behind the colon")
         flags, words = _flags(words)
+        if words[0] == WORD:
+            if flags:
+                raise WordFault(WORD, "names no shape, and only shapes are construction or outer")
+            self._name_value(words, name.strip() if colon else None)
+            return _Kind.VALUE
         word = _word(words[0])
         if isinstance(word, ShapeWord):
             if colon:
                 raise WordFault(name.strip(), "is a name in front of a shape, whose name stands "
                                 f"behind its word: write {word.value} NAME ..")
             self._draw(read_shape(word, flags, Cursor(self._scene, words)))
-            return False
+            return _Kind.SHAPE
         if flags:
             raise WordFault(words[0], "is no shape, and only shapes are construction or outer")
         self._ask(word, words, name.strip() if colon else None)
-        return True
+        return _Kind.CONSTRAINT
+
+    def _name_value(self, words: Sequence[str], called: str | None) -> None:
+        value = read_value(words, called)
+        if self._scene.has(value.name):
+            raise WordFault(value.name, "is drawn already: take another name")
+        if any(each.name == value.name for each in self._values):
+            raise WordFault(value.name, "is a value already: take another name")
+        if len(self._values) == MOST_VALUES:
+            raise WordFault(value.name, f"is one more than {MOST_VALUES} values: leave some out")
+        self._scene.values.quantity(value.name)
+        self._values.append(value)
 
     def _draw(self, said: Expansion) -> None:
         self.shapes.extend(said.shapes)
@@ -130,10 +165,12 @@ class _Reader:
     def drawing(self) -> Drawing:
         """The drawing of all lines."""
         shapes, constraints = tuple(self.shapes), tuple(self._constraints)
-        notes = [Note(mark.text, mark.place + len(shapes) * mark.asks, mark.beside)
+        first = {_Kind.VALUE: -len(self._values), _Kind.SHAPE: 0, _Kind.CONSTRAINT: len(shapes)}
+        notes = [Note(mark.text, first[mark.kind] + mark.place, mark.beside)
                  for mark in self._marks]
         notes.extend(Note(text, len(shapes) + len(constraints)) for text in self._loose)
-        return Drawing(shapes, constraints, tuple(sorted(notes, key=lambda note: note.before)))
+        return Drawing(shapes, constraints, tuple(sorted(notes, key=lambda note: note.before)),
+                       tuple(self._values))
 
 
 def _check_text(line: str) -> None:
@@ -183,6 +220,6 @@ def _advice(word: str) -> str:
             return "is a word of the sketch language, and none of a drawing: leave it out"
         case "width" | "height" | "dimension" | "dim":
             return "is no word of a drawing: write `length SEGMENT 40` or `distance A B 40`"
-    known = [each.value for kind in (ShapeWord, ConstraintWord, Flag) for each in kind]
+    known = [each.value for kind in (ShapeWord, ConstraintWord, Flag) for each in kind] + [WORD]
     near = nearest(word, known).removeprefix(", or ")
     return f"is no word that begins a line: {near or 'write one of ' + ', '.join(known)}"

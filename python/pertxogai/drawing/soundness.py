@@ -7,7 +7,7 @@ from collections.abc import Iterator
 from fractions import Fraction
 
 from pertxogai.drawing.checks import MOST_UM, check_point, check_size
-from pertxogai.drawing.constraint_checks import check_constraint
+from pertxogai.drawing.constraint_checks import check_constraint, check_expression
 from pertxogai.drawing.drawing import Drawing
 from pertxogai.drawing.geometry import Anchor, Arc, Circle, Segment, Shape
 from pertxogai.drawing.named_shapes import NamedShapes, points_of, shares, spot_of
@@ -15,14 +15,16 @@ from pertxogai.drawing.names import check_constraint_name, check_shape_name
 from pertxogai.drawing.numbers import MOST_MM, mm_text
 from pertxogai.drawing.references import PointRef, Which
 from pertxogai.drawing.refusal import DrawingUnsound, WordFault
+from pertxogai.drawing.values.table import Values, check_value_name
 
 
 def faults(drawing: Drawing, sound: Drawing = Drawing()) -> tuple[DrawingUnsound, ...]:
-    """What is unsound about a drawing, one fault for each shape or constraint at most.
+    """What is unsound about a drawing, one fault for each value, shape or constraint at most.
 
-    Constraints are looked at only where all shapes are sound. Of a `sound` drawing that it was
-    made from, what it has kept isn't looked at again."""
-    return tuple(_shape_faults(drawing, sound)) or tuple(_constraint_faults(drawing, sound))
+    Shapes are looked at only where all values are sound, and constraints where all shapes are
+    too. Of a `sound` drawing that it was made from, what it has kept isn't looked at again."""
+    return (tuple(_value_faults(drawing, sound)) or tuple(_shape_faults(drawing, sound))
+            or tuple(_constraint_faults(drawing, sound)))
 
 
 def checked(drawing: Drawing, sound: Drawing = Drawing()) -> Drawing:
@@ -32,8 +34,23 @@ def checked(drawing: Drawing, sound: Drawing = Drawing()) -> Drawing:
     return drawing
 
 
+def _value_faults(drawing: Drawing, sound: Drawing) -> Iterator[DrawingUnsound]:
+    if drawing.values is sound.values:
+        return
+    values, taken = Values(drawing.values), set[str]()
+    for each in drawing.values:
+        try:
+            check_value_name(each.name)
+            if each.name in taken:
+                raise WordFault(each.name, "is a value already: take another name")
+            values.quantity(each.name)
+            taken.add(each.name)
+        except WordFault as fault:
+            yield DrawingUnsound(f"value {each.name}", fault.word, fault.what)
+
+
 def _shape_faults(drawing: Drawing, sound: Drawing) -> Iterator[DrawingUnsound]:
-    scene = NamedShapes()
+    scene = NamedShapes(values=drawing.scene.values)
     known = {id(each) for each in sound.geometry if not shares(each)}
     for shape in drawing.geometry:
         try:
@@ -47,12 +64,15 @@ def _shape_faults(drawing: Drawing, sound: Drawing) -> Iterator[DrawingUnsound]:
 def _constraint_faults(drawing: Drawing, sound: Drawing) -> Iterator[DrawingUnsound]:
     names: set[str] = set()
     known = {id(each) for each in sound.constraints} if _kinds(drawing) == _kinds(sound) else set()
+    of_values = drawing.values == sound.values
     for number, constraint in enumerate(drawing.constraints, start=1):
         try:
             if constraint.name is not None:
                 check_name(constraint.name, names)
             if id(constraint) not in known:
                 check_constraint(drawing.scene, constraint)
+            if id(constraint) not in known or not of_values:
+                check_expression(drawing.scene, constraint)
         except WordFault as fault:
             yield DrawingUnsound(drawing.called(number), fault.word, fault.what)
 
@@ -94,6 +114,8 @@ def check_name(name: str, taken: set[str]) -> None:
 def check_shape(scene: NamedShapes, shape: Shape) -> None:
     """Raises WordFault unless the shape may be added to those that stand."""
     check_shape_name(shape.name)
+    if scene.values.has(shape.name):
+        raise WordFault(shape.name, "is a value already: take another name")
     if scene.has(shape.name):
         raise WordFault(shape.name, "is drawn already: take another name")
     spots = tuple(spot_of(shape, ref.which) for ref in points_of(shape))

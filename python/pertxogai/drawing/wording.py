@@ -8,12 +8,12 @@ from pertxogai.cached import cached_on
 from pertxogai.drawing.constraints import (
     AngleBetween, Coincident, Collinear, Concentric, Constraint, Diameter, Distance, Equal, Fixed,
     Horizontal, Length, Midpoint, Parallel, ParallelDistance, Perpendicular, PointLineDistance,
-    PointOn, Radius, Sense, Symmetric, Tangent, Vertical, XDistance, YDistance)
+    PointOn, Radius, Sense, Symmetric, Tangent, Valued, Vertical, XDistance, YDistance)
 from pertxogai.drawing.geometry import Anchor, Arc, Circle, Point, Segment, Shape
 from pertxogai.drawing.numbers import angle_text, mm_text
 from pertxogai.drawing.references import ORIGIN, X_AXIS, PointRef
 
-Valued = Length | Distance | PointLineDistance | ParallelDistance | Radius | Diameter
+Sized = Length | Distance | PointLineDistance | ParallelDistance | Radius | Diameter
 """The constraints whose value stands last and has no sign."""
 
 
@@ -77,7 +77,7 @@ def words_of(constraint: Constraint) -> str:
         case Parallel() | Collinear() | Equal() | Concentric():
             return f"{_word(constraint)} {constraint.first} {constraint.second}"
         case _:
-            return _valued(constraint)
+            return _sized(constraint)
 
 
 def _word(constraint: Constraint) -> str:
@@ -91,17 +91,35 @@ def _touching(constraint: Tangent | Perpendicular) -> str:
 
 def _angle(angle: AngleBetween) -> str:
     lines = f"{angle.second}" if angle.first == X_AXIS else f"{angle.first} {angle.second}"
-    return f"angle {lines} {angle_text(angle.value, angle.sense is Sense.SIGNED)}"
+    return f"angle {lines} {value_text(angle)}"
 
 
 def _words_of_run(run: XDistance | YDistance) -> str:
     points = f"{run.second}" if run.first == ORIGIN else f"{run.first} {run.second}"
-    plus = "+" if run.sense is Sense.SIGNED and run.value_um >= 0 else ""
-    return f"{'x' if isinstance(run, XDistance) else 'y'} {points} {plus}{mm_text(run.value_um)}"
+    return f"{'x' if isinstance(run, XDistance) else 'y'} {points} {value_text(run)}"
 
 
-def _valued(constraint: Valued) -> str:
-    value = mm_text(constraint.value_um)
+def value_text(constraint: Valued) -> str:
+    """The value of a constraint as it is written, which stands last in its line."""
+    if constraint.expression is not None:
+        return constraint.expression.text
+    match constraint:
+        case AngleBetween(value=value, sense=sense):
+            return angle_text(value, sense is Sense.SIGNED)
+        case XDistance(value_um=value_um, sense=sense) | YDistance(value_um=value_um, sense=sense):
+            plus = "+" if sense is Sense.SIGNED and value_um >= 0 else ""
+            return plus + mm_text(value_um)
+        case _:
+            return mm_text(constraint.value_um)
+
+
+def asked_of(constraint: Valued) -> tuple[str, ...]:
+    """The words of a constraint in front of its value."""
+    return tuple(words_of(constraint).removesuffix(value_text(constraint)).split())
+
+
+def _sized(constraint: Sized) -> str:
+    value = value_text(constraint)
     match constraint:
         case Length(segment):
             return f"length {segment} {value}"

@@ -10,21 +10,23 @@ HEADER = "drawing 1"
 
 
 def write_drawing(drawing: Drawing) -> str:
-    """The text of a sound drawing, which reads as the same drawing: all shapes, then all
-    constraints, a line each, with the notes where they stood."""
-    items = (*drawing.geometry, *drawing.constraints)
+    """The text of a sound drawing, which reads as the same drawing: all values, then all shapes,
+    then all constraints, a line each, with the notes where they stood."""
+    said = [each.line() for each in drawing.values]
+    said.extend(map(line_of, (*drawing.geometry, *drawing.constraints)))
     if not drawing.notes:
-        return "\n".join([HEADER, *map(line_of, items), ""])
+        return "\n".join([HEADER, *said, ""])
     above: dict[int, list[Note]] = {}
     for note in drawing.notes:
-        above.setdefault(min(note.before, len(items)), []).append(note)
+        place = min(note.before + len(drawing.values), len(said))
+        above.setdefault(place, []).append(note)
     lines = [HEADER]
-    for place, item in enumerate(items):
+    for place, line in enumerate(said):
         notes = above.get(place, [])
         lines.extend(_note_line(note) for note in notes if not note.beside)
         beside = [_note_line(note) for note in notes if note.beside]
-        lines.append(" ".join([line_of(item), *beside]))
-    lines.extend(_note_line(note) for note in above.get(len(items), []))
+        lines.append(" ".join([line, *beside]))
+    lines.extend(_note_line(note) for note in above.get(len(said), []))
     return "\n".join(lines) + "\n"
 
 

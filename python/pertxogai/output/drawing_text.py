@@ -17,6 +17,7 @@ from pertxogai.judging.measure.limit import units_text
 from pertxogai.judging.measure.upright import upright
 from pertxogai.output.finding_text import finding_json, finding_lines, freedoms_text
 from pertxogai.output.stored_text import stored_json, stored_lines
+from pertxogai.output.values_text import values_json, values_lines
 from pertxogai.program.reports import CheckReport, Part, Solved
 
 __all__ = ["JudgedDrawing", "drawing_json", "drawing_lines", "spare_json", "spelled_json",
@@ -40,6 +41,7 @@ def drawing_json(judged: JudgedDrawing) -> dict[str, object]:
         **reasons_json(judged),
         "parts": [_part(judgement, part) for part in _check(judgement).parts],
         **spelled_json(judged),
+        **values_json(judged.drawing),
         **finding_json(judged),
         "proposed": list(judged.proposed),
         "nearly": [asdict(each) for each in judged.nearly],
@@ -119,6 +121,7 @@ def drawing_lines(judged: JudgedDrawing) -> Iterator[str]:
         yield "  nothing is drawn in it that could be judged"
     yield from (f"  not met: {reason.text}" for reason in reasons_against(judged)
                 if reason.lack in UNMET)
+    yield from values_lines(judged.drawing)
     yield from _tried_lines(judgement)
     yield from (f"  left out: {what}" for what in judged.not_drawn)
     yield from _left_out_lines(judgement)

@@ -1,0 +1,63 @@
+"""Lines that name a value, as `value Width 120`."""
+
+from __future__ import annotations
+
+from collections.abc import Iterable, Sequence
+from dataclasses import dataclass
+
+from pertxogai.drawing.refusal import WordFault
+from pertxogai.drawing.values.parsing import read_expression
+from pertxogai.drawing.values.table import Value, Values, check_value_name
+
+WORD = "value"
+"""The first word of the line of a value."""
+
+
+def read_value(words: Sequence[str], called: str | None = None) -> Value:
+    """The value of a line's words. called: the name that stands in front of them. Raises
+    WordFault."""
+    if called is not None:
+        raise WordFault(called, "is a name in front of a value, whose name stands behind its word: "
+                                f"write {WORD} NAME ..")
+    if len(words) < 2:
+        raise WordFault(WORD, "is the last word, and a name is missing behind it: write "
+                              f"{WORD} Width 120")
+    check_value_name(words[1])
+    if len(words) == 2:
+        raise WordFault(words[1], f"has no value: write a number behind it, as {WORD} {words[1]} "
+                                  "120")
+    return Value(words[1], read_expression(" ".join(words[2:])))
+
+
+@dataclass(frozen=True)
+class WrittenValues:
+    """The values of a text by the numbers of their lines, from 1; of a line that is refused, why."""
+
+    lines: tuple[tuple[int, str, Value | WordFault], ...]
+
+    @staticmethod
+    def of(lines: Iterable[str]) -> WrittenValues:
+        """The values that some lines name."""
+        found = []
+        for number, line in enumerate(lines, start=1):
+            words = line.partition("#")[0].split()
+            if words[:1] == [WORD] and len(words) > 1:
+                found.append((number, words[1], _read(words)))
+        return WrittenValues(tuple(found))
+
+    def values(self) -> Values:
+        """The table of them. Where a name stands twice, its first line counts."""
+        first = {name: value for _, name, value in reversed(self.lines)}
+        return Values((each for each in first.values() if isinstance(each, Value)),
+                      {name: each for name, each in first.items() if isinstance(each, WordFault)})
+
+    def line_of(self, name: str) -> int:
+        """The number of the first line that names a value so."""
+        return next(number for number, each, _ in self.lines if each == name)
+
+
+def _read(words: Sequence[str]) -> Value | WordFault:
+    try:
+        return read_value(words)
+    except WordFault as fault:
+        return fault

@@ -1,0 +1,128 @@
+"""What of a drawing may be given another number: its named values, and its dimensions."""
+
+from __future__ import annotations
+
+from collections.abc import Iterator
+from dataclasses import dataclass, replace
+from enum import Enum
+from fractions import Fraction
+from math import atan2, degrees
+
+from pertxogai.drawing.constraint_checks import check_constraint
+from pertxogai.drawing.constraints import AngleBetween, Degrees, Ratio, Sense, Valued
+from pertxogai.drawing.drawing import Drawing
+from pertxogai.drawing.numbers import decimal_text
+from pertxogai.drawing.refusal import DrawingUnsound, WordFault
+from pertxogai.drawing.senses import Slope, turn
+from pertxogai.drawing.values.expression import Expression
+from pertxogai.drawing.values.parsing import read_expression
+from pertxogai.drawing.values.reckoning import with_values
+
+
+PARTS = 10_000
+"""An angle by a ratio is told to so many parts of a degree."""
+
+
+class Unit(Enum):
+    """What a parameter counts; the values are their words."""
+
+    MM = "mm"
+    DEGREES = "deg"
+    PLAIN = ""
+    """No unit, as of a count of holes; of a value that is used as a length it is millimetres."""
+
+
+@dataclass(frozen=True)
+class NamedValue:
+    """The value of that name; `present` counts its unit."""
+
+    name: str
+    unit: Unit
+    present: Fraction
+
+    def called(self, drawing: Drawing) -> str:
+        """What a designer calls it."""
+        return self.name
+
+    def on(self, drawing: Drawing, number: Fraction) -> Drawing:
+        """The drawing with another number for it, in its unit. Raises DrawingUnsound."""
+        return with_values(drawing, {self.name: expression_of(number, self.unit)})
+
+
+@dataclass(frozen=True)
+class Dimension:
+    """The constraint at a place, from 1; `present` counts its unit."""
+
+    number: int
+    unit: Unit
+    present: Fraction
+
+    def called(self, drawing: Drawing) -> str:
+        """What a designer calls it."""
+        return drawing.called(self.number)
+
+    def on(self, drawing: Drawing, number: Fraction) -> Drawing:
+        """The drawing with another number for it, in its unit; itself at the present one. An angle
+        by its ratio is one in degrees then, as a turn. Raises DrawingUnsound."""
+        if number == self.present:
+            return drawing
+        old = drawing.constraints[self.number - 1]
+        assert isinstance(old, Valued)
+        anew: Valued
+        if isinstance(old, AngleBetween):
+            sense = Sense.SIGNED if isinstance(old.value, Ratio) else old.sense
+            anew = replace(old, value=Degrees(number), sense=sense, expression=None)
+        else:
+            anew = replace(old, value_um=number * 1000, expression=None)
+        try:
+            check_constraint(drawing.scene, anew)
+        except WordFault as fault:
+            raise DrawingUnsound(self.called(drawing), fault.word, fault.what) from None
+        place = self.number - 1
+        said = *drawing.constraints[:place], anew, *drawing.constraints[place + 1:]
+        return replace(drawing, constraints=said)
+
+
+Parameter = NamedValue | Dimension
+"""What may be given another number."""
+
+
+def parameters(drawing: Drawing) -> tuple[Parameter, ...]:
+    """The values and then the dimensions of a sound drawing that follow from no value; without
+    values whose unit is another than mm or degrees. Of an angle by a ratio `present` is the turn in
+    degrees, to four digits behind the point."""
+    return (*_values(drawing), *_dimensions(drawing))
+
+
+def expression_of(number: Fraction, unit: Unit) -> Expression:
+    """A number with its unit, as it is written: to twenty digits."""
+    return read_expression(decimal_text(number) + unit.value)
+
+
+def _values(drawing: Drawing) -> Iterator[NamedValue]:
+    units = {(0, 0): Unit.PLAIN, (1, 0): Unit.MM, (0, 1): Unit.DEGREES}
+    for each in drawing.values:
+        quantity = drawing.scene.values.quantity(each.name)
+        unit = units.get((quantity.length, quantity.angle))
+        if unit is not None and not each.expression.names:
+            yield NamedValue(each.name, unit, quantity.number)
+
+
+def _dimensions(drawing: Drawing) -> Iterator[Dimension]:
+    for number, each in enumerate(drawing.constraints, start=1):
+        if not isinstance(each, Valued) or each.expression is not None and each.expression.names:
+            continue
+        if not isinstance(each, AngleBetween):
+            yield Dimension(number, Unit.MM, each.value_um / 1000)
+        elif isinstance(each.value, Degrees):
+            yield Dimension(number, Unit.DEGREES, each.value.value)
+        else:
+            yield Dimension(number, Unit.DEGREES, _turn(drawing, each))
+
+
+def _turn(drawing: Drawing, angle: AngleBetween) -> Fraction:
+    """The turn of an angle by a ratio, in degrees."""
+    slope = turn(drawing, angle)
+    assert isinstance(slope, Slope)
+    turned = degrees(atan2(slope.p, slope.q)) + 180 * slope.backward
+    return Fraction(round((turned - 360 if turned > 180 else turned) * PARTS), PARTS)

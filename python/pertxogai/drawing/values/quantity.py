@@ -1,0 +1,157 @@
+"""Numbers with units, exact as far as fractions go."""
+
+from __future__ import annotations
+
+from collections.abc import Iterable
+from dataclasses import dataclass, replace
+from fractions import Fraction
+from functools import reduce
+from math import isqrt
+
+from pertxogai.drawing.places import UM_PER_MM
+
+MOST_BITS = 1_000
+"""No numerator and no denominator has more bits: a chain of products would take any time."""
+
+_ROOT = 10 ** 30
+"""A root that is no fraction is rounded to so many parts of one, and its user once more."""
+
+ANGLE_PARTS = 10 ** 8
+"""An angle of a rounded root is rounded to so many parts of a degree: a sixth of a ppb."""
+
+
+class Misfit(Exception):
+    """Numbers can't be reckoned with so. The message says what is wrong, in words that follow a
+    name."""
+
+
+@dataclass(frozen=True)
+class Quantity:
+    """A number of millimetres to the power `length`, and of degrees to the power `angle`. One that
+    has neither is plain: beside millimetres it counts as millimetres. exact: whether no root in it
+    was rounded."""
+
+    number: Fraction
+    length: int = 0
+    angle: int = 0
+    exact: bool = True
+
+    @property
+    def is_plain(self) -> bool:
+        """Whether it has no unit."""
+        return not self.length and not self.angle
+
+    def plus(self, other: Quantity) -> Quantity:
+        """The sum. Raises Misfit where the units don't fit."""
+        length, angle = self._unit_with(other)
+        return _checked(Quantity(self.number + other.number, length, angle,
+                                 self.exact and other.exact))
+
+    def times(self, other: Quantity) -> Quantity:
+        """The product."""
+        return _checked(Quantity(self.number * other.number, self.length + other.length,
+                                 self.angle + other.angle, self.exact and other.exact))
+
+    def negative(self) -> Quantity:
+        """The same with the other sign."""
+        return replace(self, number=-self.number)
+
+    def inverse(self) -> Quantity:
+        """One over it. Raises Misfit where it is 0."""
+        if not self.number:
+            raise Misfit("comes to 0, and nothing is divided by 0")
+        return Quantity(1 / self.number, -self.length, -self.angle, self.exact)
+
+    def root(self) -> Quantity:
+        """The square root. Raises Misfit of what is negative, or has a unit without a root."""
+        if self.number < 0:
+            raise Misfit(f"comes to {self.text()}, which has no square root")
+        if self.length % 2 or self.angle % 2:
+            raise Misfit(f"is in {self.unit_text()}, which has no square root: write sqrt of a "
+                         "number, or of mm times mm")
+        root, exact = _root(self.number)
+        return Quantity(root, self.length // 2, self.angle // 2, self.exact and exact)
+
+    def um(self) -> Fraction:
+        """A length in micrometres, whole where a root was rounded. Raises Misfit of another
+        unit."""
+        if self.angle or self.length not in (0, 1):
+            raise Misfit(f"is in {self.unit_text()}, and no length")
+        value_um = self.number * UM_PER_MM
+        return value_um if self.exact else Fraction(round(value_um))
+
+    def degrees(self) -> Fraction:
+        """An angle in degrees, in whole parts where a root was rounded. Raises Misfit of another
+        unit."""
+        if self.is_plain:
+            raise Misfit("is a number without a unit, and no angle: write deg behind a number in "
+                         "it, as 60deg")
+        if self.length or self.angle != 1:
+            raise Misfit(f"is in {self.unit_text()}, and no angle")
+        if self.exact:
+            return self.number
+        return Fraction(round(self.number * ANGLE_PARTS), ANGLE_PARTS)
+
+    def unit_text(self) -> str:
+        """Its unit, as `mm`, `mm²`, `deg/mm`; nothing where it is plain."""
+        above = [_power("mm", self.length), _power("deg", self.angle)]
+        below = [_power("mm", -self.length), _power("deg", -self.angle)]
+        over = "·".join(filter(None, above))
+        return "/".join([over or "1", *filter(None, below)]) if any(below) else over
+
+    def text(self) -> str:
+        """The number with its unit, for a person: to six places behind the point."""
+        shown = f"{float(round(self.number, 6)):.6f}".rstrip("0").rstrip(".")
+        unit = self.unit_text()
+        return f"{shown} {unit}" if unit else shown
+
+    def _unit_with(self, other: Quantity) -> tuple[int, int]:
+        """The unit of a sum: that of both, or of the one that isn't plain where that has no
+        degrees."""
+        mine, others = (self.length, self.angle), (other.length, other.angle)
+        if mine == others or other.is_plain and not self.angle:
+            return mine
+        if self.is_plain and not other.angle:
+            return others
+        raise Misfit(f"{_is_in(other)}, and what stands before it {_is_in(self)}")
+
+
+def least(quantities: Iterable[Quantity]) -> Quantity:
+    """The least of some. Raises Misfit where their units don't fit."""
+    return reduce(lambda one, other: _chosen(one, other, other.number < one.number), quantities)
+
+
+def greatest(quantities: Iterable[Quantity]) -> Quantity:
+    """The greatest of some. Raises Misfit where their units don't fit."""
+    return reduce(lambda one, other: _chosen(one, other, other.number > one.number), quantities)
+
+
+def _chosen(one: Quantity, other: Quantity, takes_other: bool) -> Quantity:
+    length, angle = one._unit_with(other)
+    return replace(other if takes_other else one, length=length, angle=angle)
+
+
+def _checked(quantity: Quantity) -> Quantity:
+    number = quantity.number
+    if max(number.numerator.bit_length(), number.denominator.bit_length()) > MOST_BITS:
+        raise Misfit("leads to a number of hundreds of digits: write shorter numbers")
+    return quantity
+
+
+def _root(number: Fraction) -> tuple[Fraction, bool]:
+    """The root of what isn't negative, and whether it is exact."""
+    above, below = isqrt(number.numerator), isqrt(number.denominator)
+    if (above * above, below * below) == (number.numerator, number.denominator):
+        return Fraction(above, below), True
+    square = number.numerator * number.denominator * _ROOT ** 2
+    return Fraction(isqrt(square), number.denominator * _ROOT), False
+
+
+def _power(unit: str, power: int) -> str:
+    if power <= 0:
+        return ""
+    return unit if power == 1 else unit + "".join("⁰¹²³⁴⁵⁶⁷⁸⁹"[int(it)] for it in str(power))
+
+
+def _is_in(quantity: Quantity) -> str:
+    return "has no unit" if quantity.is_plain else f"is in {quantity.unit_text()}"

@@ -1,0 +1,88 @@
+"""What the values and expressions of a drawing come to, also once some values are others."""
+
+from __future__ import annotations
+
+from collections.abc import Iterator, Mapping
+from dataclasses import dataclass, replace
+
+from pertxogai.drawing.constraint_checks import check_constraint
+from pertxogai.drawing.constraints import AngleBetween, Constraint, Degrees, Valued
+from pertxogai.drawing.drawing import Drawing
+from pertxogai.drawing.numbers import degrees_of, um_of
+from pertxogai.drawing.refusal import DrawingUnsound, WordFault
+from pertxogai.drawing.values.expression import Expression
+from pertxogai.drawing.values.quantity import Quantity
+from pertxogai.drawing.values.table import ValueFault, Values
+
+
+@dataclass(frozen=True)
+class ReckonedValue:
+    """A named value, how it is written, and what it comes to."""
+
+    name: str
+    text: str
+    quantity: Quantity
+
+
+def reckoned_values(drawing: Drawing) -> tuple[ReckonedValue, ...]:
+    """The values of a sound drawing, in their order."""
+    values = drawing.scene.values
+    return tuple(ReckonedValue(each.name, each.expression.text, values.quantity(each.name))
+                 for each in drawing.values)
+
+
+def rounded_roots(drawing: Drawing) -> tuple[int, ...]:
+    """The places, from 1, of the constraints of a sound drawing whose values were rounded, since a
+    root in their expressions is no fraction."""
+    values = drawing.scene.values
+    return tuple(number for number, each in enumerate(drawing.constraints, start=1)
+                 if isinstance(each, Valued) and each.expression is not None
+                 and not values.evaluated(each.expression).exact)
+
+
+def with_values(drawing: Drawing, changes: Mapping[str, Expression]) -> Drawing:
+    """A sound drawing in which some values are others, with each expression reckoned anew. A name
+    that no value has is passed over. Raises DrawingUnsound, with the value or the constraint, where
+    that isn't sound."""
+    values = tuple(replace(each, expression=changes.get(each.name, each.expression))
+                   for each in drawing.values)
+    return reckoned(replace(drawing, values=values))
+
+
+def reckoned(drawing: Drawing) -> Drawing:
+    """A drawing with each expression reckoned anew. Raises DrawingUnsound."""
+    _check_values(drawing)
+    said = tuple(_reckoned_all(drawing))
+    return replace(drawing, constraints=said) if said != drawing.constraints else drawing
+
+
+def _check_values(drawing: Drawing) -> None:
+    values = Values(drawing.values)
+    for each in drawing.values:
+        try:
+            values.quantity(each.name)
+        except ValueFault as fault:
+            raise DrawingUnsound(f"value {fault.name}", fault.word, fault.what) from None
+
+
+def _reckoned_all(drawing: Drawing) -> Iterator[Constraint]:
+    for number, each in enumerate(drawing.constraints, start=1):
+        if not isinstance(each, Valued) or each.expression is None:
+            yield each
+            continue
+        try:
+            anew = _reckoned(drawing.scene.values, each, each.expression)
+            if anew is not each:
+                check_constraint(drawing.scene, anew)
+            yield anew
+        except WordFault as fault:
+            raise DrawingUnsound(drawing.called(number), fault.word, fault.what) from None
+
+
+def _reckoned(values: Values, constraint: Valued, expression: Expression) -> Constraint:
+    """The constraint with what its expression comes to; itself where that is what it has."""
+    if isinstance(constraint, AngleBetween):
+        angle = Degrees(degrees_of(expression, values))
+        return constraint if angle == constraint.value else replace(constraint, value=angle)
+    value_um = um_of(expression, values)
+    return constraint if value_um == constraint.value_um else replace(constraint, value_um=value_um)
