@@ -9,10 +9,11 @@ from collections.abc import Iterator, Sequence
 from dataclasses import dataclass
 from enum import Enum
 
-from pertxogai.drawing import Drawing, Segment
+from pertxogai.drawing import Arc, Circle, Drawing, Segment
 from pertxogai.exact import Vector, cross, dot
-from pertxogai.judging.edges import Edge, Edges, boxes_meet
+from pertxogai.judging.edges import Chord, Edge, Edges, boxes_meet
 from pertxogai.judging.measure.solution import Solution
+from pertxogai.judging.rims import Rim, Round
 
 
 class DepartureKind(Enum):
@@ -46,7 +47,11 @@ def warnings(drawing: Drawing, solution: Solution, free: bool = False) -> tuple[
     segments = [shape for shape in drawing.geometry if isinstance(shape, Segment)]
     found = [edges.of_shape(shape) for shape in segments]
     outline = [edge for edge, shape in zip(found, segments) if not shape.construction]
-    return (*_turned(found, free), *_corners(edges, outline), *_crossings(edges, outline))
+    rims = [Rim.of(drawing, solution, shape) for shape in drawing.geometry
+            if isinstance(shape, Circle | Arc) and not shape.construction
+            and shape.name in solution.radii]
+    return (*_turned(found, free), *_corners(edges, outline), *_crossings(edges, outline),
+            *_cut_rims(outline, rims))
 
 
 def _turned(edges: Sequence[Edge], free: bool) -> Iterator[Departure]:
@@ -81,3 +86,19 @@ def _crossings(edges: Edges, outline: Sequence[Edge]) -> Iterator[Departure]:
         if one.placed.crosses(other.placed) and not one.drawn.crosses(other.drawn):
             if set(edges.leaders(one)).isdisjoint(edges.leaders(other)):
                 yield Departure(DepartureKind.CROSSES, (one.name, other.name))
+
+
+def _cut_rims(outline: Sequence[Edge], rims: Sequence[Rim]) -> Iterator[Departure]:
+    """The circles and arcs that cross an edge or one another, and are drawn apart: as a hole that
+    leaves its plate."""
+    things: list[Edge | Rim] = [*outline, *rims]
+    placed: list[Chord | Round] = [each.placed for each in things]
+    for first, second in sorted(boxes_meet(placed)):
+        one, other = things[first], things[second]
+        if isinstance(other, Rim) and _cross(one.placed, other.placed):
+            if not _cross(one.drawn, other.drawn):
+                yield Departure(DepartureKind.CROSSES, (one.name, other.name))
+
+
+def _cross(one: Chord | Round, rim: Round) -> bool:
+    return rim.is_cut_by(one) if isinstance(one, Chord) else rim.crosses(one)

@@ -4,6 +4,7 @@ from __future__ import annotations
 from collections.abc import Iterator, Sequence
 from dataclasses import dataclass
 from itertools import combinations
+from typing import Protocol
 
 from pertxogai.drawing import Arc, Distance, Drawing, PointRef, Segment, Which
 from pertxogai.exact import Vector, between, cross, whole_near
@@ -93,7 +94,15 @@ class Edges:
         return Edge(name, ends, Chord(*drawn), Chord(*placed))
 
 
-def boxes_meet(chords: Sequence[Chord]) -> Iterator[tuple[int, int]]:
+class Boxed(Protocol):
+    """What lies in a box."""
+
+    def box(self) -> tuple[Vector, Vector]:
+        """From where to where it goes in x, and in y."""
+        ...
+
+
+def boxes_meet(chords: Sequence[Boxed]) -> Iterator[tuple[int, int]]:
     """The places of each two of which the boxes meet, by a sweep along x."""
     boxes = [each.box() for each in chords]
     passed: list[int] = []

@@ -31,7 +31,7 @@ def read_value(words: Sequence[str], called: str | None = None) -> Value:
 
 @dataclass(frozen=True)
 class WrittenValues:
-    """The values of a text by the numbers of their lines, from 1; of a line that is refused, why."""
+    """The values of a text by the numbers of their lines, from 1; of one that is refused, why."""
 
     lines: tuple[tuple[int, str, Value | WordFault], ...]
 
