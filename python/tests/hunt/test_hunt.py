@@ -179,6 +179,27 @@ def test_what_is_listed_wrongly_is_found() -> None:
     assert causes(against, 1) == {Cause.WELL_CONTRADICTS}
 
 
+def found_by_search(lacks: int, whole: int = 0, **more: object) -> dict[str, object]:
+    """What the search finds, of what is open."""
+    return {"verdict": "open", "places": None, "contradictions": [], "free_radii": [],
+            "freedoms": {"count": lacks + whole, "of_the_whole": whole, "doubtful": False}, **more}
+
+
+def test_what_is_found_wrongly_by_numbers_is_found() -> None:
+    loose = plate_of(PLATE.replace("y Hole 30\n", ""))
+    assert causes(loose, 1, lacks=1, **found_by_search(1)) == set()
+    assert causes(loose, 1, lacks=1, **found_by_search(0, whole=1)) == {Cause.FREEDOMS_UNTRUE}
+    freed = found_by_search(1, free_radii=["Hole"])
+    assert causes(loose, 1, lacks=1, **freed) == {Cause.RADII_UNTRUE}
+    clash = found_by_search(1, contradictions=[["constraint 7 (length PlateRight 80)"]])
+    assert causes(loose, 1, lacks=1, **clash) == {Cause.CLASH_UNTRUE}
+    # 2 um too far to the right, by what is told 3 nm at most.
+    off = {"amount": 3, "unit": "nm", "of": "constraint 8"}
+    there = found_by_search(1, places=placed(2000), deviations=[off])
+    assert causes(loose, 1, lacks=1, **there) == {Cause.FOUND_BUT_OFF}
+    assert causes(loose, 1, lacks=1, **{**there, "deviations": [{**off, "amount": 2000}]}) == set()
+
+
 def test_what_is_no_answer_is_found() -> None:
     plate = plate_of()
     assert [found.cause for found in wrongs(plate, Answer(None, late=True))] == [Cause.LATE]

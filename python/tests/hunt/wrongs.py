@@ -48,6 +48,10 @@ class Cause(Enum):
     REPEAT_CALLED_CONFLICT = "a repeat is called a contradiction"
     CONFLICT_CALLED_REPEAT = "a contradiction is called a repeat"
     CONFLICT_SILENT = "a contradiction is passed over in silence"
+    FREEDOMS_UNTRUE = "by numbers so many degrees of freedom, which isn't so"
+    RADII_UNTRUE = "by numbers a radius is free that isn't, or isn't that is"
+    CLASH_UNTRUE = "by numbers words contradict each other that don't"
+    FOUND_BUT_OFF = "placed by the search, and a word is off by more than is told"
     TRACEBACK = "a traceback"
     LATE = "no answer in a minute of a processor"
     REFUSED = "a sound drawing is refused"
@@ -81,7 +85,7 @@ def wrongs(made: Made, answer: Answer) -> list[Found]:
         return [Found(Cause.REFUSED, answer.complaint)]
     found = list(_good(made, answer)) if answer.is_good() else []
     check = {"well": _well, "open": _open, "over": _over}[answer.verdict]
-    return found + list(check(made, answer))
+    return found + list(check(made, answer)) + list(_searched(made, answer))
 
 
 def reach(made: Made, answer: Answer) -> Reach:
@@ -195,6 +199,36 @@ def _called(made: Made, spare: list[dict[str, Any]]) -> Iterator[Found]:
             yield Found(Cause.CONFLICT_CALLED_REPEAT, each["name"])
         if not made.contradicts() and each.get("repeats") is False:
             yield Found(Cause.REPEAT_CALLED_CONFLICT, f"{each['name']}: off by {each.get('off')} {each.get('unit')}")
+
+
+def _searched(made: Made, answer: Answer) -> Iterator[Found]:
+    """What is wrong about what the search found by numbers."""
+    true, freedoms = made.truth, answer.said.get("freedoms")
+    if freedoms is None:
+        return
+    inner = freedoms["count"] - freedoms["of_the_whole"]
+    if inner != true.lacks and not freedoms["doubtful"]:
+        yield Found(Cause.FREEDOMS_UNTRUE, f"told {inner}, true {true.lacks}")
+    radii = set(answer.names("free_radii")) & read(made.text).radii.keys()
+    if radii != true.sizeless and not freedoms["doubtful"]:
+        yield Found(Cause.RADII_UNTRUE, f"told {sorted(radii)}, true {sorted(true.sizeless)}")
+    clashes = [name for group in answer.names("contradictions") for name in group
+               if name.startswith("constraint ") and _number(name) not in true.spare]
+    if clashes and not made.is_impossible() and made.kind is not Kind.ELSEWHERE:
+        yield Found(Cause.CLASH_UNTRUE, "; ".join(clashes))
+    yield from _found_places(made, answer)
+
+
+def _found_places(made: Made, answer: Answer) -> Iterator[Found]:
+    """What is wrong about places that were found for what isn't well: each word is off by no more
+    than the greatest that is told, within the language's limit."""
+    places = answer.said.get("places")
+    if answer.verdict == "well" or not places:
+        return
+    told = max((each["amount"] for each in answer.names("deviations")), default=0)
+    worst = offs(made.text, places)
+    if worst and worst[0].beyond > SLACK * max(1.0, told / LIMIT_NM):
+        yield Found(Cause.FOUND_BUT_OFF, str(worst[0]))
 
 
 def _speaks(answer: Answer) -> bool:
