@@ -2,6 +2,7 @@
 from __future__ import annotations
 
 import json
+from collections.abc import Sequence
 from pathlib import Path
 
 import pytest
@@ -12,7 +13,8 @@ from pertxogai.files.kinds import DesignerDrawing, read_inputs
 from pertxogai.judging import judge
 from pertxogai.judging.as_stored import StoredOffs, as_stored
 from pertxogai.judging.measure import Unit
-from pertxogai.program import Program
+from pertxogai.language import Refusal
+from pertxogai.program import Answer, Program, Status
 
 FILES = Path(__file__).parent / "files"
 TRIANGLE = ("point A 0 0\npoint B {} 0\npoint C 4 3\n"
@@ -67,6 +69,33 @@ def test_a_line_runs_through_its_stored_ends(program: Program) -> None:
     assert gap.amount == 4
 
 
+def test_the_first_beyond_the_limit_is_told_by_its_words(program: Program) -> None:
+    """AB is 0.1 mm too long; BC, the root of 0.1 and 3 squared, is too by 1,666 nm."""
+    fault = stored(TRIANGLE.format("4.1"), program).fault
+    assert fault is not None
+    assert (fault.of, fault.text) == (("AB",), "fault c1 tolerance 100000 nm limit 1000")
+    assert stored(TRIANGLE.format("4"), program).fault is None
+
+
+class Refusing:
+    """A program that refuses what it is asked to measure: no sketch is known that is judged, and
+    too long with its places."""
+
+    def __init__(self, program: Program) -> None:
+        self.program = program
+
+    def ask(self, words: Sequence[str], text: str) -> Answer:
+        if words[0] != "measure":
+            return self.program.ask(words, text)
+        return Answer(Status.REFUSED, "refused line 0 E20 too-long\n")
+
+
+def test_a_refusal_of_the_program_is_handed_on(program: Program) -> None:
+    drawing = read_drawing(TRIANGLE.format("4"))
+    with pytest.raises(Refusal, match="E20 too-long"):
+        as_stored(judge(drawing, program), Refusing(program))
+
+
 def test_points_that_are_told_to_be_one_and_stored_apart_are_measured_here(
         program: Program) -> None:
     """The program has one point for both."""
@@ -118,10 +147,13 @@ def test_the_command_tells_it_behind_the_verdict(program: Program, tmp_path, cap
     lines = capsys.readouterr().out.splitlines()
     at = lines.index("  as stored, measured by the program: within 0.1 mm and 0 ppb")
     assert lines[at + 1] == "    AB: off by 0.1 mm, more than it says"
+    assert ("    the first that the program names: AB (fault c1 tolerance 100000 nm limit 1000)"
+            in lines)
     main(["judge", str(path), "--as-stored", "--json", "--program", program.path])
     sketch, = json.loads(capsys.readouterr().out)["sketches"]
     first = sketch["as_stored"]["by_program"][0]
     assert first == {"of": ["AB"], "off": 100_000, "unit": "nm", "turned": False}
+    assert sketch["as_stored"]["fault"]["of"] == ["AB"]
 
 
 def test_without_the_word_nothing_of_it_is_told(program: Program, tmp_path, capsys) -> None:

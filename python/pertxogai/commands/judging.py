@@ -38,7 +38,8 @@ def outcome_of(found: Input, program: Solver, options: argparse.Namespace) -> Ou
     if options.as_stored:
         from pertxogai.judging.as_stored import as_stored
 
-        judged = replace(judged, stored=as_stored(judged.judgement, program))
+        with made_of(found):
+            judged = replace(judged, stored=as_stored(judged.judgement, program))
     return DrawingOutcome(_searched(judged, program, options))
 
 

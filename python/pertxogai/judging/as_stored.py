@@ -11,6 +11,7 @@ from collections.abc import Collection, Iterable, Iterator, Mapping, Sequence
 from dataclasses import dataclass, replace
 from fractions import Fraction
 from math import isqrt
+from typing import assert_never
 
 from pertxogai import language
 from pertxogai.drawing import ORIGIN, Arc, Circle, Drawing
@@ -20,10 +21,14 @@ from pertxogai.judging.measure.deviation import Deviation, Unit
 from pertxogai.judging.measure.limit import MOST
 from pertxogai.judging.measure.measuring import measure
 from pertxogai.judging.measure.solution import Solution
+from pertxogai.judging.naming import Names
+from pertxogai.language import Refusal
 from pertxogai.language.numbers import nearest_whole
 from pertxogai.language.places import Placed, PlacedLine, PlacedPoint
 from pertxogai.program import Solver
-from pertxogai.program.reports import Measured, MeasuredOff, NotAReport, read_answer
+from pertxogai.program.reports import (
+    ConstraintFault, LineFault, Measured, MeasuredFault, MeasuredOff, NotAReport, Refused,
+    TurnedFault, read_answer)
 from pertxogai.spelling.facts import DATUM, ORIGIN_KNOT, Facts, Knot, Owner
 from pertxogai.spelling.rails import Rail
 from pertxogai.spelling.writing import Track
@@ -45,6 +50,16 @@ class StoredOff:
 
 
 @dataclass(frozen=True)
+class StoredFault:
+    """What the program names as the first that is beyond the limit, or the other way round than it
+    is drawn: the words that say it, or the segment, and the program's line, with numbers of the
+    sketch."""
+
+    of: tuple[str, ...]
+    text: str
+
+
+@dataclass(frozen=True)
 class StoredOffs:
     """How far the stored places are off.
 
@@ -52,16 +67,18 @@ class StoredOffs:
     lines; of several lines that the same words say the one that is off most, in nm and in ppb.
     length_nm and angle_ppb: the least tolerances within which the program says that these hold;
     None where it wasn't asked. others: what else the drawing says, and what its shapes imply, as
-    it was measured here."""
+    it was measured here. fault: None where the program names none."""
 
     by_program: tuple[StoredOff, ...]
     length_nm: int | None
     angle_ppb: int | None
     others: tuple[Deviation, ...]
+    fault: StoredFault | None = None
 
 
 def as_stored(judged: Judgement, program: Solver) -> StoredOffs:
-    """How far the stored places of a judged drawing are off. Raises ProgramError."""
+    """How far the stored places of a judged drawing are off. Raises ProgramError; Refusal where the
+    program refuses the places, as those of a text that is too long."""
     stored = _Stored(judged)
     told = _asked(judged, stored, program)
     owners = judged.asked.spelled.owners
@@ -73,7 +90,8 @@ def as_stored(judged: Judgement, program: Solver) -> StoredOffs:
         return StoredOffs((), None, None, others)
     offs = _by_words(judged, stored.lines, told.offs)
     length = whole_up(Fraction(told.tolerances.length_nm, judged.asked.spelled.scale))
-    return StoredOffs(offs, length, told.tolerances.angle_ppb, others)
+    fault = _fault(judged.names, stored.lines, told.fault)
+    return StoredOffs(offs, length, told.tolerances.angle_ppb, others, fault)
 
 
 def _solution(drawing: Drawing) -> Solution:
@@ -98,6 +116,8 @@ def _asked(judged: Judgement, stored: _Stored, program: Solver) -> Measured | No
     words = "measure", f"within={min(MOST, judged.limit.amount * spelled.scale)}"
     answer = program.ask(words, f"{sketch.text()}{places}end\n")
     told = read_answer(words, answer)
+    if isinstance(told, Refused):
+        raise Refusal(told)
     if not isinstance(told, Measured):
         raise NotAReport(f"the program doesn't measure the stored places: {answer.text.strip()}")
     return told
@@ -119,6 +139,22 @@ def _by_words(judged: Judgement, lines: Sequence[int],
         if names:
             found[names, mine.unit] = mine
     return tuple(found.values())
+
+
+def _fault(names: Names, lines: Sequence[int], fault: MeasuredFault | None) -> StoredFault | None:
+    """A fault that the program names of these lines."""
+    match fault:
+        case None:
+            return None
+        case ConstraintFault(constraint=number):
+            of = names.constraint(lines[number - 1] + 1)
+        case TurnedFault(of=turned):
+            of = names.constraint(lines[turned.number - 1] + 1)
+        case LineFault(name=name):
+            of = names.elements([name])
+        case _:
+            assert_never(fault)
+    return StoredFault(of, fault.text().strip())
 
 
 def _words(owners: Iterable[Owner]) -> list[Owner]:
@@ -162,11 +198,14 @@ class _Stored:
         self.lines = _whole(spelled.owners, self._measurable()) if exact else ()
 
     def _measurable(self) -> Iterator[int]:
+        """The constraints that are said just so, between placed elements, but for those of words of
+        which a part isn't in the sketch."""
         spelled = self._asked.spelled
         rounded = {each.number - 1 for each in spelled.rounded}
         for place, line in enumerate(spelled.sketch.constraints):
             is_next = spelled.coarse and isinstance(line, language.Angle)
-            if place not in rounded and not is_next and set(line.names()) <= self.places.keys():
+            if (place not in rounded and not is_next and set(line.names()) <= self.places.keys()
+                    and spelled.left_out.isdisjoint(spelled.owners[place])):
                 yield place
 
     def _place(self, element: language.Element) -> Placed | None:

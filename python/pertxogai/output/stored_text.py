@@ -20,6 +20,9 @@ def stored_lines(stored: StoredOffs, drawing: Drawing) -> Iterator[str]:
                f"{units_text(stored.angle_ppb, Unit.PPB)}")
         yield from _each((" with ".join(each.names), _off_text(each))
                          for each in stored.by_program)
+        if stored.fault:
+            of = ", ".join(stored.fault.of) or "lines of help"
+            yield f"    the first that the program names: {of} ({stored.fault.text})"
     if stored.others:
         yield "  as stored, and not told to the program as it is said; measured:"
         yield from _each((each.called(drawing), _deviation_text(each)) for each in stored.others)
@@ -57,6 +60,8 @@ def stored_json(stored: StoredOffs, drawing: Drawing) -> dict[str, object]:
                         "turned": each.turned} for each in stored.by_program],
         "length_tolerance_nm": stored.length_nm,
         "angle_tolerance_ppb": stored.angle_ppb,
+        "fault": None if stored.fault is None else {"of": list(stored.fault.of),
+                                                    "text": stored.fault.text},
         "measured": [{"of": each.called(drawing), "off": each.amount, "unit": each.unit.value}
                      for each in stored.others],
     }
