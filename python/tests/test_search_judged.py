@@ -9,6 +9,8 @@ import pytest
 
 from pertxogai import search
 from pertxogai.commands import main
+from pertxogai.program import Program
+from pertxogai.search.searched import Searched
 
 TESTS = Path(__file__).parent
 KEYS = {"freedoms", "moves", "chosen", "only_measured", "repeats", "contradictions", "places_by"}
@@ -95,6 +97,26 @@ def test_a_contradiction_in_what_is_open_is_told(capsys, tmp_path):
     main(["judge", str(tmp_path / "two.drawing")])
     out = capsys.readouterr().out
     assert "  can't all be met (by numbers): Three, Two, One" in out.splitlines()
+
+
+def test_an_open_drawing_is_searched_once_and_nothing_is_asked_twice(capsys, monkeypatch):
+    searched, asked = [], []
+    begin, ask = Searched.__init__, Program.ask
+
+    def searching(self, drawing, *seconds):
+        searched.append(drawing)
+        begin(self, drawing, *seconds)
+
+    def asking(self, words, text):
+        asked.append((tuple(words), text))
+        return ask(self, words, text)
+
+    monkeypatch.setattr(Searched, "__init__", searching)
+    monkeypatch.setattr(Program, "ask", asking)
+    assert json_of(capsys, "drawings/open-hinge")["proposed"]
+    constraints = min(len(each.constraints) for each in searched)
+    assert sum(len(each.constraints) == constraints for each in searched) == 1
+    assert len(asked) == len(set(asked))
 
 
 def test_without_a_search_nothing_is_counted(capsys):

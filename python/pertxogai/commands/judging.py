@@ -11,6 +11,7 @@ from pertxogai.exits import CommandError, Exit, MissingLibrary
 from pertxogai.files.kinds import DesignerDrawing, Input, SketchText, kind_of, read_inputs
 from pertxogai.judging import (
     DrawingRefused, GoodJudgement, JudgedDrawing, Judgement, judge, judge_sketch)
+from pertxogai.judging.remembering import Remembering
 from pertxogai.language import NotHeld, Refusal
 from pertxogai.output.outcome import DrawingOutcome, Outcome, SketchOutcome
 from pertxogai.program import Program, Solver
@@ -27,6 +28,7 @@ def program_of(options: argparse.Namespace) -> Program:
 def outcome_of(found: Input, program: Solver, options: argparse.Namespace) -> Outcome:
     """What the program says of one sketch of a file. Raises CommandError, TextRefused and
     ProgramError."""
+    program = Remembering(program)  # The judgement and the search ask some of the same.
     if isinstance(found, SketchText):
         if options.as_stored:
             raise CommandError(f"{found.name}: --as-stored takes a drawing, or a file of FreeCAD,"

@@ -12,11 +12,10 @@ from pertxogai.drawing import (
     Coincident, Concentric, Constraint, Drawing, Parallel, ParallelDistance, PointOn, PointRef,
     Sense, Which, XDistance, YDistance)
 from pertxogai.search.arrays import Array, Indices, dense
-from pertxogai.search.budget import MOST_SECONDS
 from pertxogai.search.equations import Equations
 from pertxogai.search.rank import wide
 from pertxogai.search.rounding import solution_of
-from pertxogai.search.searched import Searched
+from pertxogai.search.searched import Searched, searched
 from pertxogai.search.unknowns import By
 from pertxogai.search.values import drawn_at
 
@@ -45,18 +44,17 @@ class Slack:
     parallel: tuple[Parallel, ...]
 
     @staticmethod
-    def of(drawing: Drawing, seconds: float = MOST_SECONDS) -> Slack | None:
-        """That of a sound drawing, which is searched for so many seconds at most; None where no
-        places are found, or too much is free."""
-        searched = Searched(drawing, seconds)
-        equations, x = searched.equations, searched.found.x
-        ways = wide(searched.freedom.free, equations.unknowns.count)
-        if not searched.found.is_solved() or ways is None:
+    def of(drawing: Drawing, seconds: float | None = None) -> Slack | None:
+        """That of a sound drawing, which is searched for so many seconds at most, or for as long as
+        a search may take; None where no places are found, or too much is free."""
+        search = searched(drawing) if seconds is None else Searched(drawing, seconds)
+        equations, x, freedom = search.equations, search.found.x, search.freedom
+        ways = wide(freedom.free, equations.unknowns.count)
+        if not search.found.is_solved() or ways is None:
             return None
         placed = drawn_at(drawing, solution_of(equations.unknowns, x))
-        whole = ways.T @ searched.freedom.motions.whole
-        distances = (drawing.constraints[number - 1]
-                     for number in sorted(searched.freedom.crooked))
+        whole = ways.T @ freedom.motions.whole
+        distances = (drawing.constraints[number - 1] for number in sorted(freedom.crooked))
         parallel = tuple(Parallel(each.first, each.second) for each in distances
                          if isinstance(each, ParallelDistance))
         return Slack(drawing, placed, equations, x, ways, whole, parallel)

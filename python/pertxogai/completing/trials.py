@@ -5,7 +5,6 @@ from __future__ import annotations
 from collections.abc import Iterator, Sequence
 from dataclasses import dataclass, replace
 from fractions import Fraction
-from time import monotonic
 
 from pertxogai import language
 from pertxogai.drawing import (
@@ -21,10 +20,11 @@ from pertxogai.judging.within import Wider, within
 from pertxogai.language import NotHeld, Refusal
 from pertxogai.program import Solver, Status
 from pertxogai.program.reports import Solved, Verdict, read_parts
+from pertxogai.search.budget import spent_seconds
 
 MOST_ASKED, MOST_SECONDS = 400, 20.0
-"""The most drawings of which the program is asked, so that a busy machine finds the same, and the
-seconds after which no more are."""
+"""The most drawings of which the program is asked, and the seconds of a processor after which no
+more are: so a busy machine finds the same."""
 ROOM = (Fraction(101, 100), Fraction(99, 100))
 """A value is tried so many times as large."""
 ROOM_DEGREES = (Fraction(1, 2), Fraction(-1, 2))
@@ -67,11 +67,11 @@ class Trials:
 
     def __init__(self, program: Solver, limit: Limit) -> None:
         self._program, self._limit = Remembering(Wider(program, limit)), limit
-        self._left, self._end = MOST_ASKED, monotonic() + MOST_SECONDS
+        self._left, self._end = MOST_ASKED, spent_seconds() + MOST_SECONDS
 
     def is_over(self) -> bool:
         """Whether no more may be tried."""
-        return self._left <= 0 or monotonic() >= self._end
+        return self._left <= 0 or spent_seconds() >= self._end
 
     def state(self, drawing: Drawing, by_parts: bool = False) -> State | None:
         """What the program says, `by_parts` also of which parts have places; None where it takes no

@@ -21,16 +21,16 @@ __all__ = ["check_libraries", "search", "search_judged"]
 def search(drawing: Drawing) -> Finding:
     """What is found of a sound drawing. Raises MissingLibrary without numpy or scipy."""
     check_libraries()
-    from pertxogai.search.searched import Searched
-    return Searched(drawing).finding()
+    from pertxogai.search.searched import searched
+    return searched(drawing).finding()
 
 
 def search_judged(drawing: Drawing, judgement: Judgement, program: Solver) -> Finding:
     """What is found of a sound drawing that the program was asked about; where it is open, with the
     program's construction by values that were found. Raises MissingLibrary."""
     check_libraries()
-    from pertxogai.search.searched import Searched
-    return Searched(drawing).finding_with(judgement, program)
+    from pertxogai.search.searched import searched
+    return searched(drawing).finding_with(judgement, program)
 
 
 def check_libraries() -> None:

@@ -1,10 +1,18 @@
 """How much a search may take: steps and seconds, over all that it tries."""
 from __future__ import annotations
 
+from resource import RUSAGE_CHILDREN, getrusage
 from time import thread_time
 
 MOST_STEPS = 400
 MOST_SECONDS = 1.0
+
+
+def spent_seconds() -> float:
+    """The seconds of a processor that this thread, and programs that have ended, have taken so far:
+    on a machine that does something else besides, the clock says nothing."""
+    programs = getrusage(RUSAGE_CHILDREN)
+    return thread_time() + programs.ru_utime + programs.ru_stime
 
 
 class Budget:

@@ -9,7 +9,6 @@ from __future__ import annotations
 
 from collections.abc import Iterator, Sequence
 from dataclasses import dataclass, replace
-from time import monotonic
 
 from pertxogai.drawing import (
     Coincident, Collinear, Concentric, Constraint, Drawing, Equal, Length, Midpoint, Parallel,
@@ -21,7 +20,7 @@ from pertxogai.judging.measure import Deviation, Limit, Solution, Unit, greatest
 from pertxogai.program import ProgramError, Solver
 from pertxogai.program.reports import Verdict
 from pertxogai.search.arrays import Array
-from pertxogai.search.budget import Budget
+from pertxogai.search.budget import Budget, spent_seconds
 from pertxogai.search.descent import descend
 from pertxogai.search.equations import Equations
 from pertxogai.search.freedom import Freedom, freedom
@@ -38,7 +37,8 @@ MOST_VALUES = 6
 MOST_TRIED = 60
 """The most constraints that are tried for each."""
 MOST_ASKED, MOST_SECONDS = 200, 10.0
-"""The most drawings of which the program is asked, and the seconds after which no more are."""
+"""The most drawings of which the program is asked, and the seconds of a processor after which no
+more are."""
 MANY_PIECES = 10 ** 6
 _FIRST = (Equal, Tangent, PointOn, Symmetric, Midpoint, Collinear)
 """What is only measured rather than others: these need a size that may be unknown."""
@@ -154,11 +154,11 @@ class _Trials:
 
     def __init__(self, drawing: Drawing, program: Solver) -> None:
         self._drawing, self._program, self._left = drawing, program, MOST_ASKED
-        self._end = monotonic() + MOST_SECONDS
+        self._end = spent_seconds() + MOST_SECONDS
 
     def are_spent(self) -> bool:
         """Whether no more are left, or no time."""
-        return self._left <= 0 or monotonic() >= self._end
+        return self._left <= 0 or spent_seconds() >= self._end
 
     def construction(self, chosen: tuple[Constraint, ...], swaps: tuple[Swap, ...],
                      x: Array) -> Construction:

@@ -4,6 +4,7 @@ from __future__ import annotations
 
 from dataclasses import replace
 
+from pertxogai.cached import cached_on
 from pertxogai.drawing import Drawing, line_of
 from pertxogai.judging.finding import Finding, Group, PlacesBy
 from pertxogai.judging.judgement import Judgement
@@ -89,6 +90,12 @@ class Searched:
         if source.by is By.SHAPE:
             return f"the ends of {self.drawing.geometry[source.number - 1].name}"
         return self.drawing.called(source.number)
+
+
+@cached_on
+def searched(drawing: Drawing) -> Searched:
+    """A sound drawing, searched for as long as a search may take: once, whoever asks."""
+    return Searched(drawing)
 
 
 def _latest(dependency: Dependency) -> int:
