@@ -85,17 +85,23 @@ class Plane(Generic[N]):
     def _nothing(self) -> Jet[N]:
         return self.number(Fraction(0))
 
+    @cached_property
+    def _unknowns(self) -> list[Jet[N]]:
+        """Each unknown, by its place in the vector."""
+        one = self.numbers.of(Fraction(1))
+        return [Jet(value, {place: one}) for place, value in enumerate(self.vector)]
+
     def number(self, value: Fraction) -> Jet[N]:
         """A number that doesn't change."""
         return Jet(self.numbers.of(value), {})
 
     def mm(self, value_um: Fraction) -> Jet[N]:
         """Micrometres in millimetres."""
-        return self.number(value_um / UM_PER_MM)
+        return Jet(self.numbers.of(value_um) / UM_PER_MM, {})
 
     def unknown(self, place: int) -> Jet[N]:
         """An unknown."""
-        return Jet(self.vector[place], {place: self.numbers.of(Fraction(1))})
+        return self._unknowns[place]
 
     def spot(self, ref: PointRef) -> Way[N]:
         """Where a point lies."""
