@@ -2,6 +2,7 @@
 from __future__ import annotations
 
 import json
+from pathlib import Path
 
 import pytest
 
@@ -15,6 +16,7 @@ from pertxogai.output.sketch_text import sketch_json, sketch_lines
 from pertxogai.program import Program
 from pertxogai.program.reports import Verdict
 
+DRAWINGS = Path(__file__).parent / "drawings"
 TRIANGLE = ("point A 0 0\npoint B 4 0\npoint C 4 3\n"
             "Base: distance A B 4\nSide: distance B C 3\nFirst: distance A C 5\n")
 BRACED = ("point A 0 0\npoint B 4 0\npoint C 4 3\npoint D 0 3\n"
@@ -46,6 +48,15 @@ def test_a_gap_contradicts_the_width_and_the_gap_on_the_other_side(program: Prog
     assert {"Left", "Right", "Width"} <= found.keys()
     for name in "Left", "Right", "Width":
         assert {"Left", "Right", "Width"} <= found[name] | {name}
+
+
+def test_what_only_holds_the_others_in_their_places_is_in_no_group(program: Program) -> None:
+    """Of a plate of two widths, 1 mm apart, and upright sides the height contradicts nothing: it
+    may be any."""
+    plate = read_drawing((DRAWINGS / "over-plate-contradiction.drawing").read_text())
+    found = others(judge(plate, program))
+    assert "Top width" in found["Bottom width"] and "Bottom width" in found["Top width"]
+    assert all("Height" not in each for each in found.values())
 
 
 def test_what_stands_beside_is_in_no_group(program: Program) -> None:

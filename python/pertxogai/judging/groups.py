@@ -3,13 +3,14 @@ names them.
 
 The group of a dimension is the least of the kept lines that it follows from: without any one of
 them it wouldn't. A line may be said by several of the designer's words; then all of them are
-named."""
+named, but for those that by rank take no part in anything that is too much."""
 from __future__ import annotations
 
 from collections.abc import Mapping, Sequence
 from dataclasses import replace
 from types import MappingProxyType
 
+from pertxogai.judging.freedoms import freedoms
 from pertxogai.judging.naming import Names
 from pertxogai.judging.trials import written_by
 from pertxogai.program import Solver
@@ -28,10 +29,19 @@ def groups_of(names: Names, program: Solver, numbers: Sequence[int],
     program says of the sketch. Raises ProgramError."""
     most = min(MOST, WORK // max(1, work_of(check)))
     found = {number: _others(names, program, Owner(number)) for number in numbers[:most]}
-    return MappingProxyType({number: others for number, others in found.items() if others})
+    taking_part = _taking_part(names)
+    told = {number: names.owners(others if taking_part is None else others & taking_part)
+            for number, others in found.items()}
+    return MappingProxyType({number: others for number, others in told.items() if others})
 
 
-def _others(names: Names, program: Solver, owner: Owner) -> tuple[str, ...]:
+def _taking_part(names: Names) -> frozenset[Owner] | None:
+    """Who by rank takes part in something that is too much; None where that can't be told."""
+    free = freedoms(names.drawing)
+    return free.among() if free is not None and free.excess else None
+
+
+def _others(names: Names, program: Solver, owner: Owner) -> frozenset[Owner]:
     """The others in the group of a dimension. The program is asked with the lines that it says
     last, since it leaves out the last ones that it can."""
     owners = names.spelled.owners
@@ -44,4 +54,4 @@ def _others(names: Names, program: Solver, owner: Owner) -> tuple[str, ...]:
             if owner in owners[order[each.number - 1]]:
                 for number in (each.number, *each.because):
                     group |= owners[order[number - 1]]
-    return names.owners(group - {owner})
+    return frozenset(group - {owner})
