@@ -77,7 +77,7 @@ COMMANDS = (
     Command("why", "a sketch",
             "of each part that is over, for each constraint that is left out the others that it follows from"),
     Command("complete", "a sketch",
-            "the sketch with the constraints that it lacks, or why there is no such sketch"),
+            "the sketch with the constraints that it lacks, or why it gives none"),
     Command("parts", "a sketch", "the verdict and the parts, each with where its own elements lie", PLACING),
     Command("flips", "a sketch and lists of steps",
             "for each list where the elements lie once the choices of its steps are turned over", PLACING),

@@ -229,6 +229,8 @@ def excess_told(each: Excess, alone: Surplus | None = None) -> str:
 def _excess(each: Excess, alone: Surplus | None) -> str:
     if each.conflicts is None:
         return "left out; not measured"
+    if each.conflicts and alone is not None and alone.may_be_rounding():
+        return _surplus(alone)
     if not each.conflicts:
         return _repeat(each.off_um or Fraction(0))
     if each.off_um:
@@ -254,7 +256,8 @@ def _surplus(each: Surplus) -> str:
     if each.repeats():
         return _repeat(off_um or Fraction(0))
     by = amount_text(each.off) if off_um is None else _mm(off_um)
-    return f"a contradiction by {by}"
+    return f"off by {by}, which may be rounding" if each.may_be_rounding() else (
+        f"a contradiction by {by}")
 
 
 def _fault(judgement: Judgement, failure: Failure, short: str) -> Iterator[Line]:

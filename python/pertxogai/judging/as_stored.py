@@ -201,10 +201,9 @@ class _Stored:
         """The constraints that are said just so, between placed elements, but for those of words of
         which a part isn't in the sketch."""
         spelled = self._asked.spelled
-        rounded = {each.number - 1 for each in spelled.rounded}
+        rounded = {*(each.number for each in spelled.rounded), *spelled.near}
         for place, line in enumerate(spelled.sketch.constraints):
-            is_next = spelled.coarse and isinstance(line, language.Angle)
-            if (place not in rounded and not is_next and set(line.names()) <= self.places.keys()
+            if (place + 1 not in rounded and set(line.names()) <= self.places.keys()
                     and spelled.left_out.isdisjoint(spelled.owners[place])):
                 yield place
 

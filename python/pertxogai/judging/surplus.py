@@ -18,8 +18,9 @@ from pertxogai.judging.measure.limit import Limit
 from pertxogai.judging.measure.measuring import measure
 from pertxogai.judging.pieces_measured import off_in_pieces
 from pertxogai.judging.remembering import Remembering
+from pertxogai.judging.roundings import moved_by_rounding
 from pertxogai.judging.settled import solution_of
-from pertxogai.judging.trials import Question, Trial, first_good, written_by
+from pertxogai.judging.trials import Question, Trial, first_good, told_by, written_by
 from pertxogai.program import Answer, Solver
 from pertxogai.program.reports import Solved, Verdict, read_spare
 from pertxogai.spelling import Axes, Spelled, axes_said
@@ -46,7 +47,9 @@ class Then(Enum):
 class Surplus:
     """A dimension that may go, what the rest is then, and how far the dimension is off where the
     rest is placed: a repeat where `amount` is within the limit. off: None where the rest has no
-    places, or says less than with it. then: None where it wasn't tried."""
+    places, or says less than with it. then: None where it wasn't tried. rounding: of what is off by
+    more than the limit, by how much that moves with the values of the rest that had to be rounded,
+    in the same unit."""
 
     number: int
     name: str
@@ -56,10 +59,19 @@ class Surplus:
     others: tuple[str, ...] = ()
     """Those that it follows from, as the program names them; none where it wasn't asked, or keeps
     it."""
+    rounding: int = 0
 
     def repeats(self) -> bool | None:
         """Whether it says the same as the others; None where that can't be told."""
-        return None if self.off is None else self.off.amount <= self.limit.amount
+        if self.off is None or self.may_be_rounding():
+            return None
+        return self.off.amount <= self.limit.amount
+
+    def may_be_rounding(self) -> bool:
+        """Whether it is off by more than the limit, and that by no more than rounded values move
+        it, so that it may repeat the others all the same."""
+        return (self.off is not None
+                and self.limit.amount < self.off.amount <= self.limit.amount + self.rounding)
 
 
 def what_may_go(question: Question, asked: Trial) -> tuple[Surplus, ...]:
@@ -202,7 +214,8 @@ class _Trials:
         if asked.verdict is not Verdict.OVER and says == self.free.excess:
             off = self._off(number, gone, asked)
         then = Then.OVER if others else _then(asked)
-        return Surplus(number, self.drawing.called(number), off, then, self.limit)
+        return Surplus(number, self.drawing.called(number), off, then, self.limit,
+                       rounding=self._rounding(number, gone, asked, off))
 
     def _without(self, gone: frozenset[int]) -> Trial:
         """What the program says of the drawing without some constraints. Raises _Enough."""
@@ -223,6 +236,14 @@ class _Trials:
             return None
         places = solution_of(without(self.drawing, gone), asked, asked.solved)
         return worst(measure(self.drawing, places), number)
+
+    def _rounding(self, number: int, gone: frozenset[int], asked: Trial,
+                  off: Deviation | None) -> int:
+        """By how much what is off by more than the limit moves with the rounded values."""
+        if off is None or off.amount <= self.limit.amount:
+            return 0
+        return moved_by_rounding(asked.spelled, off, lambda spelled: self._off(
+            number, gone, told_by(asked, spelled, self.program)))
 
     def _off_by_sums(self, number: int, gone: frozenset[int]) -> Deviation | None:
         """How far a constraint is off what the rest says of x and y; None where that doesn't tell

@@ -155,7 +155,7 @@ def _styles(spellings: Interpretation, styles: Sequence[Style]) -> Iterator[tupl
 
 def finer(question: Question, asked: Trial) -> Trial:
     """The same with angles told as finely as can be, where that is still well and placed."""
-    if not asked.spelled.coarse:
+    if not asked.spelled.near:
         return asked
     fine = placed(ask(question, asked.axes, asked.spelled.style, Care(fine=True)),
                   question.program)
@@ -269,6 +269,12 @@ def placed(asked: Trial, program: Solver) -> Trial:
     if isinstance(told, CheckReport):
         raise NotAReport("the program faults by boxes what it doesn't call well by points")
     return replace(asked, place=PlaceBy.POINTS, solved=told)
+
+
+def told_by(asked: Trial, spelled: Spelled, program: Solver) -> Trial:
+    """What the program says where the same is told by another sketch."""
+    told = placed(_answered(asked.rails, spelled, program), program)
+    return replace(told, grown=asked.grown, frozen=asked.frozen, off=asked.off)
 
 
 def counted(asked: Trial, program: Solver) -> Trial:

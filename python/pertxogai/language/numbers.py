@@ -6,6 +6,7 @@ from __future__ import annotations
 
 import math
 import re
+from collections.abc import Iterator
 from decimal import Decimal
 from fractions import Fraction
 
@@ -103,6 +104,20 @@ def nearest_ratio(p: int | Fraction, q: int | Fraction) -> tuple[int, int]:
     near = (1 / tangent).limit_denominator(MOST_RATIO)
     sign = -1 if tangent < 0 else 1
     return sign * near.denominator, abs(near.numerator)
+
+
+def ratios_beside(p: int, q: int) -> Iterator[tuple[int, int]]:
+    """The ratios that the language holds nearest to p/q, one of a lesser and one of a greater size:
+    by their tangents up to 45 degrees, else by their cotangents; neither where it is 1/0."""
+    less, more = sorted((abs(p), q))
+    divisor, sign = math.gcd(p, q), -1 if p < 0 else 1
+    less, more = less // divisor, more // divisor
+    for step in (-1, 1) if less else ():
+        least = -step * pow(less, -1, more) % more
+        below = MOST_RATIO - (MOST_RATIO - least) % more
+        above = (less * below + step) // more
+        if 0 < above <= MOST_RATIO:
+            yield (sign * above, below) if abs(p) < q else (sign * below, above)
 
 
 def nearest_whole(value: int | Fraction) -> int:

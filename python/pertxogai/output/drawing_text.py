@@ -259,12 +259,21 @@ def _surplus_lines(judgement: Judgement) -> Iterator[str]:
                 "the rest is enough" for what in judgement.measured_off)
     yield from _advice_on(judgement.surplus)
     for each in judgement.surplus:
-        off = "" if each.off is None else f": off by {amount_text(each.off)}"
         then = "" if each.then is None else f"; the rest is {each.then.value} without it"
-        yield f"    {each.name}{off}{then}"
+        yield f"    {each.name}{_off_text(each)}{then}"
         if each.others:
             yield f"      {FOLLOWS[each.repeats()]}: {', '.join(each.others)}"
     yield from (f"  lacks a dimension all the same: {what} (by rank)" for what in judgement.loose)
+
+
+def _off_text(each: Surplus) -> str:
+    """How far a dimension that may go is off; by what rounding, where that may be all of it."""
+    if each.off is None:
+        return ""
+    off = f": off by {amount_text(each.off)}"
+    if not each.may_be_rounding():
+        return off
+    return f"{off}, rounded: rounding moves it by {units_text(each.rounding, each.off.unit)}"
 
 
 def _advice_on(surplus: Sequence[Surplus]) -> Iterator[str]:
@@ -292,14 +301,16 @@ def _part(judgement: Judgement, part: Part) -> dict[str, object]:
 
 class SpareJson(TypedDict):
     """A dimension that may go, as JSON. off, unit: how far it is off without it; rest: what the
-    others are then; null where that isn't known. follows_from: the names of the others that it
-    repeats or contradicts, by the program's `why`."""
+    others are then; null where that isn't known. rounding: by how much what is off by more than the
+    limit moves with values that had to be rounded, in the same unit. follows_from: the names of the
+    others that it repeats or contradicts, by the program's `why`."""
 
     number: int
     name: str
     repeats: bool | None
     off: int | None
     unit: str | None
+    rounding: int
     rest: str | None
     follows_from: list[str]
 
@@ -309,6 +320,7 @@ def spare_json(each: Surplus) -> SpareJson:
     return {"number": each.number, "name": each.name, "repeats": each.repeats(),
             "off": each.off.amount if each.off is not None else None,
             "unit": each.off.unit.value if each.off is not None else None,
+            "rounding": each.rounding,
             "rest": each.then.value if each.then is not None else None,
             "follows_from": list(each.others)}
 

@@ -33,13 +33,15 @@ def said_by(owners: Iterable[Owner]) -> Owners:
 @dataclass(frozen=True)
 class Draft:
     """A constraint, and who says it: `on` where there is neither value nor ratio. `second` is a
-    line, or a point for a distance."""
+    line, or a point for a distance. is_near: whether the ratio is only the one next to the
+    angle."""
 
     first: str
     second: str
     said: Owners
     value_um: Number | None = None
     ratio: tuple[int, int] | None = None
+    is_near: bool = False
 
     def names(self) -> tuple[str, str]:
         """The two elements."""

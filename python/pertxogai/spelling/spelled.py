@@ -64,8 +64,8 @@ class Spelled:
 
     said: who says each constraint, in their order. points: the name of each knot's point.
     tracks: what each line stands for. left_out: who says something that isn't in the sketch.
-    headings: which way each line runs. rounded: values that had to be rounded. coarse: whether an
-    angle is told by the ratio that is next to it. behind: the lines of help behind a rail.
+    headings: which way each line runs. rounded: values that had to be rounded. near: the numbers of
+    the angles that are told by the ratio next to them. behind: the lines of help behind a rail.
     unmeasured: the points of help between which a distance stands for what has no value."""
 
     style: Style
@@ -77,7 +77,7 @@ class Spelled:
     headings: tuple[Heading, ...]
     left_out: frozenset[Owner]
     rounded: tuple[Rounded, ...]
-    coarse: bool
+    near: tuple[int, ...]
     behind: dict[str, Behind]
     unmeasured: frozenset[tuple[str, str]]
 

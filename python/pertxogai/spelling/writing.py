@@ -64,7 +64,7 @@ class Writer:
         if (not other._has_no_help() or any(map(self.heights.runs_back, layout.rails.runs))
                 or not layout.datum_lines().isdisjoint(layout.crossed | known.crossed)):
             return False
-        layout.left_out, layout.coarse = known.left_out, known.coarse
+        layout.left_out = known.left_out
         layout.sheet.drafts, layout.sheet.told = known.sheet.drafts, known.sheet.told
         for track, name in layout.names.items():
             if name in known.sheet.lines:
@@ -89,10 +89,12 @@ class Writer:
         headings = tuple(layout.heading(name, track) for name, track in tracks.items()
                          if track is not None)
         said = tuple(draft.said for draft in layout.sheet.drafts)
+        near = tuple(number for number, draft in enumerate(layout.sheet.drafts, 1)
+                     if draft.is_near)
         told = frozenset[Owner]().union(*(each.owners for each in layout.care.off))
         left_out = (frozenset(layout.left_out) | layout.rails.lost) - told
         return Spelled(layout.style, sketch, scale, said, dict(layout.points), tracks, headings,
-                       left_out, rounded, layout.coarse, dict(layout.behind),
+                       left_out, rounded, near, dict(layout.behind),
                        frozenset(layout.unmeasured))
 
     def _drop_idle(self) -> None:

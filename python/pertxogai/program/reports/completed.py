@@ -1,4 +1,4 @@
-"""What `complete` answers: the sketch with what it lacks, or why there is no such sketch."""
+"""What `complete` answers: the sketch with what it lacks, or why none is given."""
 from __future__ import annotations
 
 import re

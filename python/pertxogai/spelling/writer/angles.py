@@ -98,8 +98,8 @@ class Angles:
         names = layout.names[first], layout.names[second]
         halves = lean.halves() if layout.care.fine else None
         if halves is None:
-            layout.coarse |= not lean.exact()
-            layout.sheet.drafts.append(Draft(*names, said, ratio=lean.ratio()))
+            layout.sheet.drafts.append(
+                Draft(*names, said, ratio=lean.ratio(), is_near=not lean.exact()))
             return
         between = f"H{names[1]}"
         knot = layout.a_point_of(second)

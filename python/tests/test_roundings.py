@@ -1,0 +1,98 @@
+"""What the rounding of values moves: how far, and that it is called no contradiction."""
+from __future__ import annotations
+
+import pytest
+
+from pertxogai.drawing import read_drawing
+from pertxogai.judging.measure import Unit
+from pertxogai.judging.measure.deviation import Deviation
+from pertxogai.judging.measure.limit import Limit
+from pertxogai.judging.roundings import Off, moved_by_rounding
+from pertxogai.judging.surplus import Surplus
+from pertxogai.language import Angle, Distance
+from pertxogai.language.numbers import ratios_beside
+from pertxogai.spelling import Spelled, Style, spell
+
+TRIANGLE = ("point A 0 0\npoint B 4 0\npoint C 4 3\n"
+            "distance A B {}\ndistance A C {}\ndistance B C 3\n")
+
+
+def spelled_of(ab_mm: str, ac_mm: str) -> Spelled:
+    return spell(read_drawing(TRIANGLE.format(ab_mm, ac_mm)), Style.VALUES)
+
+
+def deviation(amount: int, unit: Unit = Unit.NM) -> Deviation:
+    drawing = read_drawing(TRIANGLE.format(4, 5))
+    return Deviation(3, drawing.constraints[2], amount, unit)
+
+
+def hanging_on(*factors: int) -> Off:
+    """What is off by 1,400 nm where the lengths of a sketch are 4000 mm and 5000 mm, a thousand
+    times the drawing's, and by so many more for each micrometre that each of them is longer."""
+    def off(spelled: Spelled) -> Deviation:
+        lines = spelled.sketch.constraints
+        lengths = [line.length_um for line in lines if isinstance(line, Distance)]
+        longer = (lengths[0] - 4_000_000, lengths[1] - 5_000_000)
+        return deviation(abs(1400 + sum(a * b for a, b in zip(factors, longer))))
+    return off
+
+
+@pytest.mark.parametrize("factors, moved", [((30, 0), 30), ((-30, 0), 30), ((30, 9), 30),
+                                            # From 1400 to -600, of which the size is told.
+                                            ((-2000, 0), 2000)])
+def test_a_rounded_value_moves_it_by_as_much_as_a_unit_of_it(factors, moved):
+    # Of 4.0000004 mm 0.4 nm are lost, the thousandth of a micrometre of the sketch; 5 is told.
+    spelled = spelled_of("4.0000004", "5")
+    assert [each.number for each in spelled.rounded] == [1]
+    assert moved_by_rounding(spelled, deviation(1400), hanging_on(*factors)) == moved
+
+
+def test_what_several_rounded_values_move_adds_up():
+    spelled = spelled_of("4.0000004", "5.0000004")
+    assert moved_by_rounding(spelled, deviation(1400), hanging_on(30, -9)) == 39
+
+
+def test_an_angle_that_is_no_ratio_is_told_by_those_beside_it():
+    # 20 degrees, told from the upright axis by 9803/3568. Of the fractions with no number over
+    # 10,000 those beside it are 9531/3469 and 272/99: 3469 * 9803 - 9531 * 3568 is -1, and
+    # 99 * 9803 - 272 * 3568 is 1.
+    spelled = spell(read_drawing("segment A 0 0 10 0\ncoincident A.start Origin\non A.end XAxis\n"
+                                 "segment B A.start 9 3\nangle A B 20deg\nlength A 10\n"
+                                 "length B 9\n"), Style.VALUES)
+    told: list[tuple[int, int]] = []
+
+    def measured(there: Spelled) -> Deviation:
+        line = there.sketch.constraints[spelled.near[0] - 1]
+        assert isinstance(line, Angle)
+        told.append((abs(line.p), line.q))
+        return deviation(1410)
+
+    assert len(spelled.near) == 1 and not spelled.rounded
+    assert moved_by_rounding(spelled, deviation(1400), measured) == 10
+    assert set(told) == {(9531, 3469), (272, 99)}
+
+
+@pytest.mark.parametrize("ratio, beside", [
+    # 1/3 by fractions of denominators up to 10,000: 3333/10000 below, 3333/9998 above.
+    ((1, 3), [(3333, 10_000), (3333, 9998)]), ((-1, 3), [(-3333, 10_000), (-3333, 9998)]),
+    ((3, 1), [(10_000, 3333), (9998, 3333)]), ((2, 6), [(3333, 10_000), (3333, 9998)]),
+    ((1, 10_000), [(1, 9999)]), ((1, 0), [])])
+def test_the_ratios_beside_one_are_the_nearest_on_either_side(ratio, beside):
+    assert list(ratios_beside(*ratio)) == beside
+
+
+def test_without_a_rounded_value_nothing_moves():
+    assert moved_by_rounding(spelled_of("4", "5"), deviation(1400), hanging_on(30, 9)) == 0
+
+
+def test_what_has_no_places_with_another_value_may_be_all_rounding():
+    assert moved_by_rounding(spelled_of("4.0000004", "5"), deviation(1400), lambda _: None) == 1400
+
+
+@pytest.mark.parametrize("amount, rounding, repeats, may_be_rounding", [
+    (900, 0, True, False), (1000, 0, True, False), (1001, 0, False, False),
+    (1400, 399, False, False), (1400, 400, None, True), (1400, 9000, None, True)])
+def test_what_is_off_by_no_more_than_rounding_is_no_contradiction(
+        amount, rounding, repeats, may_be_rounding):
+    surplus = Surplus(3, "it", deviation(amount), limit=Limit(1000), rounding=rounding)
+    assert (surplus.repeats(), surplus.may_be_rounding()) == (repeats, may_be_rounding)
