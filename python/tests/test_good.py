@@ -95,7 +95,7 @@ def test_the_places_are_measured_and_not_believed(program):
     found = judged(PLATE, program)
     hole = PointRef("Hole", Which.CENTRE)
     assert lacks(moved(found, hole, 1)) == lacks(moved(found, hole, 1000)) == [Lack.NOT_PRINTED]
-    silent = replace(found, judgement=replace(found.judgement, deviations=()))
+    silent = replace(found, judgement=replace(found.judgement, measurement=None))
     for each in (found, silent):
         _, why = reasons_against(moved(each, hole, 1001))
         assert (why.lack, why.constraint, why.off.amount) == (Lack.OFF, 8, 1001)

@@ -13,6 +13,7 @@ from pertxogai.board.edits import Move
 from pertxogai.drawing import (
     Circle, Drawing, DrawingUnsound, Place, PointRef, Which, checked, read_drawing, write_drawing)
 from pertxogai.judging import judge, judge_at_once, with_counts
+from pertxogai.judging.edited import EditedDrawing
 from pertxogai.program import Answer, Solver, Status
 from pertxogai.program.reports import NotAReport, Verdict, read_check
 from pertxogai.spelling import Interpretation, Style, readings
@@ -25,10 +26,21 @@ WAYS = [(Fraction(1), Fraction(2)), (Fraction(-70_000), Fraction(40_000))]
 TIMES = (Fraction(1, 2), Fraction(5))
 
 
-def spelled(drawing: Drawing, before: Drawing = Drawing()) -> list[dict[str, object]]:
+def spelled(edited: EditedDrawing) -> list[dict[str, object]]:
     """All that a drawing is spelled as."""
-    return [_shown(each.spelled(style)) for each in readings(drawing, before)
-            for style in Style]
+    return [_shown(each.spelled(style)) for each in edited.readings() for style in Style]
+
+
+def spelled_anew(drawing: Drawing) -> list[dict[str, object]]:
+    """All that a drawing is spelled as by itself, as its text reads."""
+    return spelled(EditedDrawing(read_drawing(write_drawing(drawing))))
+
+
+def known(drawing: Drawing) -> EditedDrawing:
+    """A drawing that was spelled."""
+    edited = EditedDrawing(drawing)
+    assert spelled(edited)
+    return edited
 
 
 def _shown(each) -> dict[str, object]:
@@ -59,9 +71,9 @@ def moved(drawing: Drawing) -> Iterator[Drawing]:
 @pytest.mark.parametrize("path", DRAWINGS, ids=lambda path: path.stem)
 def test_what_is_drawn_elsewhere(path: Path) -> None:
     drawing = read_drawing(path.read_text(encoding="utf-8"))
-    spelled(drawing)
+    before = known(drawing)
     for each in moved(drawing):
-        assert spelled(each, drawing) == spelled(read_drawing(write_drawing(each)))
+        assert spelled(EditedDrawing(each, before)) == spelled_anew(each)
 
 
 PLATE = """rectangle R 0 0 100 60
@@ -77,23 +89,23 @@ y H.centre 30
 
 def test_what_is_left_is_taken_over(monkeypatch) -> None:
     drawing = read_drawing(PLATE)
-    spelled(drawing)
+    before = known(drawing)
     made = []
     monkeypatch.setattr(Interpretation, "of", lambda said: made.append(said))
     circle = drawing.shape("H")
     at = Place(Fraction(41_000), Fraction(33_500))
     shapes = (*drawing.geometry[:-1], replace(circle, centre=at))
-    assert spelled(replace(drawing, geometry=shapes), drawing) and not made
+    assert spelled(EditedDrawing(replace(drawing, geometry=shapes), before)) and not made
 
 
 def test_what_says_another_thing_is_spelled_anew() -> None:
     """The hole is drawn to the left of the origin, so that its x is -40."""
     drawing = read_drawing(PLATE)
-    spelled(drawing)
+    before = known(drawing)
     there = read_drawing(PLATE.replace("H 40 30 5", "H -40 30 5"))
-    kept = replace(there, constraints=drawing.constraints)
-    assert spelled(kept, drawing) == spelled(there)
-    assert spelled(kept, drawing) != spelled(drawing)
+    kept = EditedDrawing(replace(there, constraints=drawing.constraints), before)
+    assert spelled(kept) == spelled(EditedDrawing(there))
+    assert spelled(kept) != spelled(before)
 
 
 RIMS = """segment D 5 0 9 9
@@ -109,12 +121,12 @@ tangent C E
 def test_what_shares_a_point_that_is_drawn_elsewhere() -> None:
     """The arc is drawn larger with A, so that the circle touches it from within."""
     drawing = read_drawing(RIMS)
-    spelled(drawing)
     there = Place(Fraction(24_000), Fraction(0))
     larger = checked(Move(((PointRef("A", Which.END), there),)).on(drawing), drawing)
-    assert lowered(larger, drawing) == lowered(read_drawing(write_drawing(larger)))
-    assert lowered(larger, drawing).facts != lowered(drawing).facts
-    assert spelled(larger, drawing) == spelled(read_drawing(write_drawing(larger)))
+    edited = EditedDrawing(larger, known(drawing))
+    assert edited.facts == lowered(read_drawing(write_drawing(larger)))
+    assert edited.facts.facts != lowered(drawing).facts
+    assert spelled(edited) == spelled_anew(larger)
 
 
 @pytest.mark.parametrize("text, x_um", [
@@ -125,16 +137,16 @@ def test_what_is_given_from_outside_stays_where_it_is_drawn_then(text: str, x_um
     """The end of another moves, where its point is drawn; a point that is drawn by itself and
     joined to that end stays."""
     drawing = read_drawing(text)
-    spelled(drawing)
     there = Place(Fraction(50_000), Fraction(0))
     longer = checked(Move(((PointRef("A", Which.END), there),)).on(drawing), drawing)
-    found = lowered(longer, drawing)
+    edited = EditedDrawing(longer, known(drawing))
+    found = edited.facts
     start = found.refs[PointRef("B", Which.START)]
     assert [fact.place for fact in found.facts
             if isinstance(fact, Stays) and fact.point == start] == [
                 Place(Fraction(x_um), Fraction(0))]
     assert found == lowered(read_drawing(write_drawing(longer)))
-    assert spelled(longer, drawing) == spelled(read_drawing(write_drawing(longer)))
+    assert spelled(edited) == spelled_anew(longer)
 
 
 def test_the_sides_of_all_axes_count(monkeypatch) -> None:
@@ -154,15 +166,15 @@ def test_a_line_of_the_datum_that_goes_comes_again(y_um: tuple[Fraction, Fractio
         f"segment A 0 0 40 2\nsegment B A.end 38 {float(each) / 1000:.4f}\n"
         "segment C B.end A.start\nlength A 40\nlength B 30\nlength C 45\n"
         "coincident A.start Origin\ny B.end -3\n") for each in y_um)
-    spelled(then)
-    assert spelled(now, then) == spelled(read_drawing(write_drawing(now)))
+    assert spelled(EditedDrawing(now, known(then))) == spelled_anew(now)
 
 
 def test_readings_that_are_read_again_are_the_same() -> None:
     """What was spelled of a drawing before doesn't pile up."""
-    drawing = read_drawing(PLATE)
-    assert [len(list(readings(drawing))) for _ in range(3)] == [1, 1, 1]
-    assert spelled(drawing) == spelled(drawing)
+    edited = EditedDrawing(read_drawing(PLATE))
+    assert [len(list(edited.readings())) for _ in range(3)] == [1, 1, 1]
+    assert len(edited.analysis.interpretations) == 1
+    assert spelled(edited) == spelled(edited)
 
 
 @dataclass

@@ -13,8 +13,10 @@ from pertxogai.board.placed_parts import LaidPart, parts_laid, shown_between
 from pertxogai.board.protocol import Judgement as JudgementJson, Places
 from pertxogai.board.shortage import shortage
 from pertxogai.drawing import Drawing
-from pertxogai.judging import Judgement, TooMuch, judge_at_once, too_much, weighed, with_choices
+from pertxogai.judging import Judgement, TooMuch, too_much, weighed, with_choices
+from pertxogai.judging.edited import EditedDrawing
 from pertxogai.judging.judged_drawing import JudgedDrawing
+from pertxogai.judging.judgement import judge_edited
 from pertxogai.judging.measure import Solution
 from pertxogai.judging.settled import solution_of
 from pertxogai.language import Refusal
@@ -33,21 +35,24 @@ class NotPlaced(Exception):
 
 @dataclass
 class BoardDrawing:
-    """A drawing and the judgement on it, by a program that is asked for more. before: the drawing
-    that an edit has made this one from. sight, told: what the page was told of it last, and of the
-    judgement on it; None where that was trouble."""
+    """A drawing and the judgement on it, by a program that is asked for more. sight, told: what
+    the page was told of it last, and of the judgement on it; None where that was trouble."""
 
-    drawing: Drawing
+    edited: EditedDrawing
     program: Solver
-    before: Drawing = Drawing()
     sight: Sight | None = None
     told: JudgementJson | None = None
+
+    @property
+    def drawing(self) -> Drawing:
+        """What is drawn."""
+        return self.edited.drawing
 
     @cached_property
     def judgement(self) -> Judgement:
         """The judgement, in which what may go isn't measured. Raises ProgramError, Refusal,
         NotHeld."""
-        return judge_at_once(self.drawing, self.program, before=self.before)
+        return judge_edited(self.edited, self.program)
 
     @cached_property
     def too_much(self) -> TooMuch | Untold:

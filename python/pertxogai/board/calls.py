@@ -31,6 +31,7 @@ from pertxogai.files.contents import FileRefusal
 from pertxogai.exits import MissingLibrary
 from pertxogai.files.kinds import InputRefused
 from pertxogai.judging import DrawingRefused, with_counts
+from pertxogai.judging.edited import EditedDrawing
 from pertxogai.judging.good import reasons_against
 from pertxogai.judging.measure import PointNm
 from pertxogai.language import NotHeld, Refusal
@@ -86,7 +87,9 @@ class Desk:
     def judged(self, text: str) -> BoardDrawing:
         """The drawing of a text, with a program to ask. Raises DrawingRefusal."""
         known = self.kept.get(text)
-        return self.keep(text, known or BoardDrawing(read_document(text), self.attending))
+        if known is None:
+            known = BoardDrawing(EditedDrawing(read_document(text)), self.attending)
+        return self.keep(text, known)
 
     def keep(self, text: str, judged: BoardDrawing) -> BoardDrawing:
         """Keeps a drawing by its text, as the latest; the one that was asked for longest ago
@@ -101,8 +104,9 @@ class Desk:
         """What is told of a drawing that an edit has made of a known one, kept by its text as
         what that reads as; where the page `knows` what was told of that one, without what is as it
         was. Raises DrawingUnsound."""
-        judged = BoardDrawing(checked(drawing, known.drawing), self.attending, known.drawing)
-        text = self.attending.meanwhile(lambda: write_document(drawing))
+        edited = EditedDrawing(checked(drawing, known.drawing), known.edited)
+        judged = BoardDrawing(edited, self.attending)
+        text = self.attending.meanwhile(lambda: write_document(edited.drawing))
         found = _whole(judged, given.texts("left_out"), known, given.flag("knows"))
         self.keep(text.value, judged)
         found["text"] = text.value

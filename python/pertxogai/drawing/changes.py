@@ -2,7 +2,7 @@
 
 from __future__ import annotations
 
-from weakref import ref
+from dataclasses import dataclass
 
 from pertxogai.cached import cached_on
 from pertxogai.drawing.constraints import (
@@ -20,19 +20,6 @@ def moved(drawing: Drawing, before: Drawing) -> frozenset[str] | None:
     """The shapes that are drawn elsewhere than in the drawing before, and those that have a point
     of them or one that is told to be one with theirs; None where the shapes are others, or where
     other points are told to be one."""
-    known = _known(drawing)
-    if not known or known[0][0]() is not before:
-        known[:] = [(ref(before), _moved(drawing, before))]
-    return known[0][1]
-
-
-@cached_on
-def _known(drawing: Drawing) -> list[tuple[ref[Drawing], frozenset[str] | None]]:
-    """The drawing that this one was compared with last, held weakly, and what came of it."""
-    return []
-
-
-def _moved(drawing: Drawing, before: Drawing) -> frozenset[str] | None:
     if len(drawing.geometry) != len(before.geometry) or _joining(drawing) != _joining(before):
         return None
     found = set()
@@ -43,9 +30,25 @@ def _moved(drawing: Drawing, before: Drawing) -> frozenset[str] | None:
             found.add(shape.name)
         elif any(spot is not None and spot.shape in found for spot in _shared(shape)):
             found.add(shape.name)
-    drawing.meets_as(before)
-    found |= {led.shape for led, leader in drawing.meetings.led() if leader.shape in found}
+    found |= {led.shape for led, leader in before.meetings.led() if leader.shape in found}
     return frozenset(found)
+
+
+@dataclass(frozen=True)
+class Redrawing:
+    """A drawing `new` in which the same points are one as in a drawing `old`, and what of it is
+    drawn elsewhere, as `moved` tells it. Its constraints may be others."""
+
+    old: Drawing
+    new: Drawing
+    elsewhere: frozenset[str]
+
+    @staticmethod
+    def of(old: Drawing, new: Drawing) -> Redrawing | None:
+        """From one drawing to another, which is made with what is known of the first one's points;
+        None where its shapes are others, or where other points are told to be one."""
+        elsewhere = moved(new, old)
+        return None if elsewhere is None else Redrawing(old, new.meeting_as(old), elsewhere)
 
 
 @cached_on

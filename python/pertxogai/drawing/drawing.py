@@ -3,6 +3,7 @@
 from __future__ import annotations
 
 from collections.abc import Iterator
+from copy import copy
 from dataclasses import dataclass
 from fractions import Fraction
 from functools import cached_property
@@ -56,9 +57,11 @@ class Drawing:
         """Which points are one."""
         return Meetings(self)
 
-    def meets_as(self, before: Drawing) -> None:
-        """Takes over which points are one from a drawing in which the same are."""
-        vars(self).setdefault("meetings", before.meetings.redrawn(self))
+    def meeting_as(self, other: Drawing) -> Drawing:
+        """The same drawing, made with which points are one in another in which the same are."""
+        found = copy(self)
+        vars(found)["meetings"] = other.meetings.redrawn(found)
+        return found
 
     @cached_property
     def wordings(self) -> tuple[str, ...]:

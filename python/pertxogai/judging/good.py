@@ -18,7 +18,7 @@ from pertxogai.judging.judged_drawing import JudgedDrawing
 from pertxogai.judging.judged_sketch import JudgedSketch
 from pertxogai.judging.measure.deviation import Deviation, Unit
 from pertxogai.judging.measure.limit import amount_text, units_text
-from pertxogai.judging.measure.measuring import measured
+from pertxogai.judging.measure.measuring import Measurement
 from pertxogai.judging.measure.sketches import sketch_tolerances
 from pertxogai.judging.measure.solution import MissingPlace, Solution
 from pertxogai.judging.settled import settled
@@ -251,11 +251,13 @@ def _unplaced(verdict: Verdict, solved: object, placed: bool) -> Iterator[Reason
 
 
 def _measured(judged: JudgedDrawing, solution: Solution) -> Iterator[Reason]:
-    """The constraints that don't hold on the places, as they are measured here: lengths before
-    directions, and those that are off most first."""
-    drawing = judged.drawing
+    """The constraints that don't hold on the places, lengths before directions, and those that are
+    off most first. They are measured here, unless the judgement's measurement is of these very
+    places: what one says was measured."""
+    drawing, known = judged.drawing, judged.judgement.measurement
+    measurement = Measurement(drawing, solution)
     try:
-        deviations = measured(drawing, solution)
+        deviations = known.all if known == measurement and known else measurement.all
     except MissingPlace as missing:
         yield Reason(Lack.UNMEASURED, str(missing))
         return

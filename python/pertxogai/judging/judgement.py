@@ -4,16 +4,17 @@ from __future__ import annotations
 from dataclasses import dataclass, replace
 from functools import cached_property
 
-from pertxogai.drawing import Circle, Drawing, moved
+from pertxogai.drawing import Circle, Drawing
 from pertxogai.judging.choices import Tried, beneath, tried
 from pertxogai.judging.departures import Departure, warnings
+from pertxogai.judging.edited import EditedDrawing
 from pertxogai.judging.faults import Failure, failure
 from pertxogai.judging.freedoms import Freedoms, Twice, Whole, freedoms
 from pertxogai.judging.groups import groups_of
 from pertxogai.judging.limits import check_fits
 from pertxogai.judging.measure.deviation import Deviation, Unit
 from pertxogai.judging.measure.limit import Limit
-from pertxogai.judging.measure.measuring import measure
+from pertxogai.judging.measure.measuring import Measurement, measure
 from pertxogai.judging.measure.solution import Solution
 from pertxogai.judging.missing import Missing, loose, missing, too_many, unmet
 from pertxogai.judging.naming import Names
@@ -62,7 +63,7 @@ class Judgement:
     style: how it was spelled. pieces and missing: where it is open. surplus: where it is over,
     each dimension that may go; loose: what is lacking all the same. solution: where it is placed,
     in the datum's frame, in whole nanometres; place: by boxes or by points. failure: why it isn't,
-    though it is well. deviations: of each constraint on those places. left_out: constraints that
+    though it is well. measurement: of each constraint on those places. left_out: constraints that
     couldn't be spelled. frozen: those left to their drawn values, to be measured. rounded: those of
     which the value had to be rounded. grown: those told by a value that was read off a placed part.
     repeats: those that tell of one point that it is itself. unsized: where it is placed, the
@@ -80,12 +81,17 @@ class Judgement:
     loose: tuple[str, ...] = ()
     solution: Solution | None = None
     failure: Failure | None = None
-    deviations: tuple[Deviation, ...] = ()
+    measurement: Measurement | None = None
     warnings: tuple[Departure, ...] = ()
     unsized: tuple[str, ...] = ()
     tried: Tried | None = None
     limit: Limit = Limit()
     unmet: tuple[str, ...] | None = None
+
+    @property
+    def deviations(self) -> tuple[Deviation, ...]:
+        """How far each constraint is off where it is placed."""
+        return () if self.measurement is None else self.measurement.all
 
     @property
     def style(self) -> Style:
@@ -215,20 +221,25 @@ def judge(drawing: Drawing, program: Solver, freeze: bool = False,
 
 
 def judge_at_once(drawing: Drawing, program: Solver, freeze: bool = False,
-                  before: Drawing = Drawing(), limit: Limit = Limit()) -> Judgement:
+                  limit: Limit = Limit()) -> Judgement:
     """The same, but that the counts of what is well aren't asked for, and that what may go is
-    named as the program names it, and not measured: that takes many more questions. `before`: the
-    drawing that an edit has made this one from. Raises ProgramError; DrawingRefused where the
-    drawing has more points or constraints than the program takes, or makes both ends of a shape
-    one; Refusal where the program refuses the spelled sketch; NotHeld where a place or length is
-    larger than the language holds."""
-    moved(drawing, before)  # From then on the drawing has the meetings of the one before.
+    named as the program names it, and not measured: that takes many more questions. Raises
+    ProgramError; DrawingRefused where the drawing has more points or constraints than the program
+    takes, or makes both ends of a shape one; Refusal where the program refuses the spelled sketch;
+    NotHeld where a place or length is larger than the language holds."""
+    return judge_edited(EditedDrawing(drawing), program, freeze, limit)
+
+
+def judge_edited(edited: EditedDrawing, program: Solver, freeze: bool = False,
+                 limit: Limit = Limit()) -> Judgement:
+    """The same of a drawing that an edit has made. Raises as `judge_at_once`."""
+    drawing = edited.drawing
     check_fits(drawing)
-    asked = first_good(Question(drawing, program, limit), freeze, before)
+    asked = first_good(Question(drawing, program, limit), freeze, spelled=edited.readings())
     names = Names(drawing, asked.spelled, asked.axes.facts.refs)
     judged = Judgement(asked.verdict, asked, names, limit=limit)
     if asked.check is None:
-        return _placed(judged, before, program)
+        return _placed(judged, edited, program)
     if asked.verdict is Verdict.OPEN:
         return replace(judged, missing=missing(names, asked.check))
     return replace(judged, surplus=tuple(Surplus(number, drawing.called(number), None)
@@ -264,17 +275,17 @@ def with_counts(judged: Judgement, program: Solver) -> Judgement:
     return replace(judged, asked=counted(judged.asked, program))
 
 
-def _placed(judged: Judgement, before: Drawing, program: Solver) -> Judgement:
+def _placed(judged: Judgement, edited: EditedDrawing, program: Solver) -> Judgement:
     solved = judged.asked.solved
     if isinstance(solved, Solved):
-        judged = _measured(judged, before)
+        judged = _measured(judged, edited)
         if not any(each.amount > FINE_NM for each in judged.deviations):
             return judged
         asked = finer(Question(judged.names.drawing, program, judged.limit), judged.asked)
         if asked is judged.asked:
             return judged
         fine = _measured(replace(judged, asked=asked,
-                                 names=replace(judged.names, spelled=asked.spelled)), before)
+                                 names=replace(judged.names, spelled=asked.spelled)), edited)
         return min((judged, fine), key=_greatest)
     if solved is None:
         return judged
@@ -282,15 +293,14 @@ def _placed(judged: Judgement, before: Drawing, program: Solver) -> Judgement:
     return replace(judged, failure=failure(judged.names, solved, plan))
 
 
-def _measured(judged: Judgement, before: Drawing) -> Judgement:
+def _measured(judged: Judgement, edited: EditedDrawing) -> Judgement:
     """With the places in the datum's frame, and all that is measured on them."""
     if not isinstance(judged.asked.solved, Solved):
         return judged
-    drawing = judged.names.drawing
-    found = settled(drawing, judged.asked, judged.asked.solved)
+    found = settled(edited.drawing, judged.asked, judged.asked.solved)
     solution, is_free = found.solution, not is_tied(judged.asked.axes, judged.asked.spelled)
-    return replace(judged, solution=solution, deviations=measure(drawing, solution, before),
-                   warnings=warnings(drawing, solution, is_free), unsized=found.unsized)
+    return replace(judged, solution=solution, measurement=edited.measured(solution),
+                   warnings=warnings(edited.drawing, solution, is_free), unsized=found.unsized)
 
 
 def _greatest(judged: Judgement) -> int:
@@ -312,5 +322,5 @@ def weighed(judged: Judgement, program: Solver) -> Judgement:
     return replace(judged, surplus=surplus, loose=loose(judged.names))
 
 
-__all__ = ["Judgement", "Surplus", "judge", "judge_at_once", "weighed", "with_choices",
-           "with_counts"]
+__all__ = ["Judgement", "Surplus", "judge", "judge_at_once", "judge_edited", "weighed",
+           "with_choices", "with_counts"]

@@ -4,7 +4,7 @@ Where what is linear is told twice, each dimension is spelled by itself, so that
 what is spare. """
 from __future__ import annotations
 
-from collections.abc import Iterator, Sequence
+from collections.abc import Iterable, Iterator, Sequence
 from dataclasses import dataclass, replace
 from enum import Enum
 from functools import partial
@@ -81,16 +81,16 @@ class Trial:
         return () if self.check is None else self.check.parts
 
 
-def first_good(question: Question, freeze: bool = False, before: Drawing = Drawing(),
-               quick: bool = False) -> Trial:
+def first_good(question: Question, freeze: bool = False, quick: bool = False,
+               spelled: Iterable[Interpretation] | None = None) -> Trial:
     """The first reading and style that is well and placed; else one that is well; else one that is
     over; else the one with the fewest parts. With `freeze`, what is open is asked again with
-    lengths and radii as they are drawn. What an edit has left of the drawing before isn't spelled
-    anew. `quick`: whether of what says something twice the first style that is over will do, since
-    none is called well then."""
+    lengths and radii as they are drawn. `quick`: whether of what says something twice the first
+    style that is over will do, since none is called well then. `spelled`: how the readings of the
+    drawing are spelled, where some of that is known."""
     best: Trial | None = None
     seen: list[list[Equation]] = []
-    for spellings in readings(question.drawing, before):
+    for spellings in readings(question.drawing) if spelled is None else spelled:
         if spellings.axes.equations in seen:
             continue
         seen.append(spellings.axes.equations)

@@ -5,13 +5,13 @@ from dataclasses import replace
 from fractions import Fraction
 from math import atan2, cos, hypot, pi, sin, sqrt
 
-from pertxogai.cached import cached_on
 from pertxogai.drawing import (
     X_AXIS, Y_AXIS, AngleBetween, Arc, Axis, Circle, Coincident, Collinear, Concentric, Constraint,
     Degrees, Diameter, Distance, Drawing, Equal, Fixed, Horizontal, Length, Midpoint, Origin, Pair,
     Parallel, ParallelDistance, Perpendicular, PointLineDistance, PointOn, PointRef, Radius,
     Segment, Sense, Shape, ShapeRef, Slope, Symmetric, Tangent, Touch, Vertical, Which, XDistance,
-    YDistance, moved, points_of, run_um, touch, turn)
+    YDistance, points_of, run_um, touch, turn)
+from pertxogai.drawing.changes import Redrawing
 from pertxogai.drawing.mentions import named
 from pertxogai.spelling.facts import (
     ORIGIN_KNOT, Apart, Between, Fact, Facts, Knot, Leans, LengthOf, Lies, Middle, Mirror, Off,
@@ -28,19 +28,38 @@ DRAWN = (XDistance, YDistance, AngleBetween, Tangent, Fixed)
 """What these say depends on where things are drawn."""
 
 
-def lowered(drawing: Drawing, before: Drawing = Drawing()) -> Facts:
-    """All facts of a drawing; those of the drawing before, where it was made from that by drawing
-    something elsewhere, and nothing says another thing there."""
-    facts = next((found for known in _known(before) if (found := _redrawn(drawing, before, known))),
-                 None) or _Lowering(drawing, _points(drawing)).all()
-    _known(drawing)[:] = [facts]
-    return facts
+def lowered(drawing: Drawing) -> Facts:
+    """All facts of a drawing."""
+    return _Lowering(drawing, _points(drawing)).all()
 
 
-@cached_on
-def _known(drawing: Drawing) -> list[Facts]:
-    """The facts of a drawing, once they are found."""
-    return []
+def lowered_from(facts: Facts, redrawing: Redrawing) -> Facts | None:
+    """The facts of a drawing, by those of one of which some shapes are drawn elsewhere; None where
+    it differs otherwise, or something says another thing than there, as a shape that is given from
+    outside."""
+    if not _asks_the_same(redrawing):
+        return None
+    drawing, elsewhere = redrawing.new, redrawing.elsewhere
+    there = {knot for ref, knot in facts.refs.items() if ref.shape in elsewhere}
+    refs = {ref: knot for ref, knot in facts.refs.items() if knot in there}
+    found = replace(facts, drawn={**facts.drawn, **_places(drawing, refs)})
+    for number, constraint in enumerate(drawing.constraints, 1):
+        if isinstance(constraint, DRAWN) and not elsewhere.isdisjoint(named(constraint)):
+            now, then = (_Lowering(each, replace(said, own=dict(said.own), facts=[])).one(number)
+                         for each, said in ((drawing, found), (redrawing.old, facts)))
+            if now != then:
+                return None
+    return found
+
+
+def _asks_the_same(redrawing: Redrawing) -> bool:
+    """Whether a drawing has the constraints of the other, none of its shapes that are drawn
+    elsewhere is given from outside, and no angle has a sign, which is by what is drawn."""
+    drawing, elsewhere = redrawing.new, redrawing.elsewhere
+    return (drawing.constraints == redrawing.old.constraints
+            and not any(shape.outer and shape.name in elsewhere for shape in drawing.geometry)
+            and not any(isinstance(each, AngleBetween) and each.sense is Sense.SIGNED
+                        for each in drawing.constraints))
 
 
 def _points(drawing: Drawing) -> Facts:
@@ -57,34 +76,6 @@ def _places(drawing: Drawing, refs: dict[PointRef, Knot]) -> dict[Knot, tuple[Nu
             place = drawing.drawn(ref)
             found[knot] = small(place.x_um), small(place.y_um)
     return found
-
-
-def _redrawn(drawing: Drawing, before: Drawing, facts: Facts) -> Facts | None:
-    """The facts of a drawing that differs from the one before by where some shapes are drawn; None
-    where it differs otherwise, or something says another thing than there, as a shape that is
-    given from outside."""
-    elsewhere = moved(drawing, before)
-    if elsewhere is None or not _asks_the_same(drawing, before, elsewhere):
-        return None
-    there = {knot for ref, knot in facts.refs.items() if ref.shape in elsewhere}
-    refs = {ref: knot for ref, knot in facts.refs.items() if knot in there}
-    found = replace(facts, drawn={**facts.drawn, **_places(drawing, refs)})
-    for number, constraint in enumerate(drawing.constraints, 1):
-        if isinstance(constraint, DRAWN) and not elsewhere.isdisjoint(named(constraint)):
-            now, then = (_Lowering(each, replace(said, own=dict(said.own), facts=[])).one(number)
-                         for each, said in ((drawing, found), (before, facts)))
-            if now != then:
-                return None
-    return found
-
-
-def _asks_the_same(drawing: Drawing, before: Drawing, elsewhere: frozenset[str]) -> bool:
-    """Whether a drawing has the constraints of the one before, none of its shapes that are drawn
-    elsewhere is given from outside, and no angle has a sign, which is by what is drawn."""
-    return (drawing.constraints == before.constraints
-            and not any(shape.outer and shape.name in elsewhere for shape in drawing.geometry)
-            and not any(isinstance(each, AngleBetween) and each.sense is Sense.SIGNED
-                        for each in drawing.constraints))
 
 
 class _Lowering:

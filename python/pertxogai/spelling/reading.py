@@ -1,10 +1,9 @@
 """The readings of a drawing's words, and how the drawing is spelled by each."""
 from __future__ import annotations
 
-from collections.abc import Iterator
+from collections.abc import Iterator, Sequence
 from dataclasses import dataclass, replace
 
-from pertxogai.cached import cached_on
 from pertxogai.drawing import Drawing
 from pertxogai.spelling.axes import Axes
 from pertxogai.spelling.crossings import with_crossings
@@ -58,26 +57,22 @@ def _met(heard: Facts) -> Facts:
     return with_half_arcs(with_crossings(replace(heard, own=dict(heard.own))))
 
 
-def readings(drawing: Drawing, before: Drawing = Drawing()) -> Iterator[Interpretation]:
-    """How a drawing is spelled by each reading that takes it otherwise than those before. What an
-    edit has left of the drawing before is taken over."""
-    heard = lowered(drawing, before)
+def readings(drawing: Drawing) -> Iterator[Interpretation]:
+    """How a drawing is spelled by each reading that takes it otherwise than those before."""
+    return interpretations(lowered(drawing))
+
+
+def interpretations(heard: Facts, known: Sequence[Interpretation] = ()) -> Iterator[Interpretation]:
+    """How the facts of a drawing are spelled by each reading that takes them otherwise than those
+    before. known: how those of another drawing are, of which is taken over what is the same."""
     seen: list[Facts] = []
-    _made(drawing)[:] = []
     for reading in READINGS:
         facts = _read(heard, reading)
         if facts not in seen:
             seen.append(facts)
-            known = (each.redrawn(facts) for each in _made(before))
-            found = next((each for each in known if each), None) or Interpretation.of(facts)
-            _made(drawing).append(found)
-            yield found
-
-
-@cached_on
-def _made(drawing: Drawing) -> list[Interpretation]:
-    """What was spelled of a drawing so far."""
-    return []
+            redrawn = (each.redrawn(facts) for each in known)
+            found = next((each for each in redrawn if each), None)
+            yield found or Interpretation.of(facts)
 
 
 def _read(heard: Facts, reading: Reading) -> Facts:

@@ -9,8 +9,10 @@ from weakref import ref
 import pytest
 
 from pertxogai.drawing import ORIGIN, Drawing, Meetings, moved, read_drawing
+from pertxogai.judging.edited import EditedDrawing
 from pertxogai.judging.measure import Frame, Solution, measure
 from pertxogai.judging.measure.solution import MissingPlace
+from pertxogai.spelling import Style
 from test_board_sight import PATHS, as_drawn, edited
 
 TWO = "segment A 0 0 40 0\nsegment B 0 20 40 21\nlength A 40\nx B.start 0\nangle A B 1/40\n"
@@ -26,12 +28,13 @@ def test_an_edit_of_each_kind(path: Path) -> None:
     drawing = read_drawing(path.read_text(encoding="utf-8"))
     for new in edited(drawing):
         for then, now in ((0, 0), (0, 9_000_000), (9_000_000, 0)):
+            before = EditedDrawing(drawing)
             try:
-                measure(drawing, as_drawn(drawing, then))
+                before.measured(as_drawn(drawing, then))
                 alone = measure(apart(new), as_drawn(new, now))
             except MissingPlace:
                 continue
-            assert measure(new, as_drawn(new, now), drawing) == alone
+            assert EditedDrawing(new, before).measured(as_drawn(new, now)).all == alone
 
 
 @pytest.mark.parametrize("path", PATHS, ids=lambda path: path.stem)
@@ -39,7 +42,7 @@ def test_which_points_are_one_is_taken_over_as_it_is(path: Path) -> None:
     drawing = read_drawing(path.read_text(encoding="utf-8"))
     for new in edited(drawing):
         if moved(new, drawing) is not None:
-            alone = Meetings(apart(new))
+            alone, new = Meetings(apart(new)), new.meeting_as(drawing)
             points = (ORIGIN, *new.points())
             assert [*map(new.meetings.leader, points)] == [*map(alone.leader, points)]
             assert [*map(new.meetings.drawn, points)] == [*map(alone.drawn, points)]
@@ -51,15 +54,24 @@ def test_in_another_frame_all_is_measured_anew() -> None:
     drawing = read_drawing(TWO)
     places = as_drawn(drawing)
     turned = Solution(places.points, places.radii, Frame((0, 0), (0, 1)))
-    assert [each.amount for each in measure(drawing, places)][:2] == [0, 0]
-    assert [each.amount for each in measure(drawing, turned, drawing)][:2] == [0, 20_000_000]
+    before = EditedDrawing(drawing)
+    assert [each.amount for each in before.measured(places).all][:2] == [0, 0]
+    again = EditedDrawing(drawing, before).measured(turned)
+    assert [each.amount for each in again.all][:2] == [0, 20_000_000]
 
 
-def test_a_drawing_before_is_not_kept() -> None:
-    before = read_drawing(TWO)
-    new = apart(before)
-    assert moved(new, before) == frozenset()
-    gone = ref(before)
-    del before
+def test_only_the_drawing_before_is_kept() -> None:
+    first, gone = known_of(read_drawing(TWO)), []
+    for _ in range(3):
+        gone.append(ref(first.drawing))
+        first = known_of(apart(first.drawing), first)
     collect()
-    assert gone() is None
+    assert [each() is None for each in gone] == [True, True, False]
+
+
+def known_of(drawing: Drawing, previous: EditedDrawing | None = None) -> EditedDrawing:
+    """A drawing that was spelled in each style, and measured where it is drawn."""
+    edited = EditedDrawing(drawing, previous)
+    assert all(each.spelled(style) for each in edited.readings() for style in Style)
+    edited.measured(as_drawn(drawing))
+    return edited

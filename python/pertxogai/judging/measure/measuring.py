@@ -7,10 +7,11 @@ from __future__ import annotations
 
 from collections.abc import Iterator
 from contextlib import suppress
-from dataclasses import dataclass
+from dataclasses import dataclass, field
+from functools import cached_property
 
-from pertxogai.cached import cached_on
-from pertxogai.drawing import Arc, Constraint, Drawing, PointRef, ShapeRef, Which, moved, points_of
+from pertxogai.drawing import Arc, Constraint, Drawing, PointRef, ShapeRef, Which, points_of
+from pertxogai.drawing.changes import Redrawing
 from pertxogai.drawing.mentions import named
 from pertxogai.exact import whole_up
 from pertxogai.judging.measure.amounts import Amounts, amounts
@@ -23,56 +24,48 @@ Deviations = tuple[Deviation, ...]
 
 
 @dataclass(frozen=True)
-class Measured:
-    """What was measured of a drawing on some places: each constraint, and what the shapes imply."""
+class Measurement:
+    """A sound drawing on some places, and how far each of its constraints is off there. That is
+    measured when it is asked for, so that no measurement says what wasn't measured."""
 
+    drawing: Drawing
     solution: Solution
-    constraints: tuple[Deviations, ...]
-    implied: Deviations
+    _known: dict[tuple[int, int], Deviations] = field(
+        default_factory=dict, init=False, repr=False, compare=False)
+    """What was measured already, by the numbers and the objects of the constraints."""
 
+    @cached_property
+    def by_constraint(self) -> tuple[Deviations, ...]:
+        """How far each constraint is off, in their order. Raises MissingPlace."""
+        placed = Placed(self.drawing, self.solution)
+        return tuple(self._known.get((number, id(of))) or _each(number, of, amounts(placed, of))
+                     for number, of in enumerate(self.drawing.constraints, start=1))
+
+    @cached_property
     def all(self) -> Deviations:
-        """All deviations in their order."""
-        return (*(each for some in self.constraints for each in some), *self.implied)
+        """All deviations in their order, behind those of the constraints what the shapes imply.
+        Raises MissingPlace."""
+        implied = _all_implied(Placed(self.drawing, self.solution))
+        return (*(each for some in self.by_constraint for each in some), *implied)
+
+    def redrawn(self, redrawing: Redrawing, solution: Solution) -> Measurement:
+        """The measurement of what an edit has made of the drawing, on its places. What all lies as
+        it did isn't measured again."""
+        found = Measurement(redrawing.new, solution)
+        if solution.frame == self.solution.frame:
+            elsewhere = redrawing.elsewhere | solution.elsewhere(self.solution)
+            numbered = enumerate(zip(self.drawing.constraints, self.by_constraint), start=1)
+            found._known.update({(number, id(of)): deviations for number, (of, deviations)
+                                 in numbered if elsewhere.isdisjoint(named(of))})
+        return found
 
 
-def measure(drawing: Drawing, solution: Solution, before: Drawing = Drawing()) -> Deviations:
+def measure(drawing: Drawing, solution: Solution) -> Deviations:
     """How far each constraint of a sound drawing is off, in their order, and behind them what
     its shapes imply. One that asks for a direction has two deviations: in nanometres, how far
-    the end of the shorter line lies off it, and in ppb. A constraint isn't measured again where
-    all that it speaks of is drawn and placed as in the drawing before, when that was measured.
-    Raises MissingPlace where a place that is spoken of wasn't printed."""
-    placed, known = Placed(drawing, solution), _stays(drawing, solution, before)
-    found = Measured(solution, tuple(
-        known.get((number, id(of))) or _each(number, of, amounts(placed, of))
-        for number, of in enumerate(drawing.constraints, start=1)), _all_implied(placed))
-    _last(drawing)[:] = [found]
-    return found.all()
-
-
-def measured(drawing: Drawing, solution: Solution) -> Deviations:
-    """As `measure`; where these are the places on which the drawing was measured last, what was
-    found then. Raises MissingPlace."""
-    last = _last(drawing)
-    return last[0].all() if last and last[0].solution == solution else measure(drawing, solution)
-
-
-@cached_on
-def _last(drawing: Drawing) -> list[Measured]:
-    """What was measured of a drawing last."""
-    return []
-
-
-def _stays(drawing: Drawing, solution: Solution,
-           before: Drawing) -> dict[tuple[int, int], Deviations]:
-    """The deviations that are as before, by the numbers and the objects of their constraints."""
-    elsewhere = moved(drawing, before)
-    if elsewhere is None or not _last(before) or _last(before)[0].solution.frame != solution.frame:
-        return {}
-    (last,) = _last(before)
-    elsewhere |= solution.elsewhere(last.solution)
-    return {(number, id(constraint)): deviations for number, (constraint, deviations)
-            in enumerate(zip(before.constraints, last.constraints), start=1)
-            if elsewhere.isdisjoint(named(constraint))}
+    the end of the shorter line lies off it, and in ppb. Raises MissingPlace where a place that is
+    spoken of wasn't printed."""
+    return Measurement(drawing, solution).all
 
 
 def measure_placed(drawing: Drawing, solution: Solution) -> Deviations:
