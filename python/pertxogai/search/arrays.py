@@ -55,6 +55,11 @@ def rows_times(matrix: Matrix, factors: Array) -> Matrix:
     return sparse.diags(factors) @ matrix if is_sparse(matrix) else matrix * factors[:, None]
 
 
+def columns_times(matrix: Matrix, factors: Array) -> Matrix:
+    """Each column times its factor."""
+    return matrix @ sparse.diags(factors) if is_sparse(matrix) else matrix * factors
+
+
 def damped_step(jacobian: Matrix, wanted: Array, damping: float) -> Array:
     """J'(JJ' + damping)^-1 wanted: without damping the least step that does what is wanted."""
     if is_sparse(jacobian):

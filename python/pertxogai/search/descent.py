@@ -8,9 +8,10 @@ from dataclasses import dataclass
 
 import numpy as np
 
-from pertxogai.search.arrays import Array, damped_step, least_step, row_squares
+from pertxogai.search.arrays import (
+    Array, Matrix, columns_times, damped_step, least_step, row_squares)
 from pertxogai.search.budget import Budget
-from pertxogai.search.equations import Equations, Tangents
+from pertxogai.search.equations import System, Tangents
 
 MET_NM = 1e-2
 """Rows that are all this near to 0 are met, before the places are rounded."""
@@ -44,12 +45,13 @@ class End:
         return self.worst_nm <= MET_NM
 
 
-def descend(equations: Equations, x: Array, budget: Budget, aim: Array | float = 0.0,
-            steps: int = STEPS, enough_nm: float = MET_NM) -> End:
+def descend(equations: System, x: Array, budget: Budget, aim: Array | float = 0.0,
+            steps: int = STEPS, enough_nm: float = MET_NM, ease: Array | None = None) -> End:
     """From x to where the rows are `aim`. It ends where the worst is off that by less than
-    `enough_nm`, and a hundredth of what counts as met."""
-    descent = _Descent(equations, x, aim)
-    if equations.rows and equations.unknowns.count:
+    `enough_nm`, and a hundredth of what counts as met. ease: how easily each unknown moves, where
+    some do less than others: a step is least once each is divided by its ease."""
+    descent = _Descent(equations, x, aim, ease)
+    if equations.rows and equations.count:
         descent.run(budget, steps, min(EXACT_NM, enough_nm))
     return End(descent.x, descent.worst_nm())
 
@@ -57,8 +59,10 @@ def descend(equations: Equations, x: Array, budget: Budget, aim: Array | float =
 class _Descent:
     """One descent: where it is, and how much the next step is damped."""
 
-    def __init__(self, equations: Equations, x: Array, aim: Array | float) -> None:
+    def __init__(self, equations: System, x: Array, aim: Array | float,
+                 ease: Array | None) -> None:
         self._equations, self._aim = equations, aim
+        self._ease = ease
         self._damping, self._growth, self._stalls = FIRST_DAMPING, 4.0, 0
         self._floor_nm = ROUNDING * equations.size_nm
         self.x = x
@@ -86,9 +90,9 @@ class _Descent:
 
     def _step(self) -> None:
         off, jacobian = self._at
-        greatest = float(row_squares(jacobian).max())
-        step = damped_step(jacobian, -off, max(self._damping, LEAST_DAMPING) * greatest)
-        step = self._within_reach(step)
+        eased = self._eased(jacobian)
+        damping = max(self._damping, LEAST_DAMPING) * float(row_squares(eased).max())
+        step = self._within_reach(self._eased_step(damped_step(eased, -off, damping)))
         hoped = off @ off - _square(off + jacobian @ step)
         trial = self.x + step
         there = self._tangents(trial)
@@ -101,6 +105,14 @@ class _Descent:
             self._damping = max(self._damping, LEAST_DAMPING) * self._growth
             self._growth *= 2
             self._stalls += 1
+
+    def _eased(self, jacobian: Matrix) -> Matrix:
+        """The Jacobian by unknowns that are divided by their ease."""
+        return jacobian if self._ease is None else columns_times(jacobian, self._ease)
+
+    def _eased_step(self, step: Array) -> Array:
+        """A step of those as one of the unknowns."""
+        return step if self._ease is None else step * self._ease
 
     def _within_reach(self, step: Array) -> Array:
         far = float(np.abs(step).max())
@@ -121,7 +133,8 @@ class _Descent:
                 return
             if budget.is_spent():
                 return
-            trial = self.x + least_step(self._at.jacobian, -self._at.off)
+            off, jacobian = self._at
+            trial = self.x + self._eased_step(least_step(self._eased(jacobian), -off))
             there = self._tangents(trial)
             if not np.abs(there.off).max() < worst_nm:
                 return

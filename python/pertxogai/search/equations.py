@@ -7,7 +7,7 @@ from __future__ import annotations
 
 from collections.abc import Iterable, Iterator, Sequence
 from copy import copy
-from typing import NamedTuple
+from typing import NamedTuple, Self
 
 import numpy as np
 
@@ -35,15 +35,15 @@ class Tangents(NamedTuple):
     jacobian: Matrix
 
 
-class Equations:
-    """All rows of a drawing. What the drawing decides (sides, kinds of touch, which way round) is
-    read off it once. drawn: the unknowns as they are drawn. size_nm: the drawing's size."""
+class System:
+    """Rows over some unknowns. What the places where it begins decide (sides, which way round) is
+    read off them once. drawn: the unknowns there. size_nm: its size. count: how many unknowns."""
 
-    def __init__(self, drawing: Drawing) -> None:
-        self.unknowns = Unknowns(drawing)
-        self.rows: tuple[Row, ...] = tuple(rows_of(self.unknowns))
-        self.drawn = self.unknowns.drawn()
-        self.size_nm = self._size_nm()
+    def __init__(self, rows: Iterable[Row], drawn: Array, size_nm: float) -> None:
+        self.rows = tuple(rows)
+        self.drawn = drawn
+        self.size_nm = size_nm
+        self.count = len(drawn)
         self._assemble()
 
     # -- what is reckoned
@@ -58,9 +58,9 @@ class Equations:
         slopes = [kind.slopes(ways).ravel() for kind in self._kinds]
         return Tangents(self._off(x, ways), self._pattern.matrix(slopes))
 
-    def firm(self, is_firm: bool) -> Equations:
-        """These equations, where parallel lines must run the way round that they are drawn, or may
-        run either way."""
+    def firm(self, is_firm: bool) -> Self:
+        """The same, where parallel lines must run the way round that they are drawn, or may run
+        either way."""
         other = copy(self)
         other._leans = copy(self._leans)
         other._leans.is_firm = is_firm
@@ -75,15 +75,8 @@ class Equations:
 
     # -- how it is put together
 
-    def _size_nm(self) -> float:
-        points = 2 * len(self.unknowns.points)
-        places = np.vstack([self.drawn[:points].reshape(-1, 2),
-                            np.array(list(self.unknowns.given.values()))])
-        return float(max(np.ptp(places, axis=0).max(), self.drawn[points:].max(initial=0.0),
-                         LEAST_SIZE_NM))
-
     def _assemble(self) -> None:
-        rows, count = self.rows, self.unknowns.count
+        rows, count = self.rows, self.count
         first_way = np.cumsum([0, *(len(row.ways) for row in rows)]).tolist()
         all_ways = [way for row in rows for way in row.ways]
         self._numbers_nm = np.array([row.number_nm for row in rows])
@@ -108,6 +101,22 @@ class Equations:
         for kind in self._kinds:
             off[kind.rows] += kind.values(ways)
         return off
+
+
+class Equations(System):
+    """All rows of a drawing, which begins as it is drawn."""
+
+    def __init__(self, drawing: Drawing) -> None:
+        self.unknowns = Unknowns(drawing)
+        drawn = self.unknowns.drawn()
+        super().__init__(rows_of(self.unknowns), drawn, _size_nm(self.unknowns, drawn))
+
+
+def _size_nm(unknowns: Unknowns, drawn: Array) -> float:
+    points = 2 * len(unknowns.points)
+    places = np.vstack([drawn[:points].reshape(-1, 2), np.array(list(unknowns.given.values()))])
+    return float(max(np.ptp(places, axis=0).max(), drawn[points:].max(initial=0.0),
+                     LEAST_SIZE_NM))
 
 
 def _linear_entries(rows: Iterable[Row]) -> Iterator[Entry]:

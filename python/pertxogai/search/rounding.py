@@ -12,12 +12,13 @@ Whole = tuple[int, int]
 """x and y in whole nanometres."""
 
 
-def solution_of(unknowns: Unknowns, x: Array) -> Solution:
-    """All points and radii in whole nanometres, in the datum's frame."""
-    points = {ref: _whole_point(unknowns, x, unknowns.leader(ref))
-              for ref in unknowns.drawing.points()}
+def solution_of(unknowns: Unknowns, x: Array, part: Drawing | None = None) -> Solution:
+    """All points and radii in whole nanometres, in the datum's frame; or those of a part of the
+    drawing."""
+    drawing = part or unknowns.drawing
+    points = {ref: _whole_point(unknowns, x, unknowns.leader(ref)) for ref in drawing.points()}
     radii = {shape.name: _whole_radius(unknowns, x, shape.name)
-             for shape in unknowns.drawing.geometry if isinstance(shape, (Circle, Arc))}
+             for shape in drawing.geometry if isinstance(shape, (Circle, Arc))}
     return Solution(points, radii)
 
 

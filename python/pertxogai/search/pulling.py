@@ -1,0 +1,239 @@
+"""What a hand holds of a drawing follows it, while all rows stay met and the rest moves least.
+
+A step begins along the tangent that brings what is held nearest to where it is pulled, and is then
+mended. Where it can't come there, it comes as near as it may: how much shorter, or longer, than the
+tangent says a step has to be for that, is learnt from one step for the next.
+
+A drawing with one degree of freedom has two ways to go on from a dead point or a change point, and
+another solution nearby would be a flip. So a step counts only where it runs along the tangents at
+both of its ends, and what is held moves on and not back there; else it is halved. It is tried first
+where the last step leads to: so a linkage runs through its change points as it came. It stays a
+little before a dead point, where the rest would move ever more for ever less of what is held."""
+from __future__ import annotations
+
+from dataclasses import dataclass
+from enum import Enum
+
+import numpy as np
+
+from pertxogai.search.arrays import (
+    Array, Indices, Matrix, columns_times, damped_step, row_squares)
+from pertxogai.search.budget import Budget
+from pertxogai.search.descent import descend
+from pertxogai.search.following import Following
+
+HEAVY = 1e-2
+"""How easily a held unknown moves from where it is pulled, against the others."""
+THERE_NM, NEAR_NM = 1000.0, 10.0
+"""What is held this near to where it is pulled is there; and so near that it isn't pulled on."""
+ENOUGH = 1e-5
+"""What could come nearer by less than this part of the drawing's size is as near as it comes."""
+STRIDE = 0.1
+"""No step is longer than this part of the drawing's size."""
+CHASE, LEAST_CHASE = 4.0, 0.02
+"""What is held goes at most so many times as far as the hand does, or this part of the drawing's
+size: so it glides where the hand had left it behind."""
+LEAP = 12.0
+"""Nothing moves more than so many times as far as what is held is pulled."""
+ALONG = 0.9
+"""A step runs along a tangent where this part of it does."""
+CLOSE = 0.3
+"""Two steps are close that differ by less than this part of them."""
+NEARLY_FREE, NOT_FREE = 1e-7, 1e-13
+"""Times the greatest square of a row: what changes all rows by less is free at a change point, or
+counts as free at all."""
+LEAST_SHARE = 2e-3
+"""At a dead point what is held moves by less than this part of what moves most."""
+LEAST_BEND, MOST_BEND = 0.3, 8.0
+"""Between these a step may be shorter than the tangent says."""
+HALVES = 5
+"""How often the steps of a frame are halved."""
+STEPS = 25
+"""The most steps of one descent."""
+FRAME_STEPS, FRAME_SECONDS = 150, 0.04
+"""The most steps of a frame, and the seconds of a processor after which no more are begun."""
+
+
+class Reach(Enum):
+    """How far what is held came; the values are for JSON."""
+
+    THERE = "there"
+    """It is where it is pulled."""
+    BESIDE = "beside"
+    """It is as near as its constraints let it come, or on its way."""
+    STAYS = "stays"
+    """It can't go on the way that it went: a dead point, or the end of its way."""
+
+
+@dataclass(frozen=True)
+class Pulled:
+    """Where all lies once a hand has pulled: the unknowns of the part, by how much what is held is
+    left behind, and how far it came."""
+
+    x: Array
+    left_nm: float
+    reach: Reach
+
+
+@dataclass(frozen=True)
+class _Step:
+    """Where a step ends, and the way that it goes on there."""
+
+    x: Array
+    way: Array
+
+
+class Pull:
+    """A part of a drawing, met where it begins, that is held by some of its unknowns."""
+
+    def __init__(self, part: Following, held: Indices) -> None:
+        self._system, self._first_radius = part.system, part.first_radius
+        self._held = held
+        self.x = part.system.drawn
+        self._ease = np.ones(len(self.x))
+        self._ease[held] = HEAVY
+        self._pulled = self.x[held]
+        self._way = np.zeros(len(self.x))
+        self._bend = 1.0
+
+    def to(self, place: Array) -> Pulled:
+        """The hand pulls what is held to a place: the wanted value of each held unknown."""
+        moved_nm = float(np.linalg.norm(place - self._pulled))
+        most_nm = max(CHASE * moved_nm, LEAST_CHASE * self._system.size_nm)
+        self._pulled = place
+        is_stuck = self._go(place, most_nm, Budget(FRAME_STEPS, FRAME_SECONDS))
+        left_nm = self._left_nm(place)
+        reach = Reach.STAYS if is_stuck else Reach.BESIDE
+        return Pulled(self.x, left_nm, Reach.THERE if left_nm <= THERE_NM else reach)
+
+    def _go(self, goal: Array, most_nm: float, budget: Budget) -> bool:
+        """Goes to a goal step by step, so far at most. Gives whether it stays, though it could go
+        nearer by its tangent."""
+        part, halves, tangent = 1.0, 0, self._towards(goal)
+        while most_nm > 0 and not self._is_near(goal, tangent) and not budget.is_spent():
+            if halves > HALVES or self._is_dead(tangent):
+                return True
+            length = part * self._length(goal, tangent, most_nm)
+            step = self._step(goal, length * tangent, budget)
+            if step is None:
+                part, halves = part / 2, halves + 1
+                continue
+            most_nm -= float(np.linalg.norm((step.x - self.x)[self._held]))
+            self.x, self._way = step.x, step.way
+            last, tangent = tangent, self._towards(goal)
+            self._learn(last[self._held], tangent[self._held], length)
+            part = min(1.0, 2 * part)
+        return halves > 0 and not self._is_near(goal, tangent)
+
+    def _left_nm(self, goal: Array) -> float:
+        return float(np.linalg.norm(goal - self.x[self._held]))
+
+    def _is_dead(self, tangent: Array) -> bool:
+        """Whether the way on leads into a dead point, and that is reached all but for a little."""
+        return float(tangent @ self._way) > 0 and self._share(tangent) < 1.5 * LEAST_SHARE
+
+    # -- a step
+
+    def _towards(self, goal: Array) -> Array:
+        """The tangent step that brings what is held nearest to a goal."""
+        pull = np.zeros(len(self.x))
+        pull[self._held] = goal - self.x[self._held]
+        if not self._system.rows:
+            return pull
+        _, jacobian = self._system.tangents(self.x)
+        eased = columns_times(jacobian, self._ease)
+        mend = damped_step(eased, jacobian @ pull, _damping(eased, NOT_FREE))
+        tangent: Array = pull - self._ease * mend
+        return tangent
+
+    def _is_near(self, goal: Array, tangent: Array) -> bool:
+        nearer_nm = float(np.linalg.norm(tangent[self._held]))
+        return self._left_nm(goal) <= NEAR_NM or nearer_nm <= ENOUGH * self._system.size_nm
+
+    def _length(self, goal: Array, tangent: Array, most_nm: float) -> float:
+        """How far a step goes along a tangent."""
+        pull_nm = float(np.abs(goal - self.x[self._held]).max())
+        held_nm, all_nm = (float(np.abs(each).max()) for each in (tangent[self._held], tangent))
+        return min(1.0 / self._bend, most_nm / held_nm, STRIDE * self._system.size_nm / held_nm,
+                   LEAP / 2 * pull_nm / all_nm)
+
+    def _learn(self, before: Array, after: Array, length: float) -> None:
+        """Learns how much shorter than a tangent a step has to be, from what is left of one."""
+        left = float(before @ after) / float(before @ before)
+        self._bend = min(max((1.0 - left) / length, LEAST_BEND), MOST_BEND)
+
+    def _step(self, goal: Array, tangent: Array, budget: Budget) -> _Step | None:
+        """A step along a tangent; None where it doesn't come nearer to the goal, leaps, or turns.
+        One that the last leads to is looked at where that ends elsewhere: of two branches it is
+        taken which goes on as the last did."""
+        plain, led = self._mended(goal, tangent, budget), self._led(tangent)
+        if led is None or plain and _is_close(plain.x - self.x, led):
+            return plain
+        other = self._mended(goal, led, budget)
+        if plain is None or other is None:
+            return plain or other
+        apart = other.x - plain.x
+        along = self._tangent(plain.x, apart)
+        if np.linalg.norm(along) >= ALONG * np.linalg.norm(apart):
+            return plain
+        return max(plain, other, key=lambda each: _cosine(each.x - self.x, self._way))
+
+    def _mended(self, goal: Array, start: Array, budget: Budget) -> _Step | None:
+        """Where a step ends that begins so."""
+        before_nm = self._left_nm(goal)
+        end = descend(self._system, self.x + start, budget, steps=STEPS, ease=self._ease)
+        if not end.is_met() or float(np.linalg.norm(goal - end.x[self._held])) >= before_nm:
+            return None
+        way = self._smooth_way(end.x, before_nm)
+        return None if way is None else _Step(end.x, way)
+
+    def _led(self, tangent: Array) -> Array | None:
+        """A step as the last one leads on, as far as a tangent leads what is held along it."""
+        held = self._way[self._held]
+        square = float(held @ held)
+        if square == 0.0:
+            return None
+        led: Array = self._way * (float(held @ tangent[self._held]) / square)
+        far, most = float(np.abs(led).max()), 2 * float(np.abs(tangent).max())
+        led = led * (most / far) if far > most else led
+        led[self._held] = tangent[self._held]
+        return led
+
+    def _smooth_way(self, x: Array, pulled_nm: float) -> Array | None:
+        """The way that a step to x goes on there; None where the step leaps, or turns."""
+        step = x - self.x
+        if np.abs(step).max() > LEAP * pulled_nm or (x[self._first_radius:] <= NEAR_NM).any():
+            return None
+        before, after = self._tangent(self.x, step), self._tangent(x, step)
+        least = ALONG * float(np.linalg.norm(step))
+        is_smooth = min(np.linalg.norm(before), np.linalg.norm(after)) >= least
+        is_on = before[self._held] @ after[self._held] >= 0
+        is_alive = self._share(after) >= min(LEAST_SHARE, self._share(before))
+        return after if is_smooth and is_on and is_alive else None
+
+    def _tangent(self, x: Array, step: Array) -> Array:
+        """The part of a step along which no row changes. Near a change point more ways are free
+        than elsewhere: what changes rows by next to nothing counts as free."""
+        if not self._system.rows:
+            return step
+        _, jacobian = self._system.tangents(x)
+        along: Array = step - damped_step(
+            jacobian, jacobian @ step, _damping(jacobian, NEARLY_FREE))
+        return along
+
+    def _share(self, way: Array) -> float:
+        """How far what is held moves by a way, against what moves most."""
+        return float(np.abs(way[self._held]).max() / np.abs(way).max())
+
+
+def _damping(jacobian: Matrix, part: float) -> float:
+    return part * float(row_squares(jacobian).max(initial=0.0)) or 1.0
+
+
+def _is_close(one: Array, other: Array) -> bool:
+    """Whether two steps are one but for what mending changes."""
+    return bool(np.linalg.norm(one - other) <= CLOSE * np.linalg.norm(one))
+
+
+def _cosine(one: Array, other: Array) -> float:
+    return float(one @ other) / float(np.linalg.norm(one) * np.linalg.norm(other))
