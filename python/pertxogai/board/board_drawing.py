@@ -13,7 +13,8 @@ from pertxogai.board.placed_parts import LaidPart, parts_laid, shown_between
 from pertxogai.board.protocol import Judgement as JudgementJson, Places
 from pertxogai.board.shortage import shortage
 from pertxogai.drawing import Drawing
-from pertxogai.judging import Judgement, TooMuch, too_much, weighed, with_choices
+from pertxogai.judging import (
+    Judgement, TooMuch, WeighedJudgement, too_much, weighed, with_choices)
 from pertxogai.judging.edited import EditedDrawing
 from pertxogai.judging.judged_drawing import JudgedDrawing
 from pertxogai.judging.judgement import judge_edited
@@ -68,7 +69,7 @@ class BoardDrawing:
             return Untold.by(error)
 
     @cached_property
-    def weighing(self) -> Judgement | Untold:
+    def weighing(self) -> WeighedJudgement | Untold:
         """The judgement with what may go measured, and with what comes of other choices where it
         is well and isn't met, or why that can't be told. Raises as `judgement`."""
         judgement = self.judgement
@@ -83,10 +84,9 @@ class BoardDrawing:
         program does that. Raises as `judgement`."""
         return self.judgement if isinstance(self.weighing, Untold) else self.weighing
 
-    def with_file(self, judgement: Judgement, left_out: tuple[str, ...],
-                  name: str = "") -> JudgedDrawing:
-        """The drawing with a judgement on it, what of its file it can't say, and its name."""
-        return JudgedDrawing(name, self.drawing, judgement, left_out)
+    def with_file(self, judgement: Judgement, left_out: tuple[str, ...]) -> JudgedDrawing:
+        """The drawing with a judgement on it, and what of its file it can't say."""
+        return JudgedDrawing("", self.drawing, judgement, left_out)
 
     @property
     def text(self) -> str:

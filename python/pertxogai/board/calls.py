@@ -30,7 +30,7 @@ from pertxogai.drawing import Drawing, DrawingRefusal, DrawingUnsound, Place, Wo
 from pertxogai.files.contents import FileRefusal
 from pertxogai.exits import MissingLibrary
 from pertxogai.files.kinds import InputRefused
-from pertxogai.judging import DrawingRefused, with_counts
+from pertxogai.judging import CountedDrawing, DrawingRefused, with_counts
 from pertxogai.judging.edited import EditedDrawing
 from pertxogai.judging.good import reasons_against
 from pertxogai.judging.measure import PointNm
@@ -268,7 +268,7 @@ def _svg(desk: Desk, given: Fields) -> Svg:
 def _sheet(desk: Desk, given: Fields) -> DrawingSheet:
     judged = desk.judged(given.text("text"))
     judgement = with_counts(judged.weighed, desk.attending)
-    whole = judged.with_file(judgement, given.texts("left_out"), given.text("name"))
+    whole = CountedDrawing(given.text("name"), judged.drawing, judgement, given.texts("left_out"))
     return DrawingSheet(whole, False)
 
 

@@ -9,7 +9,7 @@ from typing import cast
 from pertxogai.board.faulted import fault_told
 from pertxogai.board.protocol import Line as LineJson
 from pertxogai.drawing.numbers import mm_text
-from pertxogai.judging import Excess, Judgement, Surplus, TooMuch
+from pertxogai.judging import Excess, Judgement, Surplus, TooMuch, WeighedJudgement
 from pertxogai.judging.choices import change
 from pertxogai.judging.faults import Failure
 from pertxogai.judging.good import Lack, reasons_against
@@ -145,7 +145,7 @@ def _too_many(judgement: Judgement) -> Iterator[Line]:
 
 def _unmet(judgement: Judgement) -> Iterator[Line]:
     """That no shape is found, and without what there is one."""
-    if judgement.unmet is not None:
+    if isinstance(judgement, WeighedJudgement) and judgement.unmet is not None:
         without = (f" Without one of these there is one: {', '.join(judgement.unmet)}."
                    if judgement.unmet else "")
         yield Line("No shape is found near the drawn one that has these values, by numbers."
@@ -193,7 +193,7 @@ def _beside_over(judgement: Judgement, left: TooMuch | Untold,
     for what in judgement.measured_off:
         yield Line(f"Over as it was measured, which isn’t certified: {what} can’t be spelled, and "
                    "the rest is enough.", "quiet")
-    for what in judgement.loose:
+    for what in judgement.loose if isinstance(judgement, WeighedJudgement) else ():
         yield Line(f"A dimension is lacking all the same: {what}, by rank.")
     if unweighed is not None:
         yield Line(f"What may go can’t be measured: {unweighed.why}", "quiet")
@@ -277,6 +277,8 @@ def _fault(judgement: Judgement, failure: Failure, short: str) -> Iterator[Line]
 
 def _choices(judgement: Judgement) -> Iterator[Line]:
     """What comes of drawing it the other way round, where that was tried."""
+    if not isinstance(judgement, WeighedJudgement):
+        return
     tried, sketch = judgement.tried, judgement.asked.spelled.sketch
     if tried is None or tried.found is None and not tried.lists:
         return

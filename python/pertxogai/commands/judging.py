@@ -10,7 +10,8 @@ from pathlib import Path
 from pertxogai.exits import CommandError, Exit, MissingLibrary
 from pertxogai.files.kinds import DesignerDrawing, Input, SketchText, kind_of, read_inputs
 from pertxogai.judging import (
-    DrawingRefused, GoodJudgement, JudgedDrawing, Judgement, judge, judge_sketch)
+    CountedDrawing, CountedJudgement, DrawingRefused, GoodJudgement, JudgedDrawing, judge,
+    judge_sketch)
 from pertxogai.judging.remembering import Remembering
 from pertxogai.language import NotHeld, Refusal
 from pertxogai.output.outcome import DrawingOutcome, Outcome, SketchOutcome
@@ -35,8 +36,8 @@ def outcome_of(found: Input, program: Solver, options: argparse.Namespace) -> Ou
                                " SolveSpace or DXF: a sketch of the language stores no places")
         return SketchOutcome(judge_sketch(found.name, found.text, program, options.within),
                              program)
-    judged = JudgedDrawing(found.name, found.drawing, _judgement(found, program, options),
-                           found.left_out, found.aside, options.within)
+    judged = CountedDrawing(found.name, found.drawing, _judgement(found, program, options),
+                            found.left_out, found.aside, options.within)
     if options.as_stored:
         from pertxogai.judging.as_stored import as_stored
 
@@ -45,8 +46,8 @@ def outcome_of(found: Input, program: Solver, options: argparse.Namespace) -> Ou
     return DrawingOutcome(_searched(judged, program, options))
 
 
-def _searched(judged: JudgedDrawing, program: Solver,
-              options: argparse.Namespace) -> JudgedDrawing:
+def _searched(judged: CountedDrawing, program: Solver,
+              options: argparse.Namespace) -> CountedDrawing:
     """The same with what is found by numbers: where it isn't well, its freedoms and what would
     complete it; what it nearly has, where that is asked for. Without numpy or scipy, with what to
     install."""
@@ -76,7 +77,7 @@ def _proposed(judged: JudgedDrawing, program: Solver) -> tuple[str, ...]:
 
 
 def _judgement(found: DesignerDrawing, program: Solver,
-               options: argparse.Namespace) -> Judgement:
+               options: argparse.Namespace) -> CountedJudgement:
     """The judgement on a drawing. Raises CommandError where no sketch can be made of it, or the
     program refuses the one that was made."""
     with made_of(found):

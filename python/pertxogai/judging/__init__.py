@@ -12,10 +12,11 @@ if TYPE_CHECKING:
     from pertxogai.judging.faults import Amount, Failure
     from pertxogai.judging.good import (
         GoodJudgement, GoodSketch, NotGood, good_of, good_sketch_of, reasons_against)
-    from pertxogai.judging.judged_drawing import JudgedDrawing
+    from pertxogai.judging.judged_drawing import CountedDrawing, JudgedDrawing
     from pertxogai.judging.judged_sketch import JudgedSketch, TextRefused, concerned, judge_sketch
     from pertxogai.judging.judgement import (
-        Judgement, LeftOut, judge, judge_at_once, weighed, with_choices, with_counts)
+        CountedJudgement, Judgement, LeftOut, WeighedJudgement, judge, judge_at_once, weighed,
+        with_choices, with_counts)
     from pertxogai.judging.limits import DrawingRefused
     from pertxogai.judging.missing import Joint, Missing, Piece, Tie
     from pertxogai.judging.naming import Names
@@ -29,18 +30,20 @@ else:
         ".excess": "Excess Rest TooMuch too_much",
         ".faults": "Amount Failure",
         ".good": "GoodJudgement GoodSketch NotGood good_of good_sketch_of reasons_against",
-        ".judged_drawing": "JudgedDrawing",
+        ".judged_drawing": "CountedDrawing JudgedDrawing",
         ".judged_sketch": "JudgedSketch TextRefused concerned judge_sketch",
-        ".judgement": "Judgement LeftOut judge judge_at_once weighed with_choices with_counts",
+        ".judgement": "CountedJudgement Judgement LeftOut WeighedJudgement judge judge_at_once "
+                      "weighed with_choices with_counts",
         ".limits": "DrawingRefused",
         ".missing": "Joint Missing Piece Tie",
         ".naming": "Names",
         ".surplus": "Surplus Then",
         ".trials": "PlaceBy Question Trial first_good"})
 
-__all__ = ["Amount", "Departure", "DepartureKind", "DrawingRefused", "Excess", "Failure",
-           "GoodJudgement", "GoodSketch", "Joint", "JudgedDrawing", "JudgedSketch", "Judgement",
-           "LeftOut", "Missing", "Names", "NotGood", "Piece", "PlaceBy", "Question", "Rest",
-           "Surplus", "TextRefused", "Then", "Tie", "TooMuch", "Trial", "concerned", "first_good",
-           "good_of", "good_sketch_of", "judge", "judge_at_once", "judge_sketch", "reasons_against",
+__all__ = ["Amount", "CountedDrawing", "CountedJudgement", "Departure", "DepartureKind",
+           "DrawingRefused", "Excess", "Failure", "GoodJudgement", "GoodSketch", "Joint",
+           "JudgedDrawing", "JudgedSketch", "Judgement", "LeftOut", "Missing", "Names", "NotGood",
+           "Piece", "PlaceBy", "Question", "Rest", "Surplus", "TextRefused", "Then", "Tie",
+           "TooMuch", "Trial", "WeighedJudgement", "concerned", "first_good", "good_of",
+           "good_sketch_of", "judge", "judge_at_once", "judge_sketch", "reasons_against",
            "too_much", "weighed", "with_choices", "with_counts"]

@@ -8,7 +8,7 @@ from pertxogai.drawing import Drawing
 from pertxogai.judging.as_stored import StoredOffs
 from pertxogai.judging.departures import Departure, warnings
 from pertxogai.judging.finding import Finding, Nearly, PlacesBy
-from pertxogai.judging.judgement import Judgement
+from pertxogai.judging.judgement import CountedJudgement, Judgement
 from pertxogai.judging.measure.deviation import Deviation, Unit, greatest
 from pertxogai.judging.measure.limit import Limit
 from pertxogai.judging.measure.solution import Solution
@@ -68,3 +68,11 @@ class JudgedDrawing:
             deviations = self.finding.deviations
         found = (greatest(deviations, unit) for unit in Unit)
         return tuple(each for each in found if each is not None)
+
+
+@dataclass(frozen=True)
+class CountedDrawing(JudgedDrawing):
+    """A judged drawing of which the program's parts and counts are known too, so that all can be
+    told of it."""
+
+    judgement: CountedJudgement

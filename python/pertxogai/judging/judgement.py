@@ -1,8 +1,9 @@
 """What becomes of a drawing: the program's verdict with its reasons, in the designer's words."""
 from __future__ import annotations
 
-from dataclasses import dataclass, replace
+from dataclasses import dataclass, field, fields, replace
 from functools import cached_property
+from typing import Any
 
 from pertxogai.drawing import Circle, Drawing
 from pertxogai.judging.choices import Tried, beneath, tried
@@ -23,7 +24,7 @@ from pertxogai.judging.remembering import Remembering
 from pertxogai.judging.settled import settled, solution_of
 from pertxogai.judging.surplus import Surplus, spare_at_once, what_may_go, worst
 from pertxogai.judging.trials import (
-    PlaceBy, Question, Trial, counted, finer, first_good, written_by)
+    CountedTrial, PlaceBy, Question, Trial, counted, finer, first_good, written_by)
 from pertxogai.judging.within import Wider, within
 from pertxogai.program import Solver
 from pertxogai.program.reports import Shape, Solved, Verdict, read_plan
@@ -58,35 +59,28 @@ class LeftOut:
 
 @dataclass(frozen=True)
 class Judgement:
-    """The program's verdict on a drawing and all that goes with it.
+    """The program's verdict on a drawing and all that goes with it, as `judge_at_once` asks it.
 
     style: how it was spelled. pieces and missing: where it is open. surplus: where it is over,
-    each dimension that may go; loose: what is lacking all the same. solution: where it is placed,
-    in the datum's frame, in whole nanometres; place: by boxes or by points. failure: why it isn't,
-    though it is well. measurement: of each constraint on those places. left_out: constraints that
-    couldn't be spelled. frozen: those left to their drawn values, to be measured. rounded: those of
-    which the value had to be rounded. grown: those told by a value that was read off a placed part.
-    repeats: those that tell of one point that it is itself. unsized: where it is placed, the
-    circles of which neither a dimension nor the places tell the size. tried: where it is well and
-    has no places, or some that don't meet a constraint, what came of other choices of the steps of
-    its construction. limit: within what each constraint has to hold. unmet: where it has no places,
-    nothing is missing or too many by rank, and no shape is found near the drawn one by numbers, the
-    constraints without one of which there is one; None where that isn't so, or wasn't asked for."""
+    each dimension that may go, untried. solution: where it is placed, in the datum's frame, in
+    whole nanometres; place: by boxes or by points. failure: why it isn't, though it is well.
+    measurement: of each constraint on those places. left_out: constraints that couldn't be spelled.
+    frozen: those left to their drawn values, to be measured. rounded: those of which the value had
+    to be rounded. grown: those told by a value that was read off a placed part. repeats: those that
+    tell of one point that it is itself. unsized: where it is placed, the circles of which neither a
+    dimension nor the places tell the size. limit: within what each constraint has to hold."""
 
     verdict: Verdict
     asked: Trial
     names: Names
     missing: Missing | None = None
     surplus: tuple[Surplus, ...] = ()
-    loose: tuple[str, ...] = ()
     solution: Solution | None = None
     failure: Failure | None = None
     measurement: Measurement | None = None
     warnings: tuple[Departure, ...] = ()
     unsized: tuple[str, ...] = ()
-    tried: Tried | None = None
     limit: Limit = Limit()
-    unmet: tuple[str, ...] | None = None
 
     @property
     def deviations(self) -> tuple[Deviation, ...]:
@@ -209,15 +203,43 @@ class Judgement:
                      if isinstance(shape, Circle) and RadiusOf(shape.name) not in said)
 
 
+@dataclass(frozen=True)
+class WeighedJudgement(Judgement):
+    """A judgement with what takes many more questions: where it is over, each dimension that may go
+    is tried.
+
+    loose: where it is over, what is lacking all the same. unmet: where it has no places, nothing is
+    missing or too many by rank, and no shape is found near the drawn one by numbers, the
+    constraints without one of which there is one; None where that isn't so. tried: where it is well
+    and has no places, or some that don't meet a constraint, what came of other choices of the steps
+    of its construction."""
+
+    loose: tuple[str, ...] = ()
+    unmet: tuple[str, ...] | None = None
+    tried: Tried | None = None
+
+
+@dataclass(frozen=True)
+class CountedJudgement(WeighedJudgement):
+    """A judgement with the program's parts and counts, also of what is well."""
+
+    asked: CountedTrial = field()
+
+
+def _fields(judged: Judgement, **changed: Any) -> dict[str, Any]:
+    """What a judgement has, as the words of one that has more, but for what is changed."""
+    return {each.name: getattr(judged, each.name) for each in fields(judged)} | changed
+
+
 def judge(drawing: Drawing, program: Solver, freeze: bool = False,
-          limit: Limit = Limit()) -> Judgement:
+          limit: Limit = Limit()) -> CountedJudgement:
     """What the program says of a drawing, with the counts of what is well, how far each dimension
     is off that may go, and which other choices meet what isn't met within the limit, by which it
     is placed too where that is wider than the language's own. `freeze`: whether lengths and radii
     that nothing tells may be taken as they are drawn. Raises as `judge_at_once`."""
     asks = Remembering(Wider(program, limit))
-    judged = with_counts(judge_at_once(drawing, asks, freeze, limit=limit), asks)
-    return with_choices(weighed(judged, asks), asks)
+    judged = weighed(judge_at_once(drawing, asks, freeze, limit), asks)
+    return with_counts(with_choices(judged, asks), asks)
 
 
 def judge_at_once(drawing: Drawing, program: Solver, freeze: bool = False,
@@ -246,7 +268,7 @@ def judge_edited(edited: EditedDrawing, program: Solver, freeze: bool = False,
                                          for number in spare_at_once(drawing, asked, program)))
 
 
-def with_choices(judged: Judgement, program: Solver) -> Judgement:
+def with_choices(judged: WeighedJudgement, program: Solver) -> WeighedJudgement:
     """The judgement with what comes of other choices of its steps: of those beneath a step that
     fails, and of all where a constraint isn't met. Raises ProgramError."""
     if judged.verdict is not Verdict.WELL or judged.asked.solved is None:
@@ -269,10 +291,10 @@ def _is_met(judged: Judgement, shape: Shape) -> bool:
     return not any(judged.limit.beyond(measure(drawing, solution)))
 
 
-def with_counts(judged: Judgement, program: Solver) -> Judgement:
+def with_counts(judged: Judgement, program: Solver) -> CountedJudgement:
     """The judgement with the program's parts and counts also of what is well. Raises
     ProgramError."""
-    return replace(judged, asked=counted(judged.asked, program))
+    return CountedJudgement(**_fields(judged, asked=counted(judged.asked, program)))
 
 
 def _placed(judged: Judgement, edited: EditedDrawing, program: Solver) -> Judgement:
@@ -307,20 +329,21 @@ def _greatest(judged: Judgement) -> int:
     return max((each.amount for each in judged.deviations if each.unit is Unit.NM), default=0)
 
 
-def weighed(judged: Judgement, program: Solver) -> Judgement:
+def weighed(judged: Judgement, program: Solver) -> WeighedJudgement:
     """The judgement with each dimension that may go tried, and measured on the rest; of what isn't
     over and has no shape, with what isn't met. Raises as `judge_at_once`."""
     drawing = judged.names.drawing
     if judged.verdict is not Verdict.OVER:
-        return judged if judged.solution is not None else replace(judged, unmet=unmet(drawing))
+        without = unmet(drawing) if judged.solution is None else None
+        return WeighedJudgement(**_fields(judged, unmet=without))
     question = Question(drawing, program, judged.limit)
     surplus = what_may_go(question, judged.asked)
     if judged.asked.check is not None:
         numbers = [each.number for each in surplus]
         groups = groups_of(judged.names, program, numbers, judged.asked.check)
         surplus = tuple(replace(each, others=groups.get(each.number, ())) for each in surplus)
-    return replace(judged, surplus=surplus, loose=loose(judged.names))
+    return WeighedJudgement(**_fields(judged, surplus=surplus, loose=loose(judged.names)))
 
 
-__all__ = ["Judgement", "Surplus", "judge", "judge_at_once", "judge_edited", "weighed",
-           "with_choices", "with_counts"]
+__all__ = ["CountedJudgement", "Judgement", "Surplus", "WeighedJudgement", "judge",
+           "judge_at_once", "judge_edited", "weighed", "with_choices", "with_counts"]

@@ -5,7 +5,7 @@ what is spare. """
 from __future__ import annotations
 
 from collections.abc import Iterable, Iterator, Sequence
-from dataclasses import dataclass, replace
+from dataclasses import dataclass, field, replace
 from enum import Enum
 from functools import partial
 from itertools import islice
@@ -56,7 +56,7 @@ class Question:
 @dataclass(frozen=True)
 class Trial:
     """What the program answered to one style of a drawing: of what is well, the places or the
-    fault, and what `check` says where it was asked (`counted`); else what `check` says. grown:
+    fault, and what `check` says in a `CountedTrial` alone; else what `check` says. grown:
     equations that placed parts told. frozen: who is only measured. off: what couldn't be spelled,
     and was told as a contradiction by what was measured."""
 
@@ -79,6 +79,13 @@ class Trial:
     def parts(self) -> tuple[Part, ...]:
         """The parts that `check` told; none where it wasn't asked."""
         return () if self.check is None else self.check.parts
+
+
+@dataclass(frozen=True)
+class CountedTrial(Trial):
+    """A trial of which `check` was asked too, whatever the verdict."""
+
+    check: CheckReport = field()
 
 
 def first_good(question: Question, freeze: bool = False, quick: bool = False,
@@ -277,14 +284,15 @@ def told_by(asked: Trial, spelled: Spelled, program: Solver) -> Trial:
     return replace(told, grown=asked.grown, frozen=asked.frozen, off=asked.off)
 
 
-def counted(asked: Trial, program: Solver) -> Trial:
-    """The same, with what `check` says of what is well: its parts and its counts."""
-    if asked.check is not None:
-        return asked
-    check = read_check(written_by(program, "check", asked.spelled.sketch.text()))
-    if check.verdict is not Verdict.WELL:
-        raise NotAReport("the program checks as not well what it calls well by solve")
-    return replace(asked, check=check)
+def counted(asked: Trial, program: Solver) -> CountedTrial:
+    """The same, with what `check` says also of what is well: its parts and its counts."""
+    check = asked.check
+    if check is None:
+        check = read_check(written_by(program, "check", asked.spelled.sketch.text()))
+        if check.verdict is not Verdict.WELL:
+            raise NotAReport("the program checks as not well what it calls well by solve")
+    return CountedTrial(asked.spelled, asked.axes, asked.rails, check, asked.grown, asked.frozen,
+                        asked.off, asked.place, asked.solved)
 
 
 def _frozen(question: Question, asked: Trial) -> Trial:

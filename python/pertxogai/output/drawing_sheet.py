@@ -6,7 +6,7 @@ from collections.abc import Iterator
 from dataclasses import dataclass
 
 from pertxogai.judging.good import GoodJudgement, good_of
-from pertxogai.judging.judged_drawing import JudgedDrawing
+from pertxogai.judging.judged_drawing import CountedDrawing
 from pertxogai.judging.parts import parts_of_shapes
 from pertxogai.output.drawing_text import drawing_lines
 from pertxogai.output.dxf import dxf_text
@@ -34,7 +34,7 @@ class NoPlaces(Exception):
 class DrawingSheet:
     """A designer's drawing, to be drawn."""
 
-    judged: JudgedDrawing
+    judged: CountedDrawing
     as_drawn: bool
 
     def picture(self) -> Picture:

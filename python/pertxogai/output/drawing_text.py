@@ -8,17 +8,17 @@ from typing import TypedDict
 
 from pertxogai.drawing import Circle, Drawing, PointRef
 from pertxogai.drawing.geometry import Arc
-from pertxogai.judging import Judgement, Surplus, Then
+from pertxogai.judging import CountedJudgement, Judgement, Surplus, Then
 from pertxogai.judging.choices import tried_json, tried_lines
 from pertxogai.judging.good import Lack, reasons_against, reasons_json
-from pertxogai.judging.judged_drawing import JudgedDrawing
+from pertxogai.judging.judged_drawing import CountedDrawing, JudgedDrawing
 from pertxogai.judging.measure import Deviation, Solution, Unit, amount_text
 from pertxogai.judging.measure.limit import units_text
 from pertxogai.judging.measure.upright import upright
 from pertxogai.output.finding_text import finding_json, finding_lines, freedoms_text
 from pertxogai.output.stored_text import stored_json, stored_lines
 from pertxogai.output.values_text import values_json, values_lines
-from pertxogai.program.reports import CheckReport, Part, Solved
+from pertxogai.program.reports import Part, Solved
 
 __all__ = ["JudgedDrawing", "drawing_json", "drawing_lines", "spare_json", "spelled_json",
            "within_json"]
@@ -31,15 +31,15 @@ FOLLOWS = {True: "repeats", False: "contradicts", None: "follows from"}
 """How a dimension that may go stands to the others of its group."""
 
 
-def drawing_json(judged: JudgedDrawing) -> dict[str, object]:
-    """All of it as one object for JSON, of a judgement with counts. Places are nm in the datum's
-    frame, whole where they were printed in it."""
+def drawing_json(judged: CountedDrawing) -> dict[str, object]:
+    """All of it as one object for JSON. Places are nm in the datum's frame, whole where they were
+    printed in it."""
     judgement = judged.judgement
     return {
         "name": judged.name,
         "verdict": judgement.verdict.value,
         **reasons_json(judged),
-        "parts": [_part(judgement, part) for part in _check(judgement).parts],
+        "parts": [_part(judgement, part) for part in judgement.asked.check.parts],
         **spelled_json(judged),
         **values_json(judged.drawing),
         **finding_json(judged),
@@ -55,7 +55,7 @@ def drawing_json(judged: JudgedDrawing) -> dict[str, object]:
     }
 
 
-def _by_rank(judgement: Judgement) -> dict[str, object]:
+def _by_rank(judgement: CountedJudgement) -> dict[str, object]:
     """What is counted by the rank of what the drawing says, and not by the program: how many
     dimensions are lacking at least, None where that isn't known; how the whole may be moved, what
     is too many though the drawing isn't over, and what is loose though it is."""
@@ -86,7 +86,7 @@ def spelled_json(judged: JudgedDrawing) -> dict[str, object]:
     }
 
 
-def _placed_json(judged: JudgedDrawing) -> dict[str, object]:
+def _placed_json(judged: CountedDrawing) -> dict[str, object]:
     """Where it is placed and within what, or the program's fault."""
     judgement = judged.judgement
     placed, places = judgement.solution is not None, judged.places()
@@ -109,11 +109,9 @@ def within_json(judged: JudgedDrawing) -> dict[str, object]:
     }
 
 
-def drawing_lines(judged: JudgedDrawing) -> Iterator[str]:
-    """What was judged, in lines to read, of a judgement with counts; the first tells the
-    verdict."""
-    judgement = judged.judgement
-    check = _check(judgement)
+def drawing_lines(judged: CountedDrawing) -> Iterator[str]:
+    """What was judged, in lines to read; the first tells the verdict."""
+    judgement, check = judged.judgement, judged.judgement.asked.check
     freedoms = f", {freedoms_text(judged.finding)}" if judged.finding else ""
     yield (f"{judged.name}: {judgement.verdict.value}{freedoms}, spelled {judgement.style.value}, "
            f"elements {check.elements}, constraints {check.constraints}, parts {len(check.parts)}")
@@ -150,7 +148,7 @@ def drawing_lines(judged: JudgedDrawing) -> Iterator[str]:
         yield from stored_lines(judged.stored, judged.drawing)
 
 
-def _tried_lines(judgement: Judgement) -> Iterator[str]:
+def _tried_lines(judgement: CountedJudgement) -> Iterator[str]:
     """What came of other choices, where the drawing is placed and a constraint isn't met."""
     if judgement.solution is not None:
         sketch, named = judgement.asked.spelled.sketch, judgement.names.element
@@ -183,7 +181,7 @@ def _placed_lines(judged: JudgedDrawing) -> Iterator[str]:
         yield "  measured: each constraint holds exactly"
 
 
-def _failure_lines(judgement: Judgement) -> Iterator[str]:
+def _failure_lines(judgement: CountedJudgement) -> Iterator[str]:
     """The program's fault with the designer's names."""
     failure = judgement.failure
     if failure is None:
@@ -244,7 +242,7 @@ def _nearly_lines(judged: JudgedDrawing) -> Iterator[str]:
         yield f"  nearly: {each.line}, off by {each.off:.3g} {each.unit}; {why}"
 
 
-def _unmet_lines(judgement: Judgement) -> Iterator[str]:
+def _unmet_lines(judgement: CountedJudgement) -> Iterator[str]:
     """That no shape is found, and without what there is one."""
     if judgement.unmet is not None:
         yield "  no shape is found near the drawn one that has these values (by numbers)"
@@ -253,7 +251,7 @@ def _unmet_lines(judgement: Judgement) -> Iterator[str]:
         yield f"  what to do: look at {among}; without one of them a shape is found"
 
 
-def _surplus_lines(judgement: Judgement) -> Iterator[str]:
+def _surplus_lines(judgement: CountedJudgement) -> Iterator[str]:
     """What may go, how far it is off, and what the rest is then."""
     yield from (f"  over as it was measured, which isn't certified: {what} can't be spelled, and "
                 "the rest is enough" for what in judgement.measured_off)
@@ -284,12 +282,6 @@ def _advice_on(surplus: Sequence[Surplus]) -> Iterator[str]:
         yield "  what to do: take one of these away, and ask again (by rank; the first were tried)"
     elif surplus:
         yield "  what to do: take one of these away, and ask again (by rank; each was tried)"
-
-
-def _check(judgement: Judgement) -> CheckReport:
-    """What `check` says, which `judge` and `with_counts` ask for."""
-    assert judgement.asked.check is not None
-    return judgement.asked.check
 
 
 def _part(judgement: Judgement, part: Part) -> dict[str, object]:

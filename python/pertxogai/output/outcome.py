@@ -8,7 +8,7 @@ from typing import TYPE_CHECKING, Protocol
 
 from pertxogai.judging.good import (
     GoodJudgement, GoodSketch, NotGood, Reason, good_of, good_sketch_of, reasons_against)
-from pertxogai.judging.judged_drawing import JudgedDrawing
+from pertxogai.judging.judged_drawing import CountedDrawing
 from pertxogai.judging.judged_sketch import JudgedSketch
 from pertxogai.output.drawing_text import drawing_json, drawing_lines
 from pertxogai.output.release import Release
@@ -105,7 +105,7 @@ class SketchOutcome:
 class DrawingOutcome:
     """A judged drawing of a designer's."""
 
-    judged: JudgedDrawing
+    judged: CountedDrawing
 
     @property
     def name(self) -> str:
