@@ -94,6 +94,7 @@ diameter Other 10
     (116, ["PlateRight and Hole cross, and are drawn apart"]),
     (79, []),                                          # 90 - 79 = 6 + 5
     (80, ["Hole and Other cross, and are drawn apart"]),
+    (200, ["Hole lies on the other side of the outline of PlateBottom than it is drawn"]),
 ])
 def test_a_hole_that_leaves_its_plate_is_told(program, x, told):
     found = judge(read_drawing(PLATE.format(x=x)), program)

@@ -12,6 +12,7 @@ from enum import Enum
 from pertxogai.drawing import Arc, Circle, Drawing, Segment
 from pertxogai.exact import Vector, cross, dot
 from pertxogai.judging.edges import Chord, Edge, Edges, boxes_meet
+from pertxogai.judging.insides import leavers
 from pertxogai.judging.measure.solution import Solution
 from pertxogai.judging.rims import Rim, Round
 
@@ -22,6 +23,7 @@ class DepartureKind(Enum):
     TURNED = "runs the other way than it is drawn"
     OTHER_SIDE = "turns to the other side than it is drawn"
     CROSSES = "cross, and are drawn apart"
+    LEAVES = "lies on the other side of the outline"
 
 
 @dataclass(frozen=True)
@@ -34,6 +36,9 @@ class Departure:
     def text(self) -> str:
         """One line for the designer."""
         match self.departure:
+            case DepartureKind.LEAVES:
+                thing, edge = self.shapes
+                return f"{thing} {self.departure.value} of {edge} than it is drawn"
             case DepartureKind.OTHER_SIDE:
                 return f"the corner of {' and '.join(self.shapes)} {self.departure.value}"
             case _:
@@ -51,7 +56,8 @@ def warnings(drawing: Drawing, solution: Solution, free: bool = False) -> tuple[
             if isinstance(shape, Circle | Arc) and not shape.construction
             and shape.name in solution.radii]
     return (*_turned(found, free), *_corners(edges, outline), *_crossings(edges, outline),
-            *_cut_rims(outline, rims))
+            *_cut_rims(outline, rims),
+            *(Departure(DepartureKind.LEAVES, each) for each in leavers(edges, outline, rims)))
 
 
 def _turned(edges: Sequence[Edge], free: bool) -> Iterator[Departure]:

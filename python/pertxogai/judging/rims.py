@@ -87,6 +87,10 @@ class Rim:
     drawn: Round
     placed: Round
 
+    def ends(self) -> tuple[PointRef, PointRef]:
+        """The ends of an arc."""
+        return PointRef(self.name, Which.START), PointRef(self.name, Which.END)
+
     @staticmethod
     def of(drawing: Drawing, solution: Solution, shape: Circle | Arc) -> Rim:
         """Raises MissingPlace."""

@@ -179,7 +179,7 @@ def ask(question: Question, axes: Axes, style: Style, care: Care = Care()) -> Tr
 
 def _ask(question: Question, rails: Rails, spelled: Spelled, care: Care) -> Trial:
     """One spelling, and those in which more is told by what the program has placed."""
-    asked = _answered(rails, spelled, question.program)
+    asked = answered(rails, spelled, question.program)
     for _ in range(ROUNDS):
         more = _grown(asked, question.program, care) if asked.verdict is Verdict.OPEN else None
         if more is None:
@@ -197,7 +197,7 @@ def _grown(asked: Trial, program: Solver, care: Care) -> Trial | None:
     for more in islice(growths(asked.axes, asked.rails, asked.spelled, parts), GROWTHS):
         rails = Rails(more.axes, asked.spelled.style)
         spelled = written(more.axes, rails, asked.spelled.style, care)
-        trial = replace(_answered(rails, spelled, program),
+        trial = replace(answered(rails, spelled, program),
                         grown=(*asked.grown, more.equation))
         if trial.verdict is not Verdict.OVER:
             return trial
@@ -215,7 +215,7 @@ def _contradicted(question: Question, asked: Trial, care: Care) -> Trial:
     if not off:
         return asked
     spelled = written(asked.axes, asked.rails, asked.spelled.style, replace(care, off=off))
-    return replace(_answered(asked.rails, spelled, question.program), grown=asked.grown, off=off)
+    return replace(answered(asked.rails, spelled, question.program), grown=asked.grown, off=off)
 
 
 def _off(question: Question, asked: Trial) -> tuple[Contradiction, ...]:
@@ -260,7 +260,7 @@ def _told(program: Solver, spelled: Spelled, place: PlaceBy) -> CheckReport | So
     raise NotAReport("the program ended solve with a status that doesn't fit what it was asked")
 
 
-def _answered(rails: Rails, spelled: Spelled, program: Solver) -> Trial:
+def answered(rails: Rails, spelled: Spelled, program: Solver) -> Trial:
     """One spelling, and what the program says of it: asked once, by boxes."""
     told = _told(program, spelled, PlaceBy.BOXES)
     if isinstance(told, CheckReport):
