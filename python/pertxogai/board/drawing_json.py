@@ -13,7 +13,7 @@ from pertxogai.board.protocol import (
     ChangedDrawing, Constraint as ConstraintJson, Drawing as DrawingJson, Kind, Mark,
     Shape as ShapeJson)
 from pertxogai.drawing import (
-    Arc, Circle, Constraint, Drawing, Segment, Shape, Valued, points_of, value_text)
+    VALUED, Arc, Circle, Constraint, Drawing, Segment, Shape, points_of, value_text)
 from pertxogai.drawing.geometry import Point as DrawnPoint
 from pertxogai.drawing.mentions import named
 from pertxogai.drawing.named_shapes import shares
@@ -129,6 +129,6 @@ def _kind(shape: Shape) -> Kind:
 
 
 def _constraint(drawing: Drawing, number: int, constraint: Constraint) -> ConstraintJson:
-    value = value_text(constraint) if isinstance(constraint, Valued) else None
+    value = value_text(constraint) if isinstance(constraint, VALUED) else None
     return {"number": number, "name": constraint.name, "called": drawing.called(number),
             "words": drawing.wordings[number - 1], "value": value}

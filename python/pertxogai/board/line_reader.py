@@ -5,7 +5,7 @@ from dataclasses import replace
 
 from pertxogai.board.typed import value_word
 from pertxogai.drawing import (
-    Constraint, Drawing, NamedShapes, Shape, Valued, WordFault, asked_of, words_of)
+    VALUED, Constraint, Drawing, NamedShapes, Shape, WordFault, asked_of, words_of)
 from pertxogai.drawing.constraint_checks import check_constraint
 from pertxogai.drawing.constraint_lines import ConstraintWord, read_constraints
 from pertxogai.drawing.cursor import Cursor
@@ -37,7 +37,7 @@ def asking(drawing: Drawing, words: list[str]) -> Drawing:
 
 def valued(drawing: Drawing, constraint: Constraint, value: str) -> Constraint:
     """A constraint with another value, as it is written. Raises WordFault."""
-    if not isinstance(constraint, Valued):
+    if not isinstance(constraint, VALUED):
         raise WordFault(words_of(constraint), "has no value that could be changed")
     (found,) = asked(drawing, [*asked_of(constraint), *value_word(value).split()])
     return replace(found, name=constraint.name)

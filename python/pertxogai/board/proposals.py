@@ -7,7 +7,7 @@ from collections.abc import Iterator
 from pertxogai.board.marks import marks
 from pertxogai.board.protocol import Completed, Proposed
 from pertxogai.completing import Completion, NoProposal, Proposal
-from pertxogai.drawing import Drawing, Valued, asked_of, value_text, words_of
+from pertxogai.drawing import VALUED, Drawing, asked_of, value_text, words_of
 from pertxogai.judging.measure import Solution
 from pertxogai.output.picture.drawings import DrawnPlaces
 
@@ -32,6 +32,6 @@ def _shown(where: DrawnPlaces, found: Completion) -> Iterator[Proposed]:
 def _words(proposal: Proposal) -> tuple[list[str], str | None]:
     """The words of a line without its value, and the value; None where it has none."""
     constraint = proposal.constraint
-    if isinstance(constraint, Valued):
+    if isinstance(constraint, VALUED):
         return list(asked_of(constraint)), value_text(constraint)
     return words_of(constraint).split(), None

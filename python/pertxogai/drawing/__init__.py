@@ -3,8 +3,8 @@ from typing import TYPE_CHECKING
 
 from pertxogai.drawing.changes import moved
 from pertxogai.drawing.constraints import (
-    AngleBetween, AngleValue, Coincident, Collinear, Concentric, Constraint, Degrees, Diameter,
-    Distance, Equal, Fixed, Horizontal, Length, Midpoint, Parallel, ParallelDistance,
+    VALUED, AngleBetween, AngleValue, Coincident, Collinear, Concentric, Constraint, Degrees,
+    Diameter, Distance, Equal, Fixed, Horizontal, Length, Midpoint, Parallel, ParallelDistance,
     Perpendicular, PointLineDistance, PointOn, Radius, Ratio, Sense, Symmetric, Tangent, Valued,
     Vertical, XDistance, YDistance)
 from pertxogai.drawing.drawing import Drawing, Note
@@ -21,6 +21,7 @@ from pertxogai.drawing.senses import Slope, Touch, Turn, run_um, touch, turn, wa
 from pertxogai.drawing.shorthands import Expansion, polyline, rectangle
 from pertxogai.drawing.soundness import checked, ends_made_one, faults
 from pertxogai.drawing.values.expression import Expression
+from pertxogai.drawing.values.parameters import Dimension, NamedValue, Parameter, Unit, parameters
 from pertxogai.drawing.values.parsing import read_expression
 from pertxogai.drawing.values.quantity import Quantity
 from pertxogai.drawing.values.reckoning import (
@@ -31,14 +32,15 @@ from pertxogai.drawing.writing import write_drawing
 
 __all__ = ["Anchor", "AngleBetween", "AngleValue", "Arc", "Axis", "Circle", "Coincident",
            "Collinear", "Concentric", "Constraint", "DATUM_NAMES", "Datum", "Degrees", "Diameter",
-           "Distance", "Drawing", "DrawingRefusal", "DrawingUnsound", "Equal", "Expansion",
-           "Expression", "Fixed", "Horizontal", "Length", "Meetings", "Midpoint", "NamedShapes",
-           "Note", "ORIGIN", "Origin", "Pair", "Parallel", "ParallelDistance", "Perpendicular",
-           "Place", "Point", "PointLineDistance", "PointOn", "PointRef", "Quantity", "Radius",
-           "Ratio", "ReckonedValue", "Segment", "Sense", "Shape", "ShapeRef", "Slope", "Symmetric",
-           "Tangent", "Touch", "Turn", "Value", "Valued", "Vertical", "Which", "WordFault",
-           "XDistance", "X_AXIS", "YDistance", "Y_AXIS", "asked_of", "checked", "ends_made_one",
-           "faults", "line_of", "moved", "place_mm", "points_of", "polyline", "read_drawing",
+           "Dimension", "Distance", "Drawing", "DrawingRefusal", "DrawingUnsound", "Equal",
+           "Expansion", "Expression", "Fixed", "Horizontal", "Length", "Meetings", "Midpoint",
+           "NamedShapes", "NamedValue", "Note", "ORIGIN", "Origin", "Pair", "Parallel",
+           "ParallelDistance", "Parameter", "Perpendicular", "Place", "Point", "PointLineDistance",
+           "PointOn", "PointRef", "Quantity", "Radius", "Ratio", "ReckonedValue", "Segment",
+           "Sense", "Shape", "ShapeRef", "Slope", "Symmetric", "Tangent", "Touch", "Turn", "Unit",
+           "VALUED", "Value", "Valued", "Vertical", "Which", "WordFault", "XDistance", "X_AXIS",
+           "YDistance", "Y_AXIS", "asked_of", "checked", "ends_made_one", "faults", "line_of",
+           "moved", "parameters", "place_mm", "points_of", "polyline", "read_drawing",
            "read_expression", "reckoned_values", "rectangle", "rounded_roots", "run_um", "spot_of",
            "touch", "turn", "um_of_mm", "value_text", "way", "with_values", "words_of",
            "write_drawing"]

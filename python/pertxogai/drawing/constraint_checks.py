@@ -8,8 +8,8 @@ from typing import assert_never
 from pertxogai.drawing.checks import (
     MOST_UM, check_line, check_point, check_rim, check_size, is_rim, standing)
 from pertxogai.drawing.constraints import (
-    AngleBetween, AngleValue, Coincident, Collinear, Concentric, Constraint, Degrees, Diameter,
-    Distance, Equal, Fixed, Horizontal, Length, Midpoint, Parallel, ParallelDistance,
+    VALUED, AngleBetween, AngleValue, Coincident, Collinear, Concentric, Constraint, Degrees,
+    Diameter, Distance, Equal, Fixed, Horizontal, Length, Midpoint, Parallel, ParallelDistance,
     Perpendicular, PointLineDistance, PointOn, Radius, Sense, Symmetric, Tangent, Valued, Vertical,
     XDistance, YDistance)
 from pertxogai.drawing.geometry import Point
@@ -26,14 +26,14 @@ def check_constraint(scene: NamedShapes, constraint: Constraint) -> None:
     try:
         _check(scene, constraint)
     except WordFault as fault:
-        if not isinstance(constraint, Valued) or constraint.expression is None:
+        if not isinstance(constraint, VALUED) or constraint.expression is None:
             raise
         raise _of_expression(constraint, constraint.expression, fault) from None
 
 
 def check_expression(scene: NamedShapes, constraint: Constraint) -> None:
     """Raises WordFault where the value of a constraint isn't what its expression comes to."""
-    if not isinstance(constraint, Valued) or constraint.expression is None:
+    if not isinstance(constraint, VALUED) or constraint.expression is None:
         return
     found: Fraction | Degrees
     if isinstance(constraint, AngleBetween):

@@ -297,3 +297,7 @@ Constraint = (
 Valued = (AngleBetween | Length | Distance | XDistance | YDistance | PointLineDistance
           | ParallelDistance | Radius | Diameter)
 """The constraints that carry a value."""
+
+VALUED = (AngleBetween, Length, Distance, XDistance, YDistance, PointLineDistance,
+          ParallelDistance, Radius, Diameter)
+"""Their types."""

@@ -9,7 +9,7 @@ from fractions import Fraction
 from math import atan2, degrees
 
 from pertxogai.drawing.constraint_checks import check_constraint
-from pertxogai.drawing.constraints import AngleBetween, Degrees, Ratio, Sense, Valued
+from pertxogai.drawing.constraints import VALUED, AngleBetween, Degrees, Ratio, Sense, Valued
 from pertxogai.drawing.drawing import Drawing
 from pertxogai.drawing.numbers import decimal_text
 from pertxogai.drawing.refusal import DrawingUnsound, WordFault
@@ -67,7 +67,7 @@ class Dimension:
         if number == self.present:
             return drawing
         old = drawing.constraints[self.number - 1]
-        assert isinstance(old, Valued)
+        assert isinstance(old, VALUED)
         anew: Valued
         if isinstance(old, AngleBetween):
             sense = Sense.SIGNED if isinstance(old.value, Ratio) else old.sense
@@ -110,7 +110,7 @@ def _values(drawing: Drawing) -> Iterator[NamedValue]:
 
 def _dimensions(drawing: Drawing) -> Iterator[Dimension]:
     for number, each in enumerate(drawing.constraints, start=1):
-        if not isinstance(each, Valued) or each.expression is not None and each.expression.names:
+        if not isinstance(each, VALUED) or each.expression is not None and each.expression.names:
             continue
         if not isinstance(each, AngleBetween):
             yield Dimension(number, Unit.MM, each.value_um / 1000)

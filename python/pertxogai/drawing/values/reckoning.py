@@ -6,7 +6,7 @@ from collections.abc import Iterator, Mapping
 from dataclasses import dataclass, replace
 
 from pertxogai.drawing.constraint_checks import check_constraint
-from pertxogai.drawing.constraints import AngleBetween, Constraint, Degrees, Valued
+from pertxogai.drawing.constraints import VALUED, AngleBetween, Constraint, Degrees, Valued
 from pertxogai.drawing.drawing import Drawing
 from pertxogai.drawing.numbers import degrees_of, um_of
 from pertxogai.drawing.refusal import DrawingUnsound, WordFault
@@ -36,7 +36,7 @@ def rounded_roots(drawing: Drawing) -> tuple[int, ...]:
     root in their expressions is no fraction."""
     values = drawing.scene.values
     return tuple(number for number, each in enumerate(drawing.constraints, start=1)
-                 if isinstance(each, Valued) and each.expression is not None
+                 if isinstance(each, VALUED) and each.expression is not None
                  and not values.evaluated(each.expression).exact)
 
 
@@ -67,7 +67,7 @@ def _check_values(drawing: Drawing) -> None:
 
 def _reckoned_all(drawing: Drawing) -> Iterator[Constraint]:
     for number, each in enumerate(drawing.constraints, start=1):
-        if not isinstance(each, Valued) or each.expression is None:
+        if not isinstance(each, VALUED) or each.expression is None:
             yield each
             continue
         try:
