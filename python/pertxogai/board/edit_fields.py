@@ -7,6 +7,9 @@ from pertxogai.board.edits import (
     Ask, Call, Construction, Draw, Edit, Erase, Lines, Move, Rename, Shift, Value)
 from pertxogai.board.fields import FieldRefused, Fields
 from pertxogai.board.new_names import Figure
+from pertxogai.board.offsetting import Offset
+from pertxogai.board.pasting import Paste
+from pertxogai.board.patterns import Mirror, Ring, Row
 from pertxogai.board.trimming import Extend, Trim
 from pertxogai.drawing import Drawing, Place
 
@@ -43,6 +46,25 @@ def read_edit(drawing: Drawing, given: Fields) -> Edit:
             return Trim(given.text("shape"), Place(given.um("x"), given.um("y")))
         case "extend":
             return Extend(given.text("shape"), Place(given.um("x"), given.um("y")))
+        case _:
+            return _copies(drawing, given)
+
+
+def _copies(drawing: Drawing, given: Fields) -> Edit:
+    """An edit that draws some shapes again."""
+    shapes = given.texts("shapes")
+    match given.text("do"):
+        case "mirror":
+            return Mirror(shapes, given.text("about"))
+        case "row":
+            return Row(shapes, given.um("dx"), given.um("dy"), given.whole("count"))
+        case "ring":
+            return Ring(shapes, spot_of(drawing.scene, given.object("about")),
+                        given.whole("count"))
+        case "offset":
+            return Offset(shapes, given.text("size"), Place(given.um("x"), given.um("y")))
+        case "paste":
+            return Paste(given.text("source"), shapes, given.um("dx"), given.um("dy"))
         case other:
             raise FieldRefused(f"{other!r} is no edit of the board")
 
@@ -54,7 +76,8 @@ def _draw(drawing: Drawing, given: Fields) -> Draw:
         raise FieldRefused(f"{given.text('figure')!r} is no figure that is drawn") from None
     spots = tuple(spot_of(drawing.scene, each) for each in given.objects("spots"))
     radius = given.um("radius") if given.has("radius") else None
-    return Draw(figure, spots, radius, given.flag("construction"), given.lines("asks"))
+    sides = given.whole("sides") if given.has("sides") else 0
+    return Draw(figure, spots, radius, given.flag("construction"), given.lines("asks"), sides)
 
 
 def _corner(given: Fields) -> Corner:

@@ -9,9 +9,12 @@ from fractions import Fraction
 
 from pertxogai.board.anchors import leader_of, renamed, with_spot
 from pertxogai.board.corners import Corner
-from pertxogai.board.figures import slot
+from pertxogai.board.figures import centre_rectangle, polygon, slot, tangent_arc
 from pertxogai.board.line_reader import asking, drawn, valued
 from pertxogai.board.new_names import Figure, free_name
+from pertxogai.board.offsetting import Offset
+from pertxogai.board.pasting import Paste
+from pertxogai.board.patterns import Mirror, Ring, Row
 from pertxogai.board.removal import without
 from pertxogai.board.trimming import Extend, Trim
 from pertxogai.board.typed import value_word
@@ -26,20 +29,23 @@ from pertxogai.drawing.shorthands import Expansion
 class Draw:
     """Draws a figure through spots, under a free name: a segment or a rectangle from corner to
     corner, a circle from its centre with a radius, an arc from its centre, counter-clockwise
-    from start to end, a slot round two centres with a radius. asks: what is asked for with it,
-    each by the words of a line in which `*` stands for that name."""
+    from start to end, a slot round two centres with a radius, a regular polygon of so many sides
+    or a rectangle from the centre to a corner, an arc that goes on from an end. asks: what is asked
+    for with it, each by the words of a line in which `*` stands for that name."""
 
     figure: Figure
     spots: tuple[Anchor, ...]
     radius_um: Fraction | None = None
     construction: bool = False
     asks: tuple[tuple[str, ...], ...] = ()
+    sides: int = 0
 
     def on(self, drawing: Drawing) -> Drawing:
         """The drawing with it."""
         name = free_name(drawing, self.figure)
         said = self._said(drawing, name)
-        shapes = tuple(replace(shape, construction=self.construction) for shape in said.shapes)
+        shapes = tuple(replace(shape, construction=shape.construction or self.construction)
+                       for shape in said.shapes)
         count = len(drawing.geometry)
         notes = tuple(replace(note, before=note.before + len(shapes))
                       if note.before >= count > 0 else note for note in drawing.notes)
@@ -49,8 +55,15 @@ class Draw:
 
     def _said(self, drawing: Drawing, name: str) -> Expansion:
         """The shapes of the figure, and what it asks for by itself."""
-        if self.figure is Figure.SLOT and self.radius_um is not None:
-            return slot(drawing, name, self.spots, self.radius_um)
+        match self.figure:
+            case Figure.SLOT if self.radius_um is not None:
+                return slot(drawing, name, self.spots, self.radius_um)
+            case Figure.POLYGON:
+                return polygon(drawing, name, self.spots, self.sides)
+            case Figure.CENTRE_RECTANGLE:
+                return centre_rectangle(drawing, name, self.spots)
+            case Figure.TANGENT_ARC:
+                return tangent_arc(drawing, name, self.spots)
         words = [self.figure.value, name, *(_words(spot) for spot in self.spots)]
         if self.radius_um is not None:
             words.append(mm_text(self.radius_um))
@@ -211,7 +224,7 @@ def faults_of(where: str) -> Iterator[None]:
 
 
 Edit = (Draw | Move | Shift | Erase | Ask | Lines | Value | Call | Rename | Construction | Corner
-        | Trim | Extend)
+        | Trim | Extend | Mirror | Row | Ring | Offset | Paste)
 
 
 def _asking(drawing: Drawing, asks: Iterable[Sequence[str]]) -> Drawing:

@@ -32,7 +32,8 @@ class FreeSpot(TypedDict):
 
 Spot = PointSpot | FreeSpot
 Kind = Literal["point", "segment", "circle", "arc"]
-FigureName = Literal["point", "segment", "circle", "arc", "rectangle", "slot"]
+FigureName = Literal["point", "segment", "circle", "arc", "rectangle", "slot", "polygon",
+                     "centre-rectangle", "tangent-arc"]
 
 
 class DrawEdit(TypedDict):
@@ -43,6 +44,7 @@ class DrawEdit(TypedDict):
     figure: FigureName
     spots: list[Spot]
     radius: NotRequired[float]
+    sides: NotRequired[int]
     construction: NotRequired[bool]
     asks: NotRequired[list[list[str]]]
 
@@ -168,8 +170,56 @@ class ExtendEdit(TypedDict):
     y: float
 
 
+class MirrorEdit(TypedDict):
+    """Draws shapes once more, mirrored in a segment or an axis."""
+
+    do: Literal["mirror"]
+    shapes: list[str]
+    about: str
+
+
+class RowEdit(TypedDict):
+    """Draws shapes again and again, each a pitch further: so many in all."""
+
+    do: Literal["row"]
+    shapes: list[str]
+    dx: float
+    dy: float
+    count: int
+
+
+class RingEdit(TypedDict):
+    """Draws shapes again and again round a centre: so many in all, over a full turn."""
+
+    do: Literal["ring"]
+    shapes: list[str]
+    about: Spot
+    count: int
+
+
+class OffsetEdit(TypedDict):
+    """Draws the outline beside some edges, so far from them as is typed, on the side of a place."""
+
+    do: Literal["offset"]
+    shapes: list[str]
+    size: str
+    x: float
+    y: float
+
+
+class PasteEdit(TypedDict):
+    """Draws shapes of a text, the same or another, so much further, with what is said of them."""
+
+    do: Literal["paste"]
+    source: str
+    shapes: list[str]
+    dx: float
+    dy: float
+
+
 Edit = (DrawEdit | MoveEdit | ShiftEdit | EraseEdit | AskEdit | LinesEdit | ValueEdit | CallEdit
-        | RenameEdit | ConstructionEdit | CornerEdit | TrimEdit | ExtendEdit)
+        | RenameEdit | ConstructionEdit | CornerEdit | TrimEdit | ExtendEdit | MirrorEdit | RowEdit
+        | RingEdit | OffsetEdit | PasteEdit)
 
 
 class About(TypedDict):

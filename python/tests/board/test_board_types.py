@@ -117,7 +117,7 @@ def test_answers_to_other_texts_are_of_their_types(text: str, program: Program) 
 
 EDITS: list[dict[str, object]] = [
     {"do": "draw", "figure": "circle", "spots": [{"point": "A.end"}], "radius": 4,
-     "construction": True, "asks": [["equal", "*", "C"]]},
+     "sides": 6, "construction": True, "asks": [["equal", "*", "C"]]},
     {"do": "draw", "figure": "segment", "spots": [{"x": 1, "y": 2.5}, {"point": "A.end"}]},
     {"do": "move", "points": [{"of": "A.end", "x": 41, "y": 1}],
      "radii": [{"of": "C", "radius": 3}], "asks": [["horizontal", "A"]]},
@@ -130,6 +130,11 @@ EDITS: list[dict[str, object]] = [
     {"do": "corner", "kind": "fillet", "first": "A", "second": "B", "size": "5"},
     {"do": "trim", "shape": "A", "x": 10, "y": 0}, {"do": "extend", "shape": "B", "x": 40, "y": 1},
     {"do": "construction", "shapes": ["A"], "construction": True},
+    {"do": "mirror", "shapes": ["A"], "about": "YAxis"},
+    {"do": "row", "shapes": ["A"], "dx": 1.5, "dy": 0, "count": 3},
+    {"do": "ring", "shapes": ["A"], "about": {"point": "A.end"}, "count": 3},
+    {"do": "offset", "shapes": ["A"], "size": "3", "x": 1, "y": 0.5},
+    {"do": "paste", "source": "segment A 0 0 1 0\n", "shapes": ["A"], "dx": 1, "dy": 0},
 ]
 TEXT = "segment A 0 0 40 0\nsegment B A.end 40 30\ncircle C 10 10 4\nlength A 40\n"
 

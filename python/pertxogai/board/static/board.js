@@ -393,8 +393,16 @@ export class Board {
    * @param {number} [near]
    */
   edgeAt(place, near = NEAR) {
-    return this.answer.drawing.shapes.find(
-      (shape) => awayFrom(shape, this.shown.viewOf(shape), this.plane, place) < near)?.name;
+    return this.answer.drawing.shapes.find((shape) => this.awayFrom(shape, place) < near)?.name;
+  }
+
+  /**
+   * How far in pixels a place lies from the edge of a shape.
+   * @param {Shape} shape
+   * @param {Place} place
+   */
+  awayFrom(shape, place) {
+    return awayFrom(shape, this.shown.viewOf(shape), this.plane, place);
   }
 
   /** Shows all that is drawn and placed, and the other shape where that is shown. */

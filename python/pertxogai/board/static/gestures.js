@@ -1,11 +1,13 @@
 // @ts-check
 /** The mouse, the pen and the arrows on the board. */
 import { svg } from './nodes.js';
-import { arcThrough, rounded } from './tools.js';
-import { apart, line, pathOf, ring, slotPath, bow } from './shapes.js';
+import { rounded } from './tools.js';
+import { apart, pathOf } from './shapes.js';
 import { namesOf } from './selection.js';
 import { Sequence } from './sequence.js';
 import { Guesses, signOf } from './guesses.js';
+import { Copies } from './copies.js';
+import { figurePath } from './outlines.js';
 
 /** @typedef {import('./page').Place} Place */
 /** @typedef {import('./protocol').Edit} Edit */
@@ -66,6 +68,7 @@ export class Gestures {
     this.hand = hand;
     this.tell = tell;
     this.guesses = new Guesses(board);
+    this.copies = new Copies(board, paper, selection, hand, tell);
     this.hears('pointerdown', (event, at) => this.down(event, at));
     this.hears('pointermove', (event, at) => this.move(event, at));
     this.hears('pointerup', (event, at) => this.up(event, at));
@@ -307,13 +310,40 @@ export class Gestures {
   }
 
   /**
-   * What a click of a tool does: it cuts, or draws.
+   * What a click of a tool does: it cuts, draws again what is selected, or draws.
    * @param {Place} pixels
    * @param {Held} held
    */
   act(pixels, held) {
-    const { cut } = this.hand;
+    const { cut, copy } = this.hand;
+    if (copy) return this.again(pixels, held);
     return cut ? this.cut(cut, pixels) : this.draw(pixels, held);
+  }
+
+  /**
+   * Draws again what is selected, by a click; what is drawn is selected then.
+   * @param {Place} pixels
+   * @param {Held} held
+   */
+  async again(pixels, held) {
+    const { board, paper, copies, selection } = this;
+    const edit = await copies.edit(pixels, this.aimPlainly(pixels, held));
+    const known = new Set(board.answer.drawing.shapes.map((each) => each.name));
+    if (!edit || !await paper.edit(edit)) return;
+    const shapes = paper.answer?.drawing?.shapes ?? [];
+    board.node.dispatchEvent(new Event('done'));
+    selection.set(shapes.map((each) => each.name).filter((name) => !known.has(name)));
+  }
+
+  /**
+   * Where the hand aims at a place in pixels: a point that is near, or else one on the grid.
+   * @param {Place} pixels
+   * @param {Held} held
+   */
+  aimPlainly(pixels, { ctrlKey }) {
+    const near = ctrlKey ? null : this.board.nearPoint(pixels);
+    const plain = { ...this.guesses.plain(pixels), plain: ctrlKey };
+    return near ? { ...plain, spot: { point: near.name }, at: near.at, isPoint: true } : plain;
   }
 
   /**
@@ -370,21 +400,35 @@ export class Gestures {
   hover(pixels, held) {
     const { board, hand } = this;
     this.last = [pixels, held];
-    if (!hand.draws || hand.cut) {
-      board.preview = hand.cut ? () => [this.edgeMade(pixels)] : null;
-      if (hand.cut) board.drawHand();
+    if (!hand.figure) {
+      board.preview = this.previewOf(pixels, held);
+      if (hand.draws) board.drawHand();
       return;
     }
     const { at, isPoint, guesses } = this.aim(pixels, held);
-    const isHeld = isPoint || guesses.some(({ words }) => words.includes('@'));
+    const isHeld = isPoint || guesses.some(
+      ({ words }) => words.includes('@') || words.includes('*.end'));
     const [kind, r] = isHeld ? ['snap', 9] : ['preview', 4];
+    const way = this.guesses.wayOn(hand.clicks[0]);
     board.preview = (plane) => {
       const [cx, cy] = plane.toScreen(at);
-      const path = this.path([...hand.clicks.map((each) => plane.toScreen(each.at)), [cx, cy]]);
+      const path = figurePath(
+        hand, [...hand.clicks.map((each) => plane.toScreen(each.at)), [cx, cy]], way);
       return [path ? svg('path', { class: 'preview', d: path }) : null,
         svg('circle', { class: kind, cx, cy, r }), ...this.signs(guesses)];
     };
     board.drawHand();
+  }
+
+  /**
+   * What a click of a tool that draws no figure would do.
+   * @param {Place} pixels
+   * @param {Held} held
+   */
+  previewOf(pixels, held) {
+    const { hand, copies } = this;
+    if (hand.copy) return () => copies.preview(pixels, this.aimPlainly(pixels, held));
+    return hand.cut ? () => [this.edgeMade(pixels)] : null;
   }
 
   /**
@@ -410,22 +454,6 @@ export class Gestures {
       const told = { class: 'guess', 'data-guess': guess.words.join(' '), x: x + 15 + 16 * place };
       return svg('text', { ...told, y: y - 15 }, signOf(guess));
     }));
-  }
-
-  /**
-   * The path of the figure through places in pixels.
-   * @param {Place[]} places
-   */
-  path([first, second, third]) {
-    if (!second) return '';
-    if (this.hand.tool === 'circle') return ring(first, apart(first, second));
-    if (this.hand.tool === 'rectangle') {
-      return `M${first[0]} ${first[1]}H${second[0]}V${second[1]}H${first[0]}Z`;
-    }
-    if (this.hand.tool === 'slot' && third) return slotPath(first, second, third);
-    const arc = third && arcThrough(first, second, third);
-    if (!arc) return line(first, second);
-    return arc.swapped ? bow(arc.centre, first, second) : bow(arc.centre, second, first);
   }
 
   /**

@@ -19,8 +19,8 @@ import { apart, awayFrom, middleOf } from './shapes.js';
  */
 /**
  * Where a hand aims: a spot and its place in millimetres, whether it is a point that stands, and
- * what is nearly so there.
- * @typedef {{ spot: Spot, at: Place, isPoint: boolean, guesses: Guess[] }} Aim
+ * what is nearly so there; plain, where it is to be just that place.
+ * @typedef {{ spot: Spot, at: Place, isPoint: boolean, guesses: Guess[], plain?: boolean }} Aim
  */
 /** @typedef {{ name: string, start: Place, end: Place }} Edge */
 
@@ -73,12 +73,25 @@ export class Guesses {
    * @returns {Aim}
    */
   ofHand({ tool, clicks: [first, second] }, pixels) {
-    if (tool === 'circle' && first) return this.ofRim(first, pixels);
     if (tool === 'arc' && second) return this.ofArc(first, second, pixels);
     if (tool === 'slot' && second) return this.plain(pixels);
-    const aim = this.aim(pixels);
-    if (tool === 'slot' && first) return this.ofCentres(first, aim);
-    return tool === 'segment' && first ? this.ofSegment(first, aim) : aim;
+    if (tool === 'circle' && first) return this.ofRim(first, pixels);
+    return first ? this.ofNext(tool, first, this.aim(pixels)) : this.aim(pixels);
+  }
+
+  /**
+   * The aim at the second click of a tool.
+   * @param {import('./tools.js').Tool} tool
+   * @param {Click} first
+   * @param {Aim} aim
+   */
+  ofNext(tool, first, aim) {
+    switch (tool) {
+      case 'slot': return this.ofCentres(first, aim);
+      case 'tangent-arc': return this.ofTangentArc(first, aim);
+      case 'segment': return this.ofSegment(first, aim);
+      default: return aim;
+    }
   }
 
   /**
@@ -111,6 +124,53 @@ export class Guesses {
     const near = this.board.nearPoint(pixels, except);
     if (near) return { spot: { point: near.name }, at: near.at, isPoint: true, guesses: [] };
     return this.atMiddle(pixels, except) ?? this.onEdge(pixels, except) ?? this.plain(pixels);
+  }
+
+  /**
+   * The aim at the other end of an arc that goes on from a click: what is guessed there is said of
+   * the end that it is.
+   * @param {Click} first
+   * @param {Aim} aim
+   * @returns {Aim}
+   */
+  ofTangentArc(first, aim) {
+    const way = this.wayOn(first);
+    const [x, y] = minus(aim.at, first.at);
+    const end = way && way[0] * y + way[1] * x < 0 ? '*.start' : '*.end';
+    const guesses = aim.guesses.map(({ words, at }) => ({
+      words: words.map((word) => (word === '@' ? end : word)), at }));
+    return { ...aim, guesses };
+  }
+
+  /**
+   * The direction, in pixels and of length 1, in which the edge that ends in a click goes on beyond
+   * it; null where none does. Of several it is the one that is drawn last.
+   * @param {Click | undefined} click
+   * @returns {Place | null}
+   */
+  wayOn(click) {
+    const shape = click && this.shapes.filter((each) => this.endIn(each, click.at)).at(-1);
+    if (!shape) return null;
+    const { points } = this.board.shown.viewOf(shape);
+    const isEnd = this.endIn(shape, click.at) === 'end';
+    const [near, far] = isEnd ? ['end', 'start'] : ['start', 'end'];
+    const centre = points[`${shape.name}.centre`];
+    const [x, y] = minus(points[`${shape.name}.${near}`], centre ?? points[`${shape.name}.${far}`]);
+    const [u, v] = !centre ? [x, y] : isEnd ? [-y, x] : [y, -x];
+    const long = Math.hypot(u, v) || 1;
+    return [u / long, -v / long];
+  }
+
+  /**
+   * Which end of a segment or an arc is shown at a place; null where none is.
+   * @param {Shape} shape
+   * @param {Place} at
+   */
+  endIn({ name }, at) {
+    return ['end', 'start'].find((which) => {
+      const place = this.board.shown.at(`${name}.${which}`);
+      return place && apart(place, at) < 1e-6;
+    }) ?? null;
   }
 
   /**

@@ -31,6 +31,7 @@ export class Keys {
   does(event) {
     const { key, shiftKey: shift } = event;
     const chord = (event.ctrlKey || event.metaKey) && !BRACKETS[key];
+    if (chord && key === 'c' && getSelection()?.toString()) return false;
     if (isTyping(event)) return chord && savesOrOpens(key) && pressed(`Control+${key}`);
     if (ARROWS[key]) return this.arrow(event, chord);
     if (chord) return pressed(`Control+${shift ? 'Shift+' : ''}${key}`);

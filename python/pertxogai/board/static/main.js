@@ -78,6 +78,7 @@ export class Page {
       construct: () => offers.construct(),
       rename: () => offers.rename(),
       erase: () => offers.erase(),
+      copy: () => this.gestures.copies.copy(),
       back: () => steps.go(-1),
       on: () => steps.go(1),
       play: () => steps.play(),
@@ -103,6 +104,8 @@ export class Page {
       this.call();
       keeping.keep();
     });
+    this.board.node.addEventListener('done', () => this.take('select'));
+    for (const what of /** @type {const} */ (['sides', 'count'])) this.option(what);
     this.board.node.addEventListener('mouseup', (event) => this.pressed(event.detail));
     this.take('select');
     /** @type {Partial<import('./keeping.js').Kept>} */
@@ -166,17 +169,35 @@ export class Page {
   }
 
   /**
-   * Takes a tool.
+   * A number of the tool that is held: it counts as it is typed, and Enter goes back to the board.
+   * @param {'sides' | 'count'} what
+   */
+  option(what) {
+    const field = nodeOf(what, HTMLInputElement);
+    field.addEventListener('input', () => {
+      if (field.validity.valid && field.value) this.hand[what] = Number(field.value);
+    });
+    field.addEventListener('keydown', ({ key }) => {
+      if (key === 'Enter' || key === 'Escape') this.board.node.focus();
+    });
+  }
+
+  /**
+   * Takes a tool; one that draws again what is selected only where something is.
    * @param {Tool} tool
    */
   take(tool) {
     this.hand.take(tool);
+    if (this.hand.copy && !this.gestures.copies.isReady()) this.hand.take('select');
+    else hint(this.hand.hint);
+    tool = this.hand.tool;
+    byId('option-sides').hidden = tool !== 'polygon';
+    byId('option-count').hidden = tool !== 'row' && tool !== 'ring';
     this.board.preview = null;
     this.board.node.classList.toggle('draws', this.hand.draws);
     for (const button of document.querySelectorAll('[data-tool]')) {
       button.ariaPressed = String(button.getAttribute('data-tool') === tool);
     }
-    hint(this.hand.hint);
     this.board.draw();
   }
 

@@ -199,9 +199,11 @@ export interface FreeSpot {
  */
 export interface DrawEdit {
   do: 'draw';
-  figure: 'point' | 'segment' | 'circle' | 'arc' | 'rectangle' | 'slot';
+  figure: 'point' | 'segment' | 'circle' | 'arc' | 'rectangle' | 'slot' | 'polygon' |
+    'centre-rectangle' | 'tangent-arc';
   spots: (PointSpot | FreeSpot)[];
   radius?: number;
+  sides?: number;
   construction?: boolean;
   asks?: string[][];
 }
@@ -312,12 +314,55 @@ export interface ExtendEdit {
   y: number;
 }
 
+/** Draws shapes once more, mirrored in a segment or an axis. */
+export interface MirrorEdit {
+  do: 'mirror';
+  shapes: string[];
+  about: string;
+}
+
+/** Draws shapes again and again, each a pitch further: so many in all. */
+export interface RowEdit {
+  do: 'row';
+  shapes: string[];
+  dx: number;
+  dy: number;
+  count: number;
+}
+
+/** Draws shapes again and again round a centre: so many in all, over a full turn. */
+export interface RingEdit {
+  do: 'ring';
+  shapes: string[];
+  about: PointSpot | FreeSpot;
+  count: number;
+}
+
+/** Draws the outline beside some edges, so far from them as is typed, on the side of a place. */
+export interface OffsetEdit {
+  do: 'offset';
+  shapes: string[];
+  size: string;
+  x: number;
+  y: number;
+}
+
+/** Draws shapes of a text, the same or another, so much further, with what is said of them. */
+export interface PasteEdit {
+  do: 'paste';
+  source: string;
+  shapes: string[];
+  dx: number;
+  dy: number;
+}
+
 /** A call that edits a text. knows: whether the page has what was told of that text. */
 export interface AboutEdit {
   text: string;
   left_out?: string[];
   edit: DrawEdit | MoveEdit | ShiftEdit | EraseEdit | AskEdit | LinesEdit | ValueEdit | CallEdit |
-    RenameEdit | ConstructionEdit | CornerEdit | TrimEdit | ExtendEdit;
+    RenameEdit | ConstructionEdit | CornerEdit | TrimEdit | ExtendEdit | MirrorEdit | RowEdit |
+    RingEdit | OffsetEdit | PasteEdit;
   knows?: boolean;
 }
 
@@ -583,7 +628,8 @@ export interface Answer {
 export type Spot = PointSpot | FreeSpot;
 
 export type Edit = DrawEdit | MoveEdit | ShiftEdit | EraseEdit | AskEdit | LinesEdit | ValueEdit |
-    CallEdit | RenameEdit | ConstructionEdit | CornerEdit | TrimEdit | ExtendEdit;
+    CallEdit | RenameEdit | ConstructionEdit | CornerEdit | TrimEdit | ExtendEdit | MirrorEdit |
+    RowEdit | RingEdit | OffsetEdit | PasteEdit;
 
 export type Offer = ConstraintOffer | CornerOffer;
 

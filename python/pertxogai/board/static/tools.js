@@ -8,7 +8,9 @@ import { apart } from './shapes.js';
 /** @typedef {import('./protocol').PointSpot} PointSpot */
 /** @typedef {DrawEdit['spots'][number]} Spot */
 /** @typedef {'trim' | 'extend'} Cut */
-/** @typedef {DrawEdit['figure'] | 'select' | Cut} Tool */
+/** @typedef {'mirror' | 'row' | 'ring' | 'offset' | 'paste'} Copy */
+/** @typedef {DrawEdit['figure']} Figure */
+/** @typedef {Figure | 'select' | Cut | Copy} Tool */
 /**
  * What was clicked: a spot and its place in millimetres, and what is nearly so there.
  * @typedef {{ spot: Spot, at: Place, guesses: import('./guesses.js').Guess[] }} Click
@@ -26,13 +28,28 @@ const HINTS = {
     'Click its end; Shift keeps it level or upright, Ctrl leaves out what is guessed. Escape ends '
     + 'the chain.'],
   rectangle: ['Rectangle: click a corner.', 'Click the opposite corner.'],
+  'centre-rectangle': ['Rectangle: click its centre.', 'Click a corner.'],
+  polygon: ['Polygon: click its centre; the bar above says how many sides it has.',
+    'Click a corner.'],
   circle: ['Circle: click its centre.', 'Click a place on it.'],
   arc: ['Arc: click one end.', 'Click the other end.', 'Click a place on it.'],
+  'tangent-arc': ['Tangent arc: click the end of a segment or an arc that it goes on from.',
+    'Click its other end.'],
   slot: ['Slot: click the centre of one end.', 'Click the centre of the other end.',
     'Click a place on its side.'],
   trim: ['Trim: click the piece of an edge that is to go, between what crosses it.'],
   extend: ['Extend: click a segment near the end that is to go on to the next edge.'],
+  mirror: ['Mirror: click the segment or the axis to mirror about.'],
+  row: ['Row: click where the first copy goes; the bar above says how many there are in all. Ctrl '
+    + 'leaves out level and upright.'],
+  ring: ['Ring: click the centre; the bar above says how many there are in all.'],
+  offset: ['Offset: click on the side where the outline beside this one goes.'],
+  paste: ['Paste: click where it goes.'],
 };
+/** @type {Cut[]} */
+const CUTS = ['trim', 'extend'];
+/** @type {Copy[]} */
+const COPIES = ['mirror', 'row', 'ring', 'offset', 'paste'];
 
 /** The ends of a segment or an arc, `*`. */
 const ENDS = ['*.start', '*.end'];
@@ -53,6 +70,10 @@ export class Hand {
   /** @type {Click[]} */
   clicks = [];
   construction = false;
+  /** How many sides a polygon has. */
+  sides = 6;
+  /** How many there are in a row or a ring, in all. */
+  count = 4;
 
   /**
    * Takes another tool.
@@ -73,7 +94,24 @@ export class Hand {
    * @returns {Cut | null}
    */
   get cut() {
-    return this.tool === 'trim' || this.tool === 'extend' ? this.tool : null;
+    return CUTS.find((each) => each === this.tool) ?? null;
+  }
+
+  /**
+   * The edit that it makes of the shapes that are selected, where it does.
+   * @returns {Copy | null}
+   */
+  get copy() {
+    return COPIES.find((each) => each === this.tool) ?? null;
+  }
+
+  /**
+   * The figure that it draws, where it does.
+   * @returns {Figure | null}
+   */
+  get figure() {
+    const { tool, cut, copy } = this;
+    return cut || copy || tool === 'select' ? null : /** @type {Figure} */ (tool);
   }
 
   /** What to do next. */
@@ -99,19 +137,22 @@ export class Hand {
    * @returns {DrawEdit | null}
    */
   edit(clicks) {
-    const { tool, construction } = this;
-    if (tool === 'select' || tool === 'trim' || tool === 'extend') return null;
+    const { figure, construction, sides } = this;
+    if (!figure) return null;
     const [first, second] = clicks;
     const spots = clicks.map((each) => each.spot);
     /** @type {DrawEdit} */
-    const made = { do: 'draw', figure: tool, construction, spots, asks: asksOf(tool, clicks) };
+    const made = { do: 'draw', figure, construction, spots, asks: asksOf(figure, clicks) };
     const away = second ? apart(first.at, second.at) : 1;
     if (away === 0) return null;
-    if (tool === 'circle') {
-      return { ...made, spots: [first.spot], radius: Math.max(rounded(away, 100), 0.01) };
+    switch (figure) {
+      case 'circle':
+        return { ...made, spots: [first.spot], radius: Math.max(rounded(away, 100), 0.01) };
+      case 'slot': return slotEdit(made, clicks);
+      case 'arc': return arcEdit(made, clicks);
+      case 'polygon': return { ...made, sides };
+      default: return made;
     }
-    if (tool === 'slot') return slotEdit(made, clicks);
-    return tool === 'arc' ? arcEdit(made, clicks) : made;
   }
 }
 
@@ -153,15 +194,19 @@ function asideOf([a, b], [c, d], [x, y]) {
 
 /**
  * What is asked for with a figure that is drawn through clicks.
- * @param {Tool} tool
+ * @param {Figure} figure
  * @param {Click[]} clicks
  */
-function asksOf(tool, clicks) {
-  switch (tool) {
+function asksOf(figure, clicks) {
+  switch (figure) {
     case 'segment': return named(clicks, ENDS);
     case 'circle': return named(clicks, ['*.centre']);
     case 'slot': return named(clicks, ['*Start.centre', '*End.centre']);
+    case 'polygon': return named(clicks, ['*.centre', '*Side1.start']);
     case 'rectangle': return named(clicks, cornersOf(clicks[0].at, clicks[1].at));
+    case 'centre-rectangle': return named(
+      clicks, ['*Centre', cornersOf(clicks[0].at, clicks[1].at)[1]]);
+    case 'tangent-arc': return [];
     default: return named(clicks, ['*']);
   }
 }
