@@ -28,7 +28,7 @@ use Rattle.sk_tolerance.proofs.Worsts.{contains_flat}
 use Rattle.sk_claims.specs.declared.claim.Claim.{Claim}
 use Rattle.sk_verify.specs.Failing.{IsAccepted}
 use Rattle.sk_verify.proofs.Claimed.{holds as holds_claimed}
-use Rattle.sk_cli.specs.OffsThere.{IsOffThere}
+use Rattle.sk_answers.specs.OffsThere.{IsOffThere}
 
 -- it is off by no more than the tolerance that it has
 abbrev IsWithinClaimed : Claim → OffBy → Type 0

@@ -4,8 +4,8 @@ use Rattle.sk_base.specs.declared.Sketch.{Sketch}
 use Rattle.sk_lang.specs.Reading.{Reads}
 use Rattle.sk_complete.specs.declared.Completion.{Completion}
 use Rattle.sk_complete.specs.declared.Completion.TheVariants as completion
-use Rattle.sk_cli.specs.declared.status.Status.{Status}
-use Rattle.sk_cli.specs.declared.status.Status.TheVariants.{Done, Refused, NotWell}
+use Rattle.sk_answers.specs.declared.Status.{Status}
+use Rattle.sk_answers.specs.declared.Status.TheVariants.{Done, Refused, NotWell}
 use Rattle.sk_cli.specs.CompleteAnswer.{IsCompletedOrNot, IsCompleteAnswer, completion_status}
 use Rattle.sk_cli.specs.Outcome.{IsRefusalText}
 

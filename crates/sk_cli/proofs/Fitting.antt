@@ -40,9 +40,9 @@ use Rattle.sk_excess.specs.KeptSketch.{kept_sketch}
 use Rattle.sk_excess.proofs.SomeLess.{number_in}
 use Rattle.sk_excess.proofs.KeptSketches.{kept_graph_is, kept_is_sound}
 use Rattle.sk_report.specs.ExcessReport.{is_repeat}
-use Rattle.sk_cli.specs.OffsThere.{IsOffThere}
+use Rattle.sk_answers.specs.OffsThere.{IsOffThere}
 use Rattle.sk_cli.specs.Repeats.{AllFit}
-use Rattle.sk_cli.proofs.ExcessTold.{numbered}
+use Rattle.sk_answers.proofs.OffLines.{numbered}
 
 -- what isn't kept is left out
 gone_in : (left : List ConId) (k : ConId) → is_kept left k ≡ false → Contains left k

@@ -15,11 +15,11 @@ use Rattle.sk_solve.specs.declared.Placement.{Placement}
 use Rattle.sk_solve.specs.declared.Placement.TheVariants.{Fault, Uncarried, Beyond, Turned, Holds}
 use Rattle.sk_solve.specs.Alternatives.{IsAlternative}
 use Rattle.sk_solve.proofs.Untouched.{untouched_signs, placed_untouched}
-use Rattle.sk_cli.specs.declared.answer.Answer.{Answer}
+use Rattle.sk_answers.specs.declared.Answer.{Answer}
 use Rattle.sk_request.specs.declared.Request.{Request}
 use Rattle.sk_cli.specs.declared.solving.Report.TheVariants.{Places}
-use Rattle.sk_cli.specs.declared.status.Status.{Status}
-use Rattle.sk_cli.specs.declared.status.Status.TheVariants.{Done, Refused, NotWell}
+use Rattle.sk_answers.specs.declared.Status.{Status}
+use Rattle.sk_answers.specs.declared.Status.TheVariants.{Done, Refused, NotWell}
 use Rattle.sk_cli.specs.Causes.{IsItsPlan}
 use Rattle.sk_cli.specs.FlipsReport.{IsReportOnFlips, IsFlipped, ReadsSketchAndFlips, IsFlipsAnswer}
 use Rattle.sk_request.specs.Grids.{grid_of, digits_of}

@@ -22,7 +22,7 @@ use Rattle.sk_solve.proofs.OnePlacement.{same_placement}
 use Rattle.sk_request.specs.declared.Request.{Request}
 use Rattle.sk_request.specs.Grids.{grid_of, digits_of}
 use Rattle.sk_cli.specs.declared.solving.Report.{Report}
-use Rattle.sk_cli.specs.declared.status.Status.{Status}
+use Rattle.sk_answers.specs.declared.Status.{Status}
 use Rattle.sk_cli.specs.Causes.{IsFaultAt}
 use Rattle.sk_cli.specs.Gaps.{IsAsFine, NamesGap, NamesGapThere}
 use Rattle.sk_cli.specs.Outcome.{IsSolved}

@@ -41,8 +41,8 @@ use Rattle.sk_request.specs.declared.Request.{Request}
 use Rattle.sk_request.specs.Grids.{digits_of}
 use Rattle.sk_request.specs.declared.Account.TheVariants.{Excesses}
 use Rattle.sk_cli.specs.declared.solving.Report.TheVariants.{Shape}
-use Rattle.sk_cli.specs.declared.status.Status.{Status}
-use Rattle.sk_cli.specs.declared.status.Status.TheVariants.{Done, StepFault, NotWell, Tolerance}
+use Rattle.sk_answers.specs.declared.Status.{Status}
+use Rattle.sk_answers.specs.declared.Status.TheVariants.{Done, StepFault, NotWell, Tolerance}
 use Rattle.sk_cli.specs.ExcessReport.{IsExcess, IsExcessReport}
 use Rattle.sk_cli.specs.Outcome.{IsAccountAnswer}
 use Rattle.sk_cli.specs.Repeats.{IsByKept, FitsWhereRepeated, FitWhereRepeated}

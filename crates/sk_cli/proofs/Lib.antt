@@ -1,13 +1,10 @@
 pub mod AcceptedOffs
-pub mod Answering
-pub mod Behind
 pub mod CompleteTold
 pub mod FlipsAnswered
 pub mod FlipsTold
 pub mod GapsNamed
 pub mod LiveAsSession
 pub mod LiveEnds
-pub mod MeasureTold
 pub mod Migrating
 pub mod OneLive
 pub mod OneOffering

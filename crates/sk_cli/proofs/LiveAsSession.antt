@@ -9,8 +9,8 @@ use Rattle.sk_request.specs.declared.Request.{Request}
 use Rattle.sk_request.proofs.OneRequest.{same_request}
 use Rattle.sk_live_lines.specs.InTime.{in_time}
 use Rattle.sk_live_lines.proofs.InTimes.{all_in_time}
-use Rattle.sk_cli.specs.declared.status.Status.{Status}
-use Rattle.sk_cli.specs.declared.status.Status.TheVariants.{Done, Refused}
+use Rattle.sk_answers.specs.declared.Status.{Status}
+use Rattle.sk_answers.specs.declared.Status.TheVariants.{Done, Refused}
 use Rattle.sk_cli.specs.LiveAnswer.{IsLiveAnswer, for_session}
 use Rattle.sk_cli.specs.Outcome.{IsOutcome, IsAnswer, IsAnswerOf}
 use Rattle.sk_cli.specs.SessionAnswer.{AreReplied, IsSessionAnswer}

@@ -16,10 +16,10 @@ use Rattle.sk_live_lines.specs.InTime.{in_time, whole_lines}
 use Rattle.sk_live_lines.proofs.InTimes.{whole_front, none_whole}
 use Rattle.sk_live_lines.proofs.TurnEnds.{none_taken}
 use Rattle.sk_live_lines.specs.declared.TurnEnd.TheVariants as turn_end
-use Rattle.sk_cli.specs.declared.status.Status.TheVariants.{Done, Refused, ReadFault, WriteFault, NoMemory}
+use Rattle.sk_answers.specs.declared.Status.TheVariants.{Done, Refused, ReadFault, WriteFault, NoMemory}
 use Rattle.sk_cli.specs.LiveAnswer.{Sat, begun, late_line, IsSaid, IsEnd, RepliesInTime}
 use Rattle.sk_cli.specs.LiveEnding.{LiveEnds, LiveTakes, AnswersTaken, AllLiveFit, TellsLate, EndsWith}
-use Rattle.sk_cli.specs.declared.status.Status.{Status}
+use Rattle.sk_answers.specs.declared.Status.{Status}
 use Rattle.sk_cli.specs.SessionAnswer.{IsReplied, AreReplied, EndsSession, at_start}
 
 pub nothing_heard : (request : Request) → HasHeard IsSaid (begun request) [] [] (begun request) []

@@ -12,8 +12,8 @@ use Rattle.sk_request.specs.declared.Command.TheVariants.{Tell, Plan, Solve, Dxf
 use Rattle.sk_request.specs.declared.Request.{Request}
 use Rattle.sk_cli.specs.declared.solving.Report.{Report}
 use Rattle.sk_cli.specs.declared.solving.Report.TheVariants.{Places, Drawing}
-use Rattle.sk_cli.specs.declared.status.Status.{Status}
-use Rattle.sk_cli.specs.declared.status.Status.TheVariants.{Done, Refused}
+use Rattle.sk_answers.specs.declared.Status.{Status}
+use Rattle.sk_answers.specs.declared.Status.TheVariants.{Done, Refused}
 use Rattle.sk_cli.specs.Accounts.{IsAccount}
 use Rattle.sk_cli.specs.CompleteAnswer.{IsCompletedOrNot}
 use Rattle.sk_cli.specs.Outcome.{IsAccountAnswer, IsPlanOrReport, IsSolveAnswer, IsSolved, IsAnswerOf, IsOutcome}

@@ -6,8 +6,8 @@ use Rattle.sk_session.specs.State.{State, sketch_in, IsSameElse}
 use Rattle.sk_session.specs.Replies.{Answers}
 use Rattle.sk_entry.proofs.Growing.{empty_sound}
 use Rattle.sk_request.specs.declared.Request.{Request}
-use Rattle.sk_cli.specs.declared.status.Status.{Status}
-use Rattle.sk_cli.specs.declared.status.Status.TheVariants.{Done, Refused}
+use Rattle.sk_answers.specs.declared.Status.{Status}
+use Rattle.sk_answers.specs.declared.Status.TheVariants.{Done, Refused}
 use Rattle.sk_cli.specs.LiveAnswer.{RepliesInTime, IsLiveAnswer, late_line}
 use Rattle.sk_cli.specs.SessionAnswer.{AreReplied, EndsSession, at_start}
 use Rattle.sk_live_lines.specs.Answering.{HasEnded}

@@ -14,7 +14,7 @@ use Rattle.sk_offers.specs.declared.Answer.TheVariants.{Taken, Stale, Idle}
 use Rattle.sk_offers.specs.Offering.{Table, IsFirstStale, IsAnswer, Follows}
 use Rattle.sk_report.specs.AnswerLine.{answer_line}
 use Rattle.sk_offers.specs.declared.OfferLine.{OfferLine}
-use Rattle.sk_cli.specs.OffersReport.{AreAnswered}
+use Rattle.sk_answers.specs.OffersReport.{AreAnswered}
 
 all_at : {X : Type 0} (P : X → Type 0) (before : List X) (x : X) (after : List X) → All P (before ++ x ∷ after) → P x
 all_at P [] x after all = All-head P x after all

@@ -23,7 +23,7 @@ use Rattle.sk_excess.specs.KeptSketch.{kept_sketch}
 use Rattle.sk_excess.proofs.Choosing.{one_list as one_left}
 use Rattle.sk_excess.proofs.KeptSketches.{kept_is_sound}
 use Rattle.sk_report.specs.ExcessReport.{excess_head, left_lines, off_line}
-use Rattle.sk_cli.specs.OffsThere.{IsOffThere, AreOffsPut}
+use Rattle.sk_answers.specs.OffsThere.{IsOffThere, AreOffsPut}
 use Rattle.sk_cli.specs.ExcessReport.{AreOffsTold, IsMeasuredLeft, IsFaultyLeft, IsOverLeft, IsExcess, AreExcessesTold, over_count}
 use Rattle.sk_base.specs.declared.Name.{Name}
 use Rattle.sk_base.specs.declared.Sketch.{Sketch}
@@ -62,8 +62,8 @@ use Rattle.sk_offers.specs.Offering.{starting_table}
 use Rattle.sk_offers.specs.declared.OfferLine.{OfferLine}
 use Rattle.sk_offers.specs.OfferReading.{ReadsOffers}
 use Rattle.sk_cli.specs.FlipsReport.{alternatives_from, IsReportOnFlips, IsFlipped, ReadsSketchAndFlips, RefusesFlipsBehind, IsFlipsRefusal, IsFlipsAnswer}
-use Rattle.sk_cli.specs.Fronts.{IsRefusedAt}
-use Rattle.sk_cli.specs.OffersReport.{IsReportOnOffers, IsOffersReport, RefusesOffersBehind, IsOffersRefusal, IsOffersAnswer}
+use Rattle.sk_answers.specs.Fronts.{IsRefusedAt}
+use Rattle.sk_answers.specs.OffersReport.{IsReportOnOffers, IsOffersReport, RefusesOffersBehind, IsOffersRefusal, IsOffersAnswer}
 use Rattle.sk_offers.proofs.OfferAnswers.{one_list, one_refusal as one_refusal_behind, not_both as not_both_behind}
 use Rattle.sk_cli.proofs.OneOffering.{same_lines}
 use Rattle.sk_entry.proofs.Growing.{empty_sound}
@@ -78,18 +78,18 @@ use Rattle.sk_claims.proofs.ReadPlaces.{one_claim as one_places, one_refusal as 
 use Rattle.sk_report.specs.FaultLines.{passed_line, turned_line}
 use Rattle.sk_report.specs.MeasureReport.{measured_line, unplaced_line}
 use Rattle.sk_report.specs.SolveReport.{tolerance_lines}
-use Rattle.sk_cli.specs.MeasureAnswer.{HasPlaces, TellsOffs, IsFaultThere, IsMeasuredThere, IsMeasurement, RefusesPlacesBehind, IsMeasureAnswer, all_numbers}
-use Rattle.sk_cli.proofs.MeasureTold.{told_measure, told_measurement, told_fault}
+use Rattle.sk_answers.specs.MeasureAnswer.{HasPlaces, TellsOffs, IsFaultThere, IsMeasuredThere, IsMeasurement, RefusesPlacesBehind, IsMeasureAnswer, all_numbers}
+use Rattle.sk_answers.proofs.MeasureTold.{told_measure, told_measurement, told_fault}
 use Rattle.sk_claims.proofs.ClaimSoFar.{one_claim, one_refusal as one_claim_refusal, not_both as not_both_claims}
-use Rattle.sk_cli.specs.VerifyAnswer.{HasClaim, IsVerified, IsNotVerified, RefusesClaimBehind, IsVerifyRefusal, IsVerifyAnswer}
+use Rattle.sk_answers.specs.VerifyAnswer.{HasClaim, IsVerified, IsNotVerified, RefusesClaimBehind, IsVerifyRefusal, IsVerifyAnswer}
 use Rattle.sk_close_by_order.specs.declared.Order.{Order}
 use Rattle.sk_request.specs.declared.Account.{Account}
 use Rattle.sk_request.specs.declared.Account.TheVariants as accounts
 use Rattle.sk_request.specs.declared.Command.{Command}
 use Rattle.sk_request.specs.declared.Command.TheVariants.{Tell, Plan, Solve, Dxf, Offers, Session, Grow, Verify, Flips, Live, Complete, Measure}
 use Rattle.sk_request.specs.declared.Request.{Request}
-use Rattle.sk_cli.specs.declared.status.Status.{Status}
-use Rattle.sk_cli.specs.declared.status.Status.TheVariants.{Done, Refused, NotWell, NotVerified}
+use Rattle.sk_answers.specs.declared.Status.{Status}
+use Rattle.sk_answers.specs.declared.Status.TheVariants.{Done, Refused, NotWell, NotVerified}
 use Rattle.sk_cli.specs.declared.solving.Report.{Report}
 use Rattle.sk_cli.specs.declared.solving.Report.TheVariants.{Places, Drawing, Sums, Shape}
 use Rattle.sk_request.specs.Asking.{HasFitSize}

@@ -11,7 +11,7 @@ use Rattle.sk_session.specs.State.{State, sketch_in, IsSameElse}
 use Rattle.sk_session.specs.Replies.{Answers}
 use Rattle.sk_request.specs.declared.Request.{Request}
 use Rattle.sk_cli.specs.declared.solving.Report.TheVariants.{Places}
-use Rattle.sk_cli.specs.declared.status.Status.{Status}
+use Rattle.sk_answers.specs.declared.Status.{Status}
 use Rattle.sk_cli.specs.SessionAnswer.{IsReplyText, IsReplied, AreReplied, EndsSession, solve_with, session_keys}
 use Rattle.sk_live_lines.specs.Answering.{HasEnded}
 use Rattle.sk_cli.specs.Solved.{IsSolved}

@@ -18,7 +18,7 @@ use Rattle.sk_parts.proofs.Sharing.{well_judged}
 use Rattle.sk_report.specs.CheckReport.{part_line}
 use Rattle.sk_request.specs.declared.Request.{Request}
 use Rattle.sk_cli.specs.declared.solving.Report.TheVariants.{Shape}
-use Rattle.sk_cli.specs.declared.status.Status.{Status}
+use Rattle.sk_answers.specs.declared.Status.{Status}
 use Rattle.sk_cli.specs.PartsReport.{IsShape, IsBelowPart, ArePartsTold}
 use Rattle.sk_cli.specs.Solved.{IsReportNotWell, IsSolved}
 

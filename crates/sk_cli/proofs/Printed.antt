@@ -40,8 +40,8 @@ use Rattle.sk_solve.specs.declared.Placement.{Placement}
 use Rattle.sk_solve.specs.declared.Placement.TheVariants.{Fault, Uncarried, Beyond, Turned, Holds}
 use Rattle.sk_request.specs.declared.Request.{Request}
 use Rattle.sk_cli.specs.declared.solving.Report.{Report}
-use Rattle.sk_cli.specs.declared.status.Status.{Status}
-use Rattle.sk_cli.specs.declared.status.Status.TheVariants.{Done, NotWell}
+use Rattle.sk_answers.specs.declared.Status.{Status}
+use Rattle.sk_answers.specs.declared.Status.TheVariants.{Done, NotWell}
 use Rattle.sk_cli.specs.Causes.{IsItsPlan, LieAt, NonePasses}
 use Rattle.sk_request.specs.Grids.{grid_of, digits_of}
 use Rattle.sk_cli.specs.Headline.{TellsClusters, IsOneSoundPart, HoldsAt, NamesTheFirst}

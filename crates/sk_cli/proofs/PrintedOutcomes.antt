@@ -12,8 +12,8 @@ use Rattle.sk_plan.specs.PlanBy.{IsPlanBy}
 use Rattle.sk_plan.proofs.OnePlan.{one_plan_by}
 use Rattle.sk_request.specs.declared.Request.{Request}
 use Rattle.sk_cli.specs.declared.solving.Report.TheVariants.{Places}
-use Rattle.sk_cli.specs.declared.status.Status.{Status}
-use Rattle.sk_cli.specs.declared.status.Status.TheVariants.{Done, Refused}
+use Rattle.sk_answers.specs.declared.Status.{Status}
+use Rattle.sk_answers.specs.declared.Status.TheVariants.{Done, Refused}
 use Rattle.sk_request.specs.Grids.{digits_of}
 use Rattle.sk_cli.specs.Headline.{HoldsAt}
 use Rattle.sk_cli.specs.Outcome.{IsPlanAnswer, IsPlanOrReport, IsSolveAnswer}

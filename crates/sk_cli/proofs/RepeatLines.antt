@@ -17,7 +17,7 @@ use Rattle.sk_lines.proofs.SolidLines.{is_solid, AreSolid}
 use Rattle.sk_tolerance.specs.declared.OffBy.{OffBy}
 use Rattle.sk_tolerance.specs.declared.Turned.{Turned}
 use Rattle.sk_report.specs.ExcessReport.{left_words, left_lines, is_repeat, repeat_word, off_unit, turned_words, off_line}
-use Rattle.sk_cli.specs.OffsThere.{IsOffThere}
+use Rattle.sk_answers.specs.OffsThere.{IsOffThere}
 use Rattle.sk_cli.specs.ExcessReport.{AreOffsTold}
 use Rattle.sk_cli.specs.Repeats.{AreRepeats}
 

@@ -12,11 +12,11 @@ use Rattle.sk_lines.specs.declared.Refusal.{Refusal}
 use Rattle.sk_lang.specs.Reading.{Refuses, TooLong, Empty, AtLine, NoEnd}
 use Rattle.sk_lang.specs.Front.{RefusesFront}
 use Rattle.sk_lang.specs.declared.Front.{Front}
-use Rattle.sk_cli.specs.Fronts.{IsRefusedAt}
+use Rattle.sk_answers.specs.Fronts.{IsRefusedAt}
 use Rattle.sk_cli.specs.FlipsReport.{RefusesFlipsBehind}
-use Rattle.sk_cli.specs.MeasureAnswer.{RefusesPlacesBehind}
-use Rattle.sk_cli.specs.OffersReport.{RefusesOffersBehind}
-use Rattle.sk_cli.specs.VerifyAnswer.{RefusesClaimBehind}
+use Rattle.sk_answers.specs.MeasureAnswer.{RefusesPlacesBehind}
+use Rattle.sk_answers.specs.OffersReport.{RefusesOffersBehind}
+use Rattle.sk_answers.specs.VerifyAnswer.{RefusesClaimBehind}
 use Rattle.sk_request.specs.declared.Account.{Account}
 use Rattle.sk_request.specs.declared.Command.{Command}
 use Rattle.sk_request.specs.declared.Command.TheVariants.{Tell, Plan, Solve, Dxf, Offers, Session, Grow, Verify, Flips, Live, Complete, Measure}
@@ -25,8 +25,8 @@ use Rattle.sk_request.specs.declared.Request.{Request}
 use Rattle.sk_cli.specs.declared.solving.Report.{Report}
 use Rattle.sk_cli.specs.declared.solving.Report.TheVariants.{Places, Drawing, Sums}
 use Rattle.sk_gen.specs.DatumSketch.{datum_sketch}
-use Rattle.sk_cli.specs.declared.status.Status.{Status}
-use Rattle.sk_cli.specs.declared.status.Status.TheVariants.{Done, Refused, Usage, ReadFault, WriteFault, NoMemory, NotWell, StepFault, Tolerance, NotVerified}
+use Rattle.sk_answers.specs.declared.Status.{Status}
+use Rattle.sk_answers.specs.declared.Status.TheVariants.{Done, Refused, Usage, ReadFault, WriteFault, NoMemory, NotWell, StepFault, Tolerance, NotVerified}
 use Rattle.sk_request.specs.Asking.{Asks, AreOfForm, TakesInput, AskForInput}
 use Rattle.sk_request.proofs.OneRequest.{same_request}
 use Rattle.sk_cli.specs.Solving.{status_of}

@@ -12,8 +12,8 @@ use Rattle.sk_request.specs.declared.Account.TheVariants.{Judged}
 use Rattle.sk_request.specs.declared.Command.TheVariants.{Tell, Plan, Solve, Session, Live}
 use Rattle.sk_request.specs.declared.Request.{Request}
 use Rattle.sk_cli.specs.declared.solving.Report.TheVariants.{Places}
-use Rattle.sk_cli.specs.declared.status.Status.{Status}
-use Rattle.sk_cli.specs.declared.status.Status.TheVariants.{Done, NotWell}
+use Rattle.sk_answers.specs.declared.Status.{Status}
+use Rattle.sk_answers.specs.declared.Status.TheVariants.{Done, NotWell}
 use Rattle.sk_request.specs.Asking.{Asks}
 use Rattle.sk_cli.specs.Headline.{TellsAsAsked, RepliesNext, RepliesNextLive}
 use Rattle.sk_cli.specs.Outcome.{IsOutcome, IsSolved}

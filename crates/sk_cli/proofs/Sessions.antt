@@ -13,8 +13,8 @@ use Rattle.sk_session.specs.declared.Reply.TheVariants as reply
 use Rattle.sk_session.specs.State.{State, sketch_in}
 use Rattle.sk_session.specs.Replies.{Answers}
 use Rattle.sk_request.specs.declared.Request.{Request}
-use Rattle.sk_cli.specs.declared.status.Status.{Status}
-use Rattle.sk_cli.specs.declared.status.Status.TheVariants.{Done, WriteFault, NoMemory}
+use Rattle.sk_answers.specs.declared.Status.{Status}
+use Rattle.sk_answers.specs.declared.Status.TheVariants.{Done, WriteFault, NoMemory}
 use Rattle.sk_cli.specs.SessionAnswer.{SessionKeys, IsReplyText, IsReplied, AreReplied, at_start, RepliesToFront, session_keys}
 use Rattle.sk_cli.specs.SessionEnding.{SessionEnds, IsStopped}
 use Rattle.sk_cli.specs.Told.{told}

@@ -15,7 +15,7 @@ use Rattle.sk_offers.specs.Offering.{Table, IsFirstStale, IsAnswer, Follows}
 use Rattle.sk_report.specs.AnswerLine.{answer_line}
 use Rattle.sk_offers.specs.declared.OfferLine.{OfferLine}
 use Rattle.sk_offers.specs.OfferLines.{FitsBoard}
-use Rattle.sk_cli.specs.OffersReport.{AreAnswered}
+use Rattle.sk_answers.specs.OffersReport.{AreAnswered}
 use Rattle.sk_base.proofs.Deciding.{Decided, moved}
 use Rattle.sk_rules.proofs.SettledRules.{some_named, holds_decided}
 use Rattle.sk_close_by_order.proofs.SomeShared.{some_shared}

@@ -20,12 +20,12 @@ use Rattle.sk_tolerance.proofs.SomeMeasures.{own_everything, searched, compared}
 use Rattle.sk_report.specs.FaultLines.{passed_line, turned_line}
 use Rattle.sk_report.specs.MeasureReport.{measured_line, unplaced_line}
 use Rattle.sk_report.specs.SolveReport.{tolerance_lines}
-use Rattle.sk_cli.specs.declared.status.Status.{Status}
-use Rattle.sk_cli.specs.declared.status.Status.TheVariants.{Done, StepFault, Tolerance, NotVerified}
-use Rattle.sk_cli.specs.MeasureAnswer.{all_numbers, TellsOffs, IsFaultThere, IsMeasurement}
-use Rattle.sk_cli.specs.OffsThere.{AreOffsPut}
-use Rattle.sk_cli.proofs.ExcessTold.{some_offs}
-use Rattle.sk_cli.proofs.MeasureTold.{as_measurement}
+use Rattle.sk_answers.specs.declared.Status.{Status}
+use Rattle.sk_answers.specs.declared.Status.TheVariants.{Done, StepFault, Tolerance, NotVerified}
+use Rattle.sk_answers.specs.MeasureAnswer.{all_numbers, TellsOffs, IsFaultThere, IsMeasurement}
+use Rattle.sk_answers.specs.OffsThere.{AreOffsPut}
+use Rattle.sk_answers.proofs.OffLines.{some_offs}
+use Rattle.sk_answers.proofs.MeasureTold.{as_measurement}
 use Rattle.sk_cli.proofs.SomePlacements.{some_tolerance}
 
 module _ (s : Sketch) (sketch : IsSoundSketch s) (at : Placed) (exactly : PlacesExactly (graph_of s) at) where

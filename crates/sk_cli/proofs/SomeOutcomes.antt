@@ -37,7 +37,7 @@ use Rattle.sk_complete.specs.CompletionText.{completion_text}
 use Rattle.sk_why.proofs.OverTold.{some_each}
 use Rattle.sk_why.proofs.ReasonsTold.{some_report}
 use Rattle.sk_cli.specs.CompleteAnswer.{completion_status}
-use Rattle.sk_cli.proofs.MeasureTold.{as_answer}
+use Rattle.sk_answers.proofs.MeasureTold.{as_answer}
 use Rattle.sk_cli.proofs.SomeMeasures.{some_measurement}
 use Rattle.sk_cli.proofs.SomeCompletions.{some_completion, given_so}
 use Rattle.sk_request.specs.declared.Account.{Account}
@@ -51,8 +51,8 @@ use Rattle.sk_solve.specs.declared.Placement.TheVariants.{Fault, Uncarried, Beyo
 use Rattle.sk_request.specs.declared.Request.{Request}
 use Rattle.sk_cli.specs.declared.solving.Report.{Report}
 use Rattle.sk_cli.specs.declared.solving.Report.TheVariants.{Places, Drawing, Sums, Shape}
-use Rattle.sk_cli.specs.declared.status.Status.{Status}
-use Rattle.sk_cli.specs.declared.status.Status.TheVariants.{Done, Refused, Usage, NotWell, NotVerified}
+use Rattle.sk_answers.specs.declared.Status.{Status}
+use Rattle.sk_answers.specs.declared.Status.TheVariants.{Done, Refused, Usage, NotWell, NotVerified}
 use Rattle.sk_cli.specs.Accounts.{IsAccount}
 use Rattle.sk_cli.specs.FlipsReport.{alternatives_from, IsFlipped}
 use Rattle.sk_request.specs.Grids.{grid_of, digits_of}
@@ -73,7 +73,8 @@ use Rattle.sk_close_by_angles.proofs.SomeWide.{some_wide}
 use Rattle.sk_session.proofs.SomeReplies.{GivenByLanguage, well_or_not}
 use Rattle.sk_cli.specs.PartsReport.{IsBelowPart}
 use Rattle.sk_cli.proofs.PartsTold.{never_reported, below_sound, over_or_not, some_told}
-use Rattle.sk_cli.proofs.ExcessTold.{left_numbered, kept_places, some_offs}
+use Rattle.sk_answers.proofs.OffLines.{some_offs}
+use Rattle.sk_cli.proofs.ExcessTold.{left_numbered, kept_places}
 use Rattle.sk_cli.specs.ExcessReport.{IsExcess, IsMeasuredLeft, IsFaultyLeft, IsOverLeft, IsPartExcess, over_count}
 use Rattle.sk_excess.specs.LeftOut.{AreLeftOut}
 use Rattle.sk_excess.specs.KeptSketch.{kept_sketch}

@@ -19,8 +19,8 @@ use Rattle.sk_session.proofs.Consistency.{consistent_new}
 use Rattle.sk_session.proofs.SomeReplies.{IsKept, GivenByLanguage, GivenBelow, some_reply}
 use Rattle.sk_request.specs.declared.Request.{Request}
 use Rattle.sk_cli.specs.declared.solving.Report.TheVariants.{Places}
-use Rattle.sk_cli.specs.declared.status.Status.{Status}
-use Rattle.sk_cli.specs.declared.status.Status.TheVariants.{Done, Refused}
+use Rattle.sk_answers.specs.declared.Status.{Status}
+use Rattle.sk_answers.specs.declared.Status.TheVariants.{Done, Refused}
 use Rattle.sk_live_lines.specs.InTime.{in_time}
 use Rattle.sk_cli.specs.LiveAnswer.{RepliesInTime, IsLiveAnswer, late_line}
 use Rattle.sk_cli.specs.SessionAnswer.{solve_with, IsReplyText, at_start, EndsSession, IsSessionAnswer, session_keys}

@@ -32,14 +32,14 @@ use Rattle.sk_request.specs.declared.Command.TheVariants.{Tell, Plan, Solve, Dxf
 use Rattle.sk_request.specs.declared.Request.{Request}
 use Rattle.sk_cli.specs.declared.solving.Report.{Report}
 use Rattle.sk_cli.specs.declared.solving.Report.TheVariants.{Shape}
-use Rattle.sk_cli.specs.declared.status.Status.{Status}
-use Rattle.sk_cli.specs.declared.status.Status.TheVariants.{Done, NotWell}
+use Rattle.sk_answers.specs.declared.Status.{Status}
+use Rattle.sk_answers.specs.declared.Status.TheVariants.{Done, NotWell}
 use Rattle.sk_cli.specs.Accounts.{IsAccount}
 use Rattle.sk_cli.specs.Causes.{plans, solves, IsReportOf, IsSketchOf}
 use Rattle.sk_cli.specs.FlipsReport.{IsFlipped}
 use Rattle.sk_request.specs.Grids.{digits_of}
 use Rattle.sk_cli.specs.Headline.{WritesCheckReport, MayStandBefore, UsesEachOnce, TellsPlaces, TellsParts, TellsKept, TellsExcess, Tells}
-use Rattle.sk_cli.specs.OffersReport.{IsOffersReport, IsOffersAnswer}
+use Rattle.sk_answers.specs.OffersReport.{IsOffersReport, IsOffersAnswer}
 use Rattle.sk_cli.specs.Outcome.{IsAccountOf, IsRefusalText, IsPlanOrReport, IsReportNotWell, IsSolved, IsAnswerOf}
 use Rattle.sk_excess.specs.KeptSketch.{kept_sketch}
 use Rattle.sk_excess.proofs.KeptSketches.{kept_is_sound}

@@ -32,8 +32,8 @@ use Rattle.sk_cli.specs.SessionAnswer.{IsSessionAnswer}
 use Rattle.sk_cli.proofs.OneLive.{told_live, all_answered}
 use Rattle.sk_cli.specs.declared.solving.Report.{Report}
 use Rattle.sk_cli.specs.declared.solving.Report.TheVariants.{Places, Drawing, Sums}
-use Rattle.sk_cli.specs.declared.status.Status.{Status}
-use Rattle.sk_cli.specs.declared.status.Status.TheVariants.{Done, Refused, Usage, NotWell, StepFault, Tolerance, NotVerified}
+use Rattle.sk_answers.specs.declared.Status.{Status}
+use Rattle.sk_answers.specs.declared.Status.TheVariants.{Done, Refused, Usage, NotWell, StepFault, Tolerance, NotVerified}
 use Rattle.sk_request.specs.Asking.{HasFitSize, Asks, AreOfForm}
 use Rattle.sk_request.specs.Grids.{grid_of, digits_of}
 use Rattle.sk_cli.specs.Solving.{midpoints, status_of, IsMeasured, IsPlacement}
@@ -43,9 +43,9 @@ use Rattle.sk_solve.proofs.OnePlacement.{laid_measured, same_placement}
 use Rattle.sk_request.proofs.OneRequest.{same_request}
 use Rattle.sk_cli.proofs.OneOutcome.{OneSketch, NotBoth, OneJudgement, LowerLaws, still_well, one_solved, told_account, told_plan, told_planned, told_solve, told_offers, told_session, told_claim, told_flips, told_flipped, not_read_and_refused, not_accepted_and_failing, not_claimed_and_refused, not_flips_and_refused, not_placed_and_refused}
 use Rattle.sk_cli.proofs.CompleteTold.{told_complete, other_completed}
-use Rattle.sk_cli.proofs.MeasureTold.{told_measure, told_measurement, told_fault}
+use Rattle.sk_answers.proofs.MeasureTold.{told_measure, told_measurement, told_fault}
 use Rattle.sk_cli.proofs.Runs.{solved_told}
-use Rattle.sk_cli.specs.VerifyAnswer.{HasClaim}
+use Rattle.sk_answers.specs.VerifyAnswer.{HasClaim}
 use Rattle.sk_lines.specs.declared.Refusal.{Refusal}
 use Rattle.sk_lang.specs.Reading.{Refuses}
 use Rattle.sk_report.specs.RefusalLine.{refusal_line}

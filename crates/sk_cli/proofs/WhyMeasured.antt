@@ -15,10 +15,10 @@ use Rattle.sk_tolerance.specs.Tolerances.{AllHold, IsAbove, everything}
 use Rattle.sk_tolerance.specs.Turns.{constraint_signs, AllAsDrawn, IsTurned}
 use Rattle.sk_tolerance.proofs.Firsts.{first_inside}
 use Rattle.sk_tolerance.proofs.OneMeasured.{not_beyond}
-use Rattle.sk_cli.specs.declared.status.Status.{Status}
-use Rattle.sk_cli.specs.declared.status.Status.TheVariants.{Done, Refused, StepFault, Tolerance, NotVerified}
-use Rattle.sk_cli.specs.MeasureAnswer.{HasPlaces, TellsOffs, IsFaultThere, IsMeasureAnswer}
-use Rattle.sk_cli.proofs.MeasureTold.{told_measure, told_measurement, told_fault}
+use Rattle.sk_answers.specs.declared.Status.{Status}
+use Rattle.sk_answers.specs.declared.Status.TheVariants.{Done, Refused, StepFault, Tolerance, NotVerified}
+use Rattle.sk_answers.specs.MeasureAnswer.{HasPlaces, TellsOffs, IsFaultThere, IsMeasureAnswer}
+use Rattle.sk_answers.proofs.MeasureTold.{told_measure, told_measurement, told_fault}
 use Rattle.sk_cli.proofs.OneOutcome.{LowerLaws, same_places, not_placed_and_refused}
 
 -- nothing is above the limit, or something is

@@ -28,14 +28,14 @@ use Rattle.sk_cli.specs.declared.solving.Report.{Report}
 use Rattle.sk_cli.specs.declared.solving.Report.TheVariants.{Places, Drawing, Sums}
 use Rattle.sk_request.specs.Grids.{grid_of, digits_of}
 use Rattle.sk_cli.specs.FlipsReport.{ReadsSketchAndFlips, RefusesFlipsBehind}
-use Rattle.sk_cli.specs.Fronts.{IsRefusedAt}
+use Rattle.sk_answers.specs.Fronts.{IsRefusedAt}
 use Rattle.sk_cli.specs.LiveAnswer.{RepliesInTime}
 use Rattle.sk_cli.specs.SessionAnswer.{EndsSession}
 use Rattle.sk_live_lines.specs.Answering.{HasEnded}
-use Rattle.sk_cli.specs.MeasureAnswer.{RefusesPlacesBehind}
-use Rattle.sk_cli.specs.OffersReport.{RefusesOffersBehind}
+use Rattle.sk_answers.specs.MeasureAnswer.{RefusesPlacesBehind}
+use Rattle.sk_answers.specs.OffersReport.{RefusesOffersBehind}
 use Rattle.sk_cli.specs.Solving.{midpoints}
-use Rattle.sk_cli.specs.VerifyAnswer.{RefusesClaimBehind}
+use Rattle.sk_answers.specs.VerifyAnswer.{RefusesClaimBehind}
 
 -- it plans a sketch
 abbrev pub plans : Command → Bool

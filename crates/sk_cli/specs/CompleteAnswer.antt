@@ -16,8 +16,8 @@ use Rattle.sk_report.specs.RefusalLine.{refusal_line}
 use Rattle.sk_request.specs.Asking.{Asks}
 use Rattle.sk_request.specs.declared.Command.TheVariants.{Complete}
 use Rattle.sk_request.specs.declared.Request.{Request}
-use Rattle.sk_cli.specs.declared.status.Status.{Status}
-use Rattle.sk_cli.specs.declared.status.Status.TheVariants.{Done, Refused, NotWell}
+use Rattle.sk_answers.specs.declared.Status.{Status}
+use Rattle.sk_answers.specs.declared.Status.TheVariants.{Done, Refused, NotWell}
 
 -- a completion of the sketch, or why none is given: `over` and `lines` just where they hold
 pub record IsCompletionGiven (s : Sketch) (c : Completion) : Type 0 where

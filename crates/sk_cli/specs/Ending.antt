@@ -2,8 +2,8 @@
 use Rattle.std.specs.Prelude.{◌≡◌, ◌⊎◌, ◌≤◌, ℕ, List, [], length, take, Option}
 use Rattle.std.specs.Io.KnownBytes.{Appends}
 use Rattle.sk_io.specs.Transfer.{AppendsFront}
-use Rattle.sk_cli.specs.declared.status.Status.{Status}
-use Rattle.sk_cli.specs.declared.status.Status.TheVariants.{ReadFault, WriteFault, NoMemory}
+use Rattle.sk_answers.specs.declared.Status.{Status}
+use Rattle.sk_answers.specs.declared.Status.TheVariants.{ReadFault, WriteFault, NoMemory}
 use Rattle.sk_request.specs.declared.Command.TheVariants.{Live}
 use Rattle.sk_request.specs.declared.Request.{Request}
 use Rattle.sk_request.specs.Asking.{Asks, AskForInput}

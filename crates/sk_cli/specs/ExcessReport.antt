@@ -19,8 +19,8 @@ pub use Rattle.sk_why.specs.OverParts.{StandsForOver, EachOverStands, over_count
 use Rattle.sk_request.specs.declared.Request.{Request}
 use Rattle.sk_request.specs.Grids.{digits_of}
 use Rattle.sk_cli.specs.declared.solving.Report.TheVariants.{Shape}
-use Rattle.sk_cli.specs.declared.status.Status.TheVariants.{Done}
-use Rattle.sk_cli.specs.OffsThere.{AreOffsPut}
+use Rattle.sk_answers.specs.declared.Status.TheVariants.{Done}
+use Rattle.sk_answers.specs.OffsThere.{AreOffsPut}
 use Rattle.sk_cli.specs.Solved.{IsPlacedPlan}
 use Rattle.sk_cli.specs.Solving.{status_of, placement_words}
 

@@ -18,9 +18,9 @@ use Rattle.sk_solve.specs.declared.Alternative.TheVariants.{Found, NoChoice, Fau
 use Rattle.sk_solve.specs.Alternatives.{AreAlternatives}
 use Rattle.sk_flips.specs.FlipReading.{ReadsFlips, RefusesFlips}
 use Rattle.sk_request.specs.declared.Request.{Request}
-use Rattle.sk_cli.specs.declared.status.Status.{Status}
-use Rattle.sk_cli.specs.declared.status.Status.TheVariants.{Done, Refused, NotWell}
-use Rattle.sk_cli.specs.Fronts.{IsRefusedAt}
+use Rattle.sk_answers.specs.declared.Status.{Status}
+use Rattle.sk_answers.specs.declared.Status.TheVariants.{Done, Refused, NotWell}
+use Rattle.sk_answers.specs.Fronts.{IsRefusedAt}
 use Rattle.sk_request.specs.Grids.{grid_of, digits_of}
 use Rattle.sk_cli.specs.Solved.{IsReportNotWell}
 

@@ -40,8 +40,8 @@ use Rattle.sk_request.specs.declared.Command.{Command}
 use Rattle.sk_request.specs.declared.Command.TheVariants.{Tell, Plan, Solve, Dxf, Offers, Grow, Flips}
 use Rattle.sk_request.specs.declared.Request.{Request}
 use Rattle.sk_cli.specs.declared.solving.Report.{Report}
-use Rattle.sk_cli.specs.declared.status.Status.{Status}
-use Rattle.sk_cli.specs.declared.status.Status.TheVariants.{Done, NotWell}
+use Rattle.sk_answers.specs.declared.Status.{Status}
+use Rattle.sk_answers.specs.declared.Status.TheVariants.{Done, NotWell}
 use Rattle.sk_cli.specs.Causes.{plans, solves, IsReportOf, IsItsPlan, IsFaultAt, IsOff, LieAt, NonePasses}
 use Rattle.sk_request.specs.Grids.{digits_of}
 use Rattle.sk_excess.specs.LeftOut.{AreLeftOut}

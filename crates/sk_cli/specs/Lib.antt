@@ -4,15 +4,11 @@ pub mod CompleteAnswer
 pub mod Ending
 pub mod ExcessReport
 pub mod FlipsReport
-pub mod Fronts
 pub mod Gaps
 pub mod Headline
 pub mod LiveAnswer
 pub mod LiveEnding
-pub mod MeasureAnswer
 pub mod Migration
-pub mod OffersReport
-pub mod OffsThere
 pub mod Outcome
 pub mod PartsReport
 pub mod Planning
@@ -22,6 +18,4 @@ pub mod SessionAnswer
 pub mod SessionEnding
 pub mod Solved
 pub mod Solving
-pub mod StatusCodes
 pub mod Told
-pub mod VerifyAnswer

@@ -14,8 +14,8 @@ use Rattle.sk_session.specs.Replies.{Answers, Only}
 use Rattle.sk_request.specs.declared.Command.TheVariants.{Session}
 use Rattle.sk_request.specs.declared.Request.{Request}
 use Rattle.sk_live_lines.specs.InTime.{in_time}
-use Rattle.sk_cli.specs.declared.status.Status.{Status}
-use Rattle.sk_cli.specs.declared.status.Status.TheVariants.{Done, Refused}
+use Rattle.sk_answers.specs.declared.Status.{Status}
+use Rattle.sk_answers.specs.declared.Status.TheVariants.{Done, Refused}
 use Rattle.sk_cli.specs.SessionAnswer.{IsReplied, AreReplied, EndsSession, at_start}
 use Rattle.sk_live_lines.specs.Answering.{HasEnded}
 

@@ -9,8 +9,8 @@ use Rattle.sk_live_lines.specs.Answering.{IsTold, EndsAtLine}
 use Rattle.sk_live_lines.specs.InTime.{whole_lines}
 use Rattle.sk_live_lines.specs.declared.TurnEnd.{TurnEnd}
 use Rattle.sk_live_lines.specs.declared.TurnEnd.TheVariants as turn_end
-use Rattle.sk_cli.specs.declared.status.Status.{Status}
-use Rattle.sk_cli.specs.declared.status.Status.TheVariants.{Done, Refused, ReadFault, WriteFault, NoMemory}
+use Rattle.sk_answers.specs.declared.Status.{Status}
+use Rattle.sk_answers.specs.declared.Status.TheVariants.{Done, Refused, ReadFault, WriteFault, NoMemory}
 use Rattle.sk_cli.specs.LiveAnswer.{begun, IsSaid, IsEnd, RepliesInTime, IsLiveAnswer, late_line}
 use Rattle.sk_cli.specs.SessionAnswer.{AreReplied, at_start}
 

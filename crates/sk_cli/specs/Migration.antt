@@ -4,7 +4,7 @@ use Rattle.sk_request.specs.declared.Account.TheVariants.{Migrated}
 use Rattle.sk_request.specs.declared.Command.{Command}
 use Rattle.sk_request.specs.declared.Command.TheVariants.{Tell, Offers, Session, Grow, Verify, Flips, Live, Measure}
 use Rattle.sk_request.specs.declared.Request.{Request}
-use Rattle.sk_cli.specs.declared.status.Status.TheVariants.{Done}
+use Rattle.sk_answers.specs.declared.Status.TheVariants.{Done}
 use Rattle.sk_request.specs.Asking.{Asks}
 use Rattle.sk_cli.specs.Outcome.{IsOutcome}
 

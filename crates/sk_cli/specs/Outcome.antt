@@ -15,17 +15,17 @@ use Rattle.sk_request.specs.declared.Command.TheVariants.{Tell, Plan, Solve, Dxf
 use Rattle.sk_request.specs.declared.Request.{Request}
 use Rattle.sk_cli.specs.declared.solving.Report.{Report}
 use Rattle.sk_cli.specs.declared.solving.Report.TheVariants.{Places, Drawing, Sums}
-use Rattle.sk_cli.specs.declared.status.Status.{Status}
-use Rattle.sk_cli.specs.declared.status.Status.TheVariants.{Done, Refused, Usage, NotWell}
+use Rattle.sk_answers.specs.declared.Status.{Status}
+use Rattle.sk_answers.specs.declared.Status.TheVariants.{Done, Refused, Usage, NotWell}
 use Rattle.sk_cli.specs.Accounts.{IsAccount}
 use Rattle.sk_request.specs.Asking.{Asks, AreOfForm}
 use Rattle.sk_cli.specs.CompleteAnswer.{IsCompleteAnswer}
 use Rattle.sk_cli.specs.FlipsReport.{IsFlipsAnswer}
 use Rattle.sk_cli.specs.LiveAnswer.{RepliesInTime, IsLiveAnswer}
-use Rattle.sk_cli.specs.MeasureAnswer.{IsMeasureAnswer}
-use Rattle.sk_cli.specs.OffersReport.{IsOffersAnswer}
+use Rattle.sk_answers.specs.MeasureAnswer.{IsMeasureAnswer}
+use Rattle.sk_answers.specs.OffersReport.{IsOffersAnswer}
 use Rattle.sk_cli.specs.SessionAnswer.{IsSessionAnswer, RepliesToFront}
-use Rattle.sk_cli.specs.VerifyAnswer.{IsVerifyAnswer}
+use Rattle.sk_answers.specs.VerifyAnswer.{IsVerifyAnswer}
 pub use Rattle.sk_request.specs.Commands.{usage_line}
 pub use Rattle.sk_cli.specs.Solved.{IsReportNotWell, IsPlacedPlan, IsSolved}
 

@@ -12,8 +12,8 @@ use Rattle.sk_parts.specs.OwnSketch.{part_sketch}
 use Rattle.sk_report.specs.CheckReport.{part_line, parts_head}
 use Rattle.sk_request.specs.declared.Request.{Request}
 use Rattle.sk_cli.specs.declared.solving.Report.TheVariants.{Places, Shape}
-use Rattle.sk_cli.specs.declared.status.Status.{Status}
-use Rattle.sk_cli.specs.declared.status.Status.TheVariants.{Done}
+use Rattle.sk_answers.specs.declared.Status.{Status}
+use Rattle.sk_answers.specs.declared.Status.TheVariants.{Done}
 use Rattle.sk_request.specs.Grids.{digits_of}
 use Rattle.sk_cli.specs.Solved.{IsPlacedPlan, IsSolved}
 use Rattle.sk_cli.specs.Solving.{placement_words}

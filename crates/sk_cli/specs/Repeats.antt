@@ -19,8 +19,8 @@ use Rattle.sk_report.specs.SolveReport.{solve_report}
 use Rattle.sk_request.specs.declared.Request.{Request}
 use Rattle.sk_request.specs.Grids.{digits_of}
 use Rattle.sk_cli.specs.declared.solving.Report.TheVariants.{Places}
-use Rattle.sk_cli.specs.declared.status.Status.{Status}
-use Rattle.sk_cli.specs.declared.status.Status.TheVariants as status
+use Rattle.sk_answers.specs.declared.Status.{Status}
+use Rattle.sk_answers.specs.declared.Status.TheVariants as status
 use Rattle.sk_cli.specs.ExcessReport.{AreOffsTold, EachOverStands, over_count}
 use Rattle.sk_cli.specs.Solved.{IsSolved}
 

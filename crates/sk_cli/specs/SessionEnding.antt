@@ -6,8 +6,8 @@ use Rattle.sk_session.specs.declared.Reply.{Reply}
 use Rattle.sk_session.specs.declared.Reply.TheVariants as reply
 use Rattle.sk_session.specs.State.{State}
 use Rattle.sk_request.specs.declared.Request.{Request}
-use Rattle.sk_cli.specs.declared.status.Status.{Status}
-use Rattle.sk_cli.specs.declared.status.Status.TheVariants.{WriteFault, NoMemory}
+use Rattle.sk_answers.specs.declared.Status.{Status}
+use Rattle.sk_answers.specs.declared.Status.TheVariants.{WriteFault, NoMemory}
 use Rattle.sk_cli.specs.SessionAnswer.{IsReplied, RepliesToFront, IsSessionAnswer}
 
 -- each status says what the sink gained: a front of the replies, the whole replies so far, or all that is answered

@@ -16,7 +16,7 @@ use Rattle.sk_solve.specs.declared.Placement.{Placement}
 use Rattle.sk_solve.specs.declared.Placement.TheVariants.{Fault, Uncarried, Beyond, Turned, Holds}
 use Rattle.sk_cli.specs.declared.solving.Report.{Report}
 use Rattle.sk_cli.specs.declared.solving.Report.TheVariants.{Places, Drawing, Sums, Shape}
-use Rattle.sk_cli.specs.declared.status.Status.{Status}
+use Rattle.sk_answers.specs.declared.Status.{Status}
 
 -- what is measured where elements lie, with the signs as they are drawn
 abbrev pub IsMeasured : ℕ → Sketch → ThePlan → Placed → Placement → Type 0

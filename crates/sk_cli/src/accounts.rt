@@ -4,10 +4,9 @@ ghost use Rattle.sk_base.specs.SoundSketch.{IsSoundSketch};
 ghost use Rattle.sk_cli.specs.Accounts.{IsAccount, IsCheckReport, IsSpareReport, IsDerivedText};
 ghost use Rattle.sk_cli.specs.Outcome.{IsAccountAnswer};
 
-use crate::answer::{Answer, refused};
 use crate::excess::excesses;
 use crate::parts::shapes;
-use crate::status::Status;
+use sk_answers::{Answer, Status, refused};
 use sk_base::{NoMemory, Sketch, Text};
 use sk_close_by_angles::{derive_in_any_order, derive_text};
 use sk_graph::reduce;

@@ -3,8 +3,7 @@ ghost use Rattle.std.specs.Prelude.{◌≡◌, ◌<◌, length, IfOk};
 ghost use Rattle.sk_base.specs.SoundSketch.{IsSoundSketch};
 ghost use Rattle.sk_cli.specs.CompleteAnswer.{completion_status, IsCompletedOrNot, IsCompleteAnswer};
 
-use crate::answer::{Answer, refused};
-use crate::status::Status;
+use sk_answers::{Answer, Status, refused};
 use sk_base::{NoMemory, Sketch};
 use sk_complete::{Completion, complete, complete_text};
 use sk_graph::reduce;

@@ -13,7 +13,7 @@ ghost use Rattle.sk_report.specs.ExcessReport.{off_line, left_lines};
 ghost use Rattle.sk_cli.specs.Solved.{IsPlacedPlan};
 ghost use Rattle.sk_cli.specs.Solving.{LiesWithinBounds};
 ghost use Rattle.sk_excess.specs.KeptSketch.{kept_sketch};
-ghost use Rattle.sk_cli.specs.OffsThere.{IsOffThere};
+ghost use Rattle.sk_answers.specs.OffsThere.{IsOffThere};
 ghost use Rattle.sk_cli.specs.ExcessReport.{AreOffsTold, IsMeasuredLeft, IsFaultyLeft, IsExcess, IsPartExcess, IsExcessReport};
 
 use crate::placing::placed;

@@ -8,9 +8,8 @@ ghost use Rattle.sk_cli.specs.FlipsReport.{alternatives_from, IsFlipped, IsFlips
 ghost use Rattle.sk_request.specs.Grids.{grid_of, digits_of};
 
 use crate::alternative::alternative_text;
-use crate::answer::{Answer, refused};
 use crate::planning::{Planning, plan_or_report};
-use crate::status::Status;
+use sk_answers::{Answer, Status, refused};
 use sk_base::{Graph, List, Name, NoMemory, Sketch, Text};
 use sk_flips::read_flips;
 use sk_interval::{G16, G27, G38};

@@ -2,8 +2,8 @@
 ghost use Rattle.std.specs.Prelude.{◌≤◌, IfOk};
 ghost use Rattle.sk_cli.specs.Outcome.{IsGrowAnswer};
 
-use crate::answer::Answer;
 use crate::solving::{Report, solved};
+use sk_answers::Answer;
 use sk_base::NoMemory;
 use sk_gen::datum_sketch;
 use sk_request::Request;

@@ -3,16 +3,12 @@
 
 mod accounts;
 mod alternative;
-mod answer;
-mod claims;
 mod complete;
 mod excess;
 mod flips;
 mod grow;
 mod law;
 mod live;
-mod measure;
-mod offers;
 mod parts;
 mod placing;
 mod plan;
@@ -21,7 +17,6 @@ mod reply;
 mod session;
 mod solve;
 mod solving;
-mod status;
 mod top;
 
 pub use alternative::alternative_text;
@@ -33,5 +28,4 @@ pub use law::{
 };
 pub use reply::reply_text;
 pub use solving::Report;
-pub use status::Status;
 pub use top::run;

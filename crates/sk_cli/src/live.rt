@@ -8,10 +8,9 @@ ghost use Rattle.sk_live_lines.specs.Answering.{IsTold};
 ghost use Rattle.sk_cli.specs.LiveAnswer.{late_line};
 ghost use Rattle.sk_cli.specs.LiveEnding.{LiveEnds, LiveTakes, AllLiveFit, TellsLate, EndsWith};
 
-use crate::answer::{TOO_LONG, refused};
 use crate::reply::reply_text;
-use crate::session::goes_on;
-use crate::status::Status;
+use crate::session::{TOO_LONG, goes_on};
+use sk_answers::{Status, refused};
 use sk_base::{NoMemory, Text};
 use sk_io::{Sink, Source};
 use sk_live_lines::{Hearing, Replier, TurnEnd, hand_over, turn};

@@ -3,9 +3,8 @@ ghost use Rattle.std.specs.Prelude.{◌<◌, length, IfOk};
 ghost use Rattle.sk_base.specs.SoundSketch.{IsSoundSketch};
 ghost use Rattle.sk_cli.specs.Outcome.{IsPlanAnswer, IsPlanOrReport};
 
-use crate::answer::{Answer, refused};
 use crate::planning::{Planning, plan_or_report};
-use crate::status::Status;
+use sk_answers::{Answer, Status, refused};
 use sk_base::{NoMemory, Sketch};
 use sk_close_by_order::Order;
 use sk_lang::read_sketch;

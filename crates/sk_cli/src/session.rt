@@ -9,12 +9,18 @@ ghost use Rattle.sk_cli.specs.SessionAnswer.{IsReplied, RepliesToFront};
 ghost use Rattle.sk_cli.specs.SessionEnding.{SessionEnds, IsStopped};
 
 use crate::reply::reply_text;
-use crate::status::Status;
+use sk_answers::Status;
 use sk_io::{Sink, write_all};
-use sk_lines::split_line;
+use sk_lines::{Code, Refusal, split_line};
 use sk_request::Request;
 use sk_session::{Closing, Reply, Session};
 use std::alloc::Global;
+
+/// What an input that is too long is refused with.
+pub(crate) const TOO_LONG: Refusal = Refusal {
+    line: 0,
+    code: Code::E20,
+};
 
 /// Answers the lines of an input that isn't too long, up to the end of the session, and writes the
 /// text of each reply.

@@ -2,8 +2,8 @@
 ghost use Rattle.std.specs.Prelude.{IfOk};
 ghost use Rattle.sk_cli.specs.Outcome.{IsSolveAnswer};
 
-use crate::answer::{Answer, refused};
 use crate::solving::{Report, solved};
+use sk_answers::{Answer, refused};
 use sk_base::NoMemory;
 use sk_lang::read_sketch;
 use sk_lines::ReadError;

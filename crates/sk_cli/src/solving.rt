@@ -5,10 +5,9 @@ ghost use Rattle.sk_dxf.specs.Courses.{HasBoundedPlaces};
 ghost use Rattle.sk_cli.specs.Solving.{status_of, report_words, placement_words, LiesWithinBounds};
 ghost use Rattle.sk_cli.specs.Outcome.{IsSolved};
 
-use crate::answer::Answer;
 use crate::placing::placed;
 use crate::planning::{Planning, plan_or_report};
-use crate::status::Status;
+use sk_answers::{Answer, Status};
 use sk_base::{NoMemory, Placed, Sketch, Text};
 use sk_dxf::dxf_text;
 use sk_report::{

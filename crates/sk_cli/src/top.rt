@@ -10,19 +10,15 @@ ghost use Rattle.sk_cli.specs.Ending.{IsTold, AskForLive, Ends, HasInput, Sends}
 ghost use Rattle.sk_cli.specs.LiveEnding.{LiveTakes};
 
 use crate::accounts::account_of;
-use crate::answer::{Answer, TOO_LONG, refused};
-use crate::claims::claimed;
 use crate::complete::completed;
 use crate::flips::flips;
 use crate::grow::grow;
 use crate::live::live;
-use crate::measure::measured;
-use crate::offers::offers;
 use crate::plan::plan;
-use crate::session::session;
+use crate::session::{TOO_LONG, session};
 use crate::solve::solve;
 use crate::solving::Report;
-use crate::status::Status;
+use sk_answers::{Answer, Status, claimed, measured, offered, refused};
 use sk_base::{NoMemory, Text};
 use sk_io::{ReadEnd, Sink, Source, read_all, write_all};
 use sk_request::{Command, Request, request_of};
@@ -147,7 +143,7 @@ fn answer(alloc: Global, request: Request, bytes: &[u8]) -> Result<Answer, NoMem
         Command::Plan => plan(alloc, request.order, bytes),
         Command::Solve => solve(alloc, request, Report::Places, bytes),
         Command::Dxf => solve(alloc, request, Report::Drawing, bytes),
-        Command::Offers => offers(alloc, request.order, bytes),
+        Command::Offers => offered(alloc, request.order, bytes),
         Command::Session | Command::Live => refused(alloc, &TOO_LONG),
         Command::Grow(n) => grow(alloc, n, request),
         Command::Verify => claimed(alloc, bytes),

@@ -1,5 +1,5 @@
 use Rattle.std.proofs.lemmas.Result.{IfOk-weaker}
-use Rattle.sk_cli.specs.declared.answer.Answer.{Answer}
+use Rattle.sk_answers.specs.declared.Answer.{Answer}
 use Rattle.sk_cli.specs.CompleteAnswer.{IsCompletedOrNot, IsCompleteAnswer}
 use Rattle.sk_cli.proofs.CompleteTold.{as_answer}
 use Rattle.sk_cli.proofs.complete.completed.Goals as goal

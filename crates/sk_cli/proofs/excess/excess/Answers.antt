@@ -9,7 +9,8 @@ use Rattle.sk_report.specs.ExcessReport.{left_lines, stays_over}
 use Rattle.sk_request.specs.declared.Request.{Request}
 use Rattle.sk_cli.specs.Solved.{IsReportNotWell}
 use Rattle.sk_cli.specs.ExcessReport.{IsMeasuredLeft, IsFaultyLeft, IsExcess}
-use Rattle.sk_cli.proofs.ExcessTold.{numbered, left_numbered}
+use Rattle.sk_answers.proofs.OffLines.{numbered}
+use Rattle.sk_cli.proofs.ExcessTold.{left_numbered}
 use Rattle.sk_cli.proofs.PartsTold.{never_reported}
 use Rattle.sk_cli.proofs.excess.excess.Goals as goal
 

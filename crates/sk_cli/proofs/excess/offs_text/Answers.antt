@@ -3,7 +3,7 @@ use Rattle.std.proofs.lemmas.List.Elements.{Contains-get_or}
 use Rattle.sk_base.specs.declared.ConId.{ConId}
 use Rattle.sk_report.specs.ExcessReport.{off_line}
 use Rattle.sk_cli.specs.ExcessReport.{AreOffsTold}
-use Rattle.sk_cli.proofs.ExcessTold.{put_line}
+use Rattle.sk_answers.proofs.OffLines.{put_line}
 use Rattle.sk_cli.proofs.excess.offs_text.Goals as goal
 
 abbrev any_number : ConId

@@ -2,7 +2,7 @@ use Rattle.std.proofs.Common.{◌==◌, sym}
 use Rattle.sk_base.specs.declared.Constraint.{Constraint}
 use Rattle.sk_base.proofs.Finding.{found_in}
 use Rattle.sk_base.proofs.Searches.{on_ok}
-use Rattle.sk_cli.proofs.ExcessTold.{off_there}
+use Rattle.sk_answers.proofs.OffLines.{off_there}
 use Rattle.sk_cli.proofs.excess.put_one_off.Goals as goal
 
 pub off-by-requires-clause-constraint : goal.off-by-requires-clause-constraint

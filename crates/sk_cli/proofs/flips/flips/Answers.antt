@@ -1,7 +1,7 @@
 use Rattle.std.proofs.Common.{◌+◌, ◌<◌, ℕ, List, sym, subst, length, arith}
 use Rattle.sk_lines.specs.Lines.{lines_in}
 use Rattle.sk_flips.specs.FlipReading.{ReadsFlips}
-use Rattle.sk_cli.proofs.Behind.{rest_of}
+use Rattle.sk_answers.proofs.Behind.{rest_of}
 use Rattle.sk_cli.proofs.FlipsAnswered.{flips_answered}
 use Rattle.sk_cli.proofs.flips.flips.Goals as goal
 

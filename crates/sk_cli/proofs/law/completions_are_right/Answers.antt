@@ -15,8 +15,8 @@ use Rattle.sk_request.specs.Asking.{Asks}
 use Rattle.sk_request.specs.declared.Command.{Command}
 use Rattle.sk_request.specs.declared.Command.TheVariants.{Complete}
 use Rattle.sk_request.specs.declared.Request.{Request}
-use Rattle.sk_cli.specs.declared.status.Status.{Status}
-use Rattle.sk_cli.specs.declared.status.Status.TheVariants.{Done, NotWell}
+use Rattle.sk_answers.specs.declared.Status.{Status}
+use Rattle.sk_answers.specs.declared.Status.TheVariants.{Done, NotWell}
 use Rattle.sk_cli.specs.CompleteAnswer.{IsCompletionGiven, IsGiven, IsCompletedOrNot, IsCompleteAnswer, completion_status}
 use Rattle.sk_cli.specs.Outcome.{IsAnswerOf, IsOutcome}
 use Rattle.sk_cli.proofs.CompleteTold.{told_complete}

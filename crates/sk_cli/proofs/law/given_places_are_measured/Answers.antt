@@ -17,11 +17,11 @@ use Rattle.sk_request.specs.declared.Command.{Command}
 use Rattle.sk_request.specs.declared.Command.TheVariants.{Measure}
 use Rattle.sk_request.specs.declared.Request.{Request}
 use Rattle.sk_verify.specs.Failing.{AllTold}
-use Rattle.sk_cli.specs.declared.status.Status.{Status}
-use Rattle.sk_cli.specs.declared.status.Status.TheVariants.{Done}
+use Rattle.sk_answers.specs.declared.Status.{Status}
+use Rattle.sk_answers.specs.declared.Status.TheVariants.{Done}
 use Rattle.sk_cli.specs.Headline.{HoldsAt}
-use Rattle.sk_cli.specs.MeasureAnswer.{all_numbers, IsMeasurement, IsMeasureAnswer}
-use Rattle.sk_cli.specs.OffsThere.{AreOffsPut}
+use Rattle.sk_answers.specs.MeasureAnswer.{all_numbers, IsMeasurement, IsMeasureAnswer}
+use Rattle.sk_answers.specs.OffsThere.{AreOffsPut}
 use Rattle.sk_cli.specs.Outcome.{IsAnswerOf, IsOutcome}
 use Rattle.sk_cli.proofs.AcceptedOffs.{within_claimed, not_turned_there}
 use Rattle.sk_cli.proofs.OneOutcome.{LowerLaws, same_off}

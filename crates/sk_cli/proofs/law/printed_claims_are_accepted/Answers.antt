@@ -6,7 +6,7 @@ use Rattle.sk_claims.specs.ClaimReading.{ReadsClaim}
 use Rattle.sk_verify.specs.Failing.{IsAccepted}
 use Rattle.sk_verify.specs.Texts.{verified_line}
 use Rattle.sk_request.specs.declared.Command.{Command}
-use Rattle.sk_cli.specs.declared.status.Status.TheVariants.{Done}
+use Rattle.sk_answers.specs.declared.Status.TheVariants.{Done}
 use Rattle.sk_cli.specs.Outcome.{IsAnswerOf}
 use Rattle.sk_cli.specs.PrintedClaim.{printed_claim}
 use Rattle.sk_cli.proofs.OneOutcome.{LowerLaws}

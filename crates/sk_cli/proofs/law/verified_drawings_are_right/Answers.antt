@@ -4,7 +4,7 @@ use Rattle.sk_graph.proofs.Soundness.{graph_is_sound}
 use Rattle.sk_claims.proofs.FittingClaims.{read_claim_fits}
 use Rattle.sk_request.specs.declared.Command.{Command}
 use Rattle.sk_verify.specs.AsClaimed.{plan_claimed}
-use Rattle.sk_cli.specs.declared.status.Status.TheVariants.{Done}
+use Rattle.sk_answers.specs.declared.Status.TheVariants.{Done}
 use Rattle.sk_cli.specs.Outcome.{IsAnswerOf}
 use Rattle.sk_cli.proofs.WhyEnds.{answer_about}
 use Rattle.sk_cli.proofs.law.verified_drawings_are_right.Goals as goal

@@ -2,9 +2,9 @@ use Rattle.std.proofs.Common.{◌≡◌, ℕ, List, subst}
 use Rattle.sk_request.specs.declared.Command.{Command}
 use Rattle.sk_request.specs.declared.Command.TheVariants.{Measure}
 use Rattle.sk_request.specs.declared.Request.{Request}
-use Rattle.sk_cli.specs.declared.status.Status.{Status}
+use Rattle.sk_answers.specs.declared.Status.{Status}
 use Rattle.sk_request.specs.Asking.{Asks}
-use Rattle.sk_cli.specs.MeasureAnswer.{IsMeasureAnswer}
+use Rattle.sk_answers.specs.MeasureAnswer.{IsMeasureAnswer}
 use Rattle.sk_cli.specs.Outcome.{IsAnswerOf, IsOutcome}
 use Rattle.sk_cli.proofs.OneOutcome.{LowerLaws}
 use Rattle.sk_cli.proofs.WhyEnds.{answer_about}

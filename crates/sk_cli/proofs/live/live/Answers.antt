@@ -8,7 +8,7 @@ use Rattle.sk_live_lines.proofs.Rooms.{room_more}
 use Rattle.sk_live_lines.specs.declared.TurnEnd.TheVariants as turn_end
 use Rattle.sk_live_lines.specs.Heard.{Heard}
 use Rattle.sk_cli.specs.LiveAnswer.{begun, late_line, IsSaid, IsEnd}
-use Rattle.sk_cli.specs.declared.status.Status.TheVariants.{ReadFault, WriteFault}
+use Rattle.sk_answers.specs.declared.Status.TheVariants.{ReadFault, WriteFault}
 use Rattle.sk_cli.proofs.LiveEnds.{nothing_gained, live_taken, live_few, failed_status, begun_is, no_byte_taken, live_unbegun, nothing_taken, live_ends, live_room, live_within, late_fits, told_before, read_same, write_same, late_or_not, as_error, as_end, fault_of_end}
 use Rattle.sk_cli.proofs.Sessions.{not_counted}
 use Rattle.sk_cli.proofs.live.live.Goals as goal

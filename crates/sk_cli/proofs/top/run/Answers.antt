@@ -2,7 +2,7 @@ use Rattle.std.proofs.Common.{◌∙◌, sym, refl, map, length, inl, inr}
 use Rattle.std.proofs.lemmas.Bool.{cases_lt}
 use Rattle.std.specs.Prelude.{string_bytes}
 use Rattle.sk_io.proofs.Reading.{unread}
-use Rattle.sk_cli.specs.declared.status.Status.TheVariants.{ReadFault, NoMemory}
+use Rattle.sk_answers.specs.declared.Status.TheVariants.{ReadFault, NoMemory}
 use Rattle.sk_request.specs.Asking.{AskForInput}
 use Rattle.sk_cli.proofs.Runs.{usage_ends, answer_ends, nothing_ends, no_form, answer_room, usage_room, no_fault, asked_input, read_told, session_takes, session_ends, session_room, as_live, not_live, live_takes, live_fits}
 use Rattle.sk_cli.proofs.Sessions.{not_counted}

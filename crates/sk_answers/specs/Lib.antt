@@ -1,0 +1,6 @@
+pub mod Fronts
+pub mod MeasureAnswer
+pub mod OffersReport
+pub mod OffsThere
+pub mod StatusCodes
+pub mod VerifyAnswer
