@@ -5,7 +5,7 @@ use Rattle.sk_base.specs.declared.Placed.{Placed}
 use Rattle.sk_base.specs.declared.Sketch.{Sketch}
 use Rattle.sk_claims.specs.declared.claim.Claim.{Claim}
 use Rattle.sk_verify.specs.Failing.{AllTold, IsFirstUntold}
-use Rattle.sk_report.specs.MeasureReport.{unplaced_line}
+use Rattle.sk_answers.specs.MeasureReport.{unplaced_line}
 use Rattle.sk_answers.specs.declared.status.Status.{Status}
 use Rattle.sk_answers.specs.declared.status.Status.TheVariants.{Done, Refused, StepFault, Tolerance, NotVerified}
 use Rattle.sk_answers.specs.MeasureAnswer.{IsFaultThere, IsMeasuredThere, IsMeasurement, IsMeasureRefusal, IsReadAndMeasured, IsMeasureAnswer}

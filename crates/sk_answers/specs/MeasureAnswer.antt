@@ -20,7 +20,7 @@ use Rattle.sk_claims.specs.declared.claim.Claim.{Claim}
 use Rattle.sk_claims.specs.PlaceReading.{ReadsPlaces, RefusesPlaces}
 use Rattle.sk_verify.specs.Failing.{AllTold, IsFirstUntold}
 use Rattle.sk_report.specs.FaultLines.{passed_line, turned_line}
-use Rattle.sk_report.specs.MeasureReport.{measured_line, unplaced_line}
+use Rattle.sk_answers.specs.MeasureReport.{measured_line, unplaced_line}
 use Rattle.sk_report.specs.RefusalLine.{refusal_line}
 use Rattle.sk_report.specs.SolveReport.{tolerance_lines}
 use Rattle.sk_answers.specs.declared.status.Status.{Status}

@@ -4,6 +4,7 @@
 mod answer;
 mod claims;
 mod measure;
+mod measured_lines;
 mod offers;
 mod status;
 

@@ -76,7 +76,7 @@ use Rattle.sk_verify.proofs.Answering.{not_both as not_both_failing, one_failure
 use Rattle.sk_claims.specs.PlaceReading.{ReadsPlaces}
 use Rattle.sk_claims.proofs.ReadPlaces.{one_claim as one_places, one_refusal as one_places_refusal, not_both as not_both_places}
 use Rattle.sk_report.specs.FaultLines.{passed_line, turned_line}
-use Rattle.sk_report.specs.MeasureReport.{measured_line, unplaced_line}
+use Rattle.sk_answers.specs.MeasureReport.{measured_line, unplaced_line}
 use Rattle.sk_report.specs.SolveReport.{tolerance_lines}
 use Rattle.sk_answers.specs.MeasureAnswer.{HasPlaces, TellsOffs, IsFaultThere, IsMeasuredThere, IsMeasurement, RefusesPlacesBehind, IsMeasureAnswer, all_numbers}
 use Rattle.sk_answers.proofs.MeasureTold.{told_measure, told_measurement, told_fault}

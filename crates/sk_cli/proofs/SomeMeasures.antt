@@ -18,7 +18,7 @@ use Rattle.sk_tolerance.specs.Tolerances.{everything}
 use Rattle.sk_tolerance.specs.Turns.{constraint_signs}
 use Rattle.sk_tolerance.proofs.SomeMeasures.{own_everything, searched, compared}
 use Rattle.sk_report.specs.FaultLines.{passed_line, turned_line}
-use Rattle.sk_report.specs.MeasureReport.{measured_line, unplaced_line}
+use Rattle.sk_answers.specs.MeasureReport.{measured_line, unplaced_line}
 use Rattle.sk_report.specs.SolveReport.{tolerance_lines}
 use Rattle.sk_answers.specs.declared.Status.{Status}
 use Rattle.sk_answers.specs.declared.Status.TheVariants.{Done, StepFault, Tolerance, NotVerified}

@@ -65,7 +65,7 @@ ghost use Rattle.sk_complete.specs.declared.Reason.{Reason};
 ghost use Rattle.sk_complete.specs.Completions.{Completes};
 ghost use Rattle.sk_complete.specs.CompletionText.{no_completion};
 ghost use Rattle.sk_report.specs.CheckReport.{check_report};
-ghost use Rattle.sk_report.specs.MeasureReport.{measured_line};
+ghost use Rattle.sk_answers.specs.MeasureReport.{measured_line};
 ghost use Rattle.sk_cli.specs.CompleteAnswer.{AskToComplete, IsCompletionGiven};
 ghost use Rattle.sk_answers.specs.MeasureAnswer.{HasPlaces, TellsOffs, all_numbers};
 ghost use Rattle.sk_answers.specs.OffsThere.{IsOffThere, AreOffsPut};

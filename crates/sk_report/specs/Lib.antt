@@ -1,10 +1,8 @@
 pub mod AnswerLine
 pub mod CheckReport
 pub mod ExcessReport
-pub mod WhyLines
 pub mod FaultLines
 pub mod GrowReport
-pub mod MeasureReport
 pub mod PlanReport
 pub mod RefusalLine
 pub mod ReplyLines

@@ -21,7 +21,7 @@ pub fn put_left(alloc: Global, text: &mut Text, s: &Sketch, left: &[ConId]) -> R
 }
 
 /// Puts the constraint by its number and its line.
-pub(crate) fn put_left_words(
+pub fn put_left_words(
     alloc: Global,
     text: &mut Text,
     s: &Sketch,
@@ -50,7 +50,7 @@ pub fn put_off(
 }
 
 /// Puts the line of a constraint: these words, by how much it is off, and its sign where that is turned over.
-pub(crate) fn put_line_of_off(
+pub fn put_line_of_off(
     alloc: Global,
     text: &mut Text,
     s: &Sketch,

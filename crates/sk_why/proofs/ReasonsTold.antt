@@ -23,7 +23,7 @@ use Rattle.sk_parts.specs.OwnSketch.{part_sketch}
 use Rattle.sk_parts.proofs.Drawing.{part_is_sound}
 use Rattle.sk_parts.proofs.OverParts.{over_is_one}
 use Rattle.sk_report.specs.CheckReport.{part_line}
-use Rattle.sk_report.specs.WhyLines.{why_head, follows_line}
+use Rattle.sk_why.specs.WhyLines.{why_head, follows_line}
 use Rattle.sk_excess.specs.LeftOut.{HasConstraint}
 use Rattle.sk_excess.proofs.Choosing.{left_has, some_left_out, one_list as one_left}
 use Rattle.sk_why.specs.Because.{FollowsFrom}

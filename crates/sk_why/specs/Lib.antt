@@ -1,3 +1,4 @@
 pub mod Because
 pub mod OverParts
+pub mod WhyLines
 pub mod WhyReport

@@ -6,7 +6,7 @@ use Rattle.sk_graph.specs.SketchGraph.{graph_of}
 use Rattle.sk_verdict.specs.declared.Judgement.{Judgement}
 use Rattle.sk_plan.specs.Judged.{IsTheJudgement}
 use Rattle.sk_excess.specs.LeftOut.{AreLeftOut}
-use Rattle.sk_report.specs.WhyLines.{why_head, follows_line}
+use Rattle.sk_why.specs.WhyLines.{why_head, follows_line}
 use Rattle.sk_why.specs.Because.{FollowsFrom}
 use Rattle.sk_why.specs.OverParts.{EachOverStands, over_count}
 

@@ -3,6 +3,7 @@
 
 mod law;
 mod leaving;
+mod reason_lines;
 mod reasons;
 mod text;
 

@@ -7,18 +7,19 @@ ghost use Rattle.sk_verdict.specs.declared.Judgement.{Judgement};
 ghost use Rattle.sk_verdict.specs.OneCluster.{IsOneCluster};
 ghost use Rattle.sk_plan.specs.Judged.{IsTheJudgement};
 ghost use Rattle.sk_excess.specs.LeftOut.{HasConstraint};
-ghost use Rattle.sk_report.specs.WhyLines.{follows_line};
+ghost use Rattle.sk_why.specs.WhyLines.{follows_line};
 ghost use Rattle.sk_why.specs.Because.{FollowsFrom};
 ghost use Rattle.sk_why.specs.OverParts.{StandsForOver};
 ghost use Rattle.sk_why.specs.WhyReport.{AreReasonsTold, AreGroupsTold, IsWhyReport};
 
+use crate::reason_lines::put_follows;
 use crate::reasons::because;
 use sk_base::{ConId, Graph, NoMemory, Sketch, Text};
 use sk_excess::left_out;
 use sk_graph::reduce;
 use sk_parts::sketch_of_part;
 use sk_plan::judgement_of;
-use sk_report::{part_text, put_follows};
+use sk_report::part_text;
 use sk_verdict::Part;
 use std::alloc::Global;
 

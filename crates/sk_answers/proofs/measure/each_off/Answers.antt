@@ -4,7 +4,7 @@ use Rattle.std.proofs.lemmas.List.{take_more, take_all, map-append}
 use Rattle.std.proofs.lemmas.List.Elements.{Contains-get_or}
 use Rattle.sk_base.specs.declared.ConId.{ConId}
 use Rattle.sk_base.specs.declared.Constraint.{Constraint}
-use Rattle.sk_report.specs.MeasureReport.{measured_line}
+use Rattle.sk_answers.specs.MeasureReport.{measured_line}
 use Rattle.sk_answers.specs.OffsThere.{AreOffsPut}
 use Rattle.sk_answers.proofs.OffLines.{offs_more}
 use Rattle.sk_answers.proofs.measure.each_off.Goals as goal

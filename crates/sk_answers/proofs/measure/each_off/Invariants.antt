@@ -1,6 +1,6 @@
 use Rattle.std.proofs.Common.{map, take}
 use Rattle.sk_base.specs.declared.Constraint.{Constraint}
-use Rattle.sk_report.specs.MeasureReport.{measured_line}
+use Rattle.sk_answers.specs.MeasureReport.{measured_line}
 use Rattle.sk_answers.specs.OffsThere.{AreOffsPut}
 use Rattle.sk_answers.proofs.measure.each_off.Given as goal
 

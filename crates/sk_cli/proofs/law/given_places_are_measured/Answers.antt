@@ -10,7 +10,7 @@ use Rattle.sk_tolerance.specs.declared.Tolerance.{Tolerance}
 use Rattle.sk_tolerance.specs.Tolerances.{AllHold, everything}
 use Rattle.sk_tolerance.specs.Turns.{constraint_signs, step_signs, AllAsDrawn}
 use Rattle.sk_tree.specs.declared.Plan.{Plan}
-use Rattle.sk_report.specs.MeasureReport.{measured_line}
+use Rattle.sk_answers.specs.MeasureReport.{measured_line}
 use Rattle.sk_report.specs.SolveReport.{tolerance_lines}
 use Rattle.sk_request.specs.Asking.{Asks}
 use Rattle.sk_request.specs.declared.Command.{Command}

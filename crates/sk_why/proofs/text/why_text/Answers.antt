@@ -8,7 +8,7 @@ use Rattle.sk_graph.specs.SketchGraph.{graph_of}
 use Rattle.sk_verdict.specs.declared.Judgement.{Judgement}
 use Rattle.sk_verdict.specs.declared.Part.{Part}
 use Rattle.sk_plan.specs.Judged.{IsTheJudgement}
-use Rattle.sk_report.specs.WhyLines.{why_head}
+use Rattle.sk_why.specs.WhyLines.{why_head}
 use Rattle.sk_why.specs.OverParts.{StandsForOver, EachOverStands, over_count}
 use Rattle.sk_why.specs.WhyReport.{AreGroupsTold, IsWhyReport}
 use Rattle.sk_why.proofs.OverTold.{put_each}

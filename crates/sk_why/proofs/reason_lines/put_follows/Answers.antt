@@ -2,9 +2,9 @@ use Rattle.std.proofs.Common.{◌≡◌, ◌++◌, ap, ◌∙◌}
 use Rattle.std.specs.Prelude.{codes}
 use Rattle.std.specs.List.{flat_map}
 use Rattle.sk_report.specs.ExcessReport.{left_words}
-use Rattle.sk_report.specs.WhyLines.{because_word}
+use Rattle.sk_why.specs.WhyLines.{because_word}
 use Rattle.sk_report.proofs.Appending.{four_put}
-use Rattle.sk_report.proofs.why.put_follows.Goals as goal
+use Rattle.sk_why.proofs.reason_lines.put_follows.Goals as goal
 
 pub returns : goal.returns
 returns c =

@@ -1,14 +1,14 @@
 // The line on what a constraint follows from.
 ghost use Rattle.std.specs.Prelude.{◌≡◌, ◌++◌, OnOk};
 ghost use Rattle.std.specs.List.{flat_map};
-ghost use Rattle.sk_report.specs.WhyLines.{because_word, follows_line};
+ghost use Rattle.sk_why.specs.WhyLines.{because_word, follows_line};
 
-use crate::excess::put_left_words;
 use sk_base::{ConId, NoMemory, Sketch, Text};
+use sk_report::put_left_words;
 use std::alloc::Global;
 
 /// Puts the line of a constraint that is left out, with the numbers of those that it follows from.
-pub fn put_follows(
+pub(crate) fn put_follows(
     alloc: Global,
     text: &mut Text,
     s: &Sketch,
