@@ -9,6 +9,8 @@ import tempfile
 
 TOP = pathlib.Path(__file__).resolve().parent.parent
 PROGRAM = "sketch"
+LAWS = "sk_laws"
+"""The laws on what the program answers. It doesn't stand on them, and is proved with them."""
 
 
 def program():
@@ -88,9 +90,14 @@ def direct():
     return {name_of(line): line.partition(":")[2].split() for line in lines if name_of(line)}
 
 
-def needed(name):
-    """A crate and all that it stands on, each with the crates of this repository that its line names."""
-    named, found, left = direct(), {}, [name]
+def proved_with(name):
+    """A crate, and what is proved where it is asked for: with the program the laws on what it answers."""
+    return [name, LAWS] if name == PROGRAM else [name]
+
+
+def needed(*names):
+    """Crates and all that they stand on, each with the crates of this repository that its line names."""
+    named, found, left = direct(), {}, [*names]
     while left:
         crate = left.pop()
         if crate not in found:

@@ -17,7 +17,7 @@ READING = {
     "Claims": "sk_claims sk_verify",
     "Sessions": "sk_edits sk_session",
     "What is written": "sk_report sk_dxf sk_gen",
-    "The program": "sk_request sk_answers sk_cli sketch sk_c",
+    "The program": "sk_request sk_answers sk_cli sk_laws sketch sk_c",
     "Tests": "sk_test_units sk_test_tables sk_test_runs",
 }
 """The crates in the order of reading, by what they are about."""

@@ -60,14 +60,14 @@ class Running:
 
 
 class Schedule:
-    """The proofs of a crate and of those below it, from the lowest to the crate itself.
+    """The proofs of a crate and of those below it, from the lowest to the crate itself, and of what is proved with it.
 
     `prove` takes a crate's name, how many processors it may use, and a Running, and answers a status and what was said.
     """
 
     def __init__(self, name, jobs, prove):
         self.name, self.jobs, self.prove = name, jobs, prove
-        self.needed = crates.needed(name)
+        self.needed = crates.needed(*crates.proved_with(name))
         self.height = heights(self.needed)
         self.order = graphlib.TopologicalSorter(self.needed)
         self.running, self.ready, self.futures = Running(), [], {}

@@ -38,14 +38,14 @@ def put(path: Path, text: str) -> None:
 
 @pytest.fixture
 def repository(tmp_path: Path) -> Path:
-    """A program of two crates, a third crate that it doesn't stand on, and a kit of stand-ins that take no time: the real
+    """A program of three crates and its laws, a crate of tests, and a kit of stand-ins that take no time: the real
     one is run by bench/from-nothing, and takes a quarter of an hour."""
     top = tmp_path / "repository"
-    for crate in ("sk_base", "sketch", "sk_tests", "sk_cli"):
+    for crate in ("sk_base", "sketch", "sk_tests", "sk_cli", "sk_laws"):
         (top / "crates" / crate / "src").mkdir(parents=True)
         (top / "crates" / crate / "src/lib.rt").write_text("// code\n")
     shutil.copy(TOP / "crates/sk_cli/src/top.rt", top / "crates/sk_cli/src/top.rt")
-    (top / "crates.txt").write_text("# the crates\nsk_base: thiserror\nsk_tests: sk_base\nsketch: sk_base sk_cli\nsk_cli: sk_base\n")
+    (top / "crates.txt").write_text("# the crates\nsk_base: thiserror\nsk_tests: sk_base\nsketch: sk_base sk_cli\nsk_laws: sk_cli\nsk_cli: sk_base\n")
     (top / "tools").mkdir()
     for file in ("sketch", "tools/build", "tools/crates.py", "tools/kit.py", "tools/schedule.py"):
         shutil.copy(TOP / file, top / file)
@@ -66,12 +66,14 @@ def surroundings(top: Path, kit: str | None = None) -> dict[str, str]:
 
 def prove(top: Path, *words: str, broken: str = "", meanwhile: str = ":", kit: str | None = None) -> tuple[int, list[str]]:
     """The status of ./sketch prove, and the lines of its standard error without their times. A crate that is broken isn't
-    proved."""
+    proved. The program and its laws are proved side by side: the program is put first."""
     here = {**os.environ, **surroundings(top, kit), "BROKEN": broken, "MEANWHILE": meanwhile}
     line = [top / "sketch", "prove", *words]
     done = subprocess.run(line, stdin=subprocess.DEVNULL, capture_output=True, text=True, env=here)
     assert done.stdout == ""
-    return done.returncode, [re.sub(r"(, | in)[^,]*\d s$", "", line) for line in done.stderr.splitlines()]
+    said = re.sub(r"(, | in)[^,\n]*\d s$", "", done.stderr, flags=re.MULTILINE)
+    said = re.sub(r"(3 of 4): sk_laws\n(.*4 of 4): sketch\n", r"\1: sketch\n\2: sk_laws\n", said)
+    return done.returncode, said.splitlines()
 
 
 def calls(top: Path) -> list[list[str]]:
@@ -80,26 +82,35 @@ def calls(top: Path) -> list[list[str]]:
     return [line.split() for line in said.read_text().splitlines()] if said.exists() else []
 
 
+def proved(top: Path) -> list[str]:
+    """The crates that were proved since this was asked last, the program before its laws."""
+    names = [call[2] for call in calls(top)]
+    (top.parent / "calls").write_text("")
+    return sorted(names, key=[*EACH, "sk_c"].index)
+
+
 def is_stale(top: Path) -> bool:
     """Whether the source of the lowest crate is newer than the program, as ./sketch sees it."""
     line = ["find", top / "crates/sk_base/src/lib.rt", "-newer", top / "crates/sketch/out/sketch"]
     return subprocess.run(line, capture_output=True, text=True, check=True).stdout != ""
 
 
+EACH = ["sk_base", "sk_cli", "sketch", "sk_laws"]
 STANDS = "sketch: the program is proved, and no source differs"
 OLDER = "sketch: crates/sk_base/src/lib.rt was changed meanwhile, or is dated in the future: the program counts as older"
 ALL = [
-    "sketch: proving 3 crates, 2 at once",
-    "sketch: 1 of 3: sk_base",
-    "sketch: 2 of 3: sk_cli",
-    "sketch: 3 of 3: sketch",
+    "sketch: proving 4 crates, 2 at once",
+    "sketch: 1 of 4: sk_base",
+    "sketch: 2 of 4: sk_cli",
+    "sketch: 3 of 4: sketch",
+    "sketch: 4 of 4: sk_laws",
     "sketch: proved and built",
 ]
 
 
 def test_from_nothing_the_crates_of_the_program_are_proved_and_it_is_built(repository: Path) -> None:
     assert prove(repository, "--jobs", "2") == (0, ALL)
-    base, answers, program = calls(repository)
+    base, answers, program = (next(it for it in calls(repository) if it[2] == name) for name in ("sk_base", "sk_cli", "sketch"))
     kit, library = repository.parent / "kit", repository / "crates/sk_base/out/rlib/sk_base.rlib"
     assert base[:4] == ["build", "--crate-name", "sk_base", "src/lib.rt"]
     assert "--statements" in base and f"thiserror={kit}/rlibs/thiserror.rlib" in base and "--incremental" not in base
@@ -108,35 +119,37 @@ def test_from_nothing_the_crates_of_the_program_are_proved_and_it_is_built(repos
     assert f"sk_base={library}" in program and f"dependency={library.parent}" in program
     built = repository / "crates/sketch/out/sketch"
     assert built.read_text() == "sketch\n" and os.access(built, os.X_OK)
+    assert proved(repository) == EACH
     assert not (repository / "crates/sk_tests/out").exists()
 
 
 def test_what_is_proved_is_proved_again_where_a_source_is_newer_and_differs(repository: Path) -> None:
     prove(repository)
+    assert proved(repository) == EACH
     assert prove(repository) == (0, [STANDS])
-    (repository / "crates/sketch/src/lib.rt").write_text("// other code\n")
-    assert prove(repository, "--jobs", "2") == (0, ALL)
-    assert [call[2] for call in calls(repository)] == ["sk_base", "sk_cli", "sketch", "sketch"]
-    (repository / "crates/sk_base/src/lib.rt").write_text("// other code\n")
-    prove(repository)
-    assert [call[2] for call in calls(repository)[4:]] == ["sk_base", "sk_cli", "sketch"]
+    for changed, again in (("sketch", ["sketch"]), ("sk_laws", ["sk_laws"]), ("sk_base", EACH)):
+        (repository / f"crates/{changed}/src/lib.rt").write_text("// other code\n")
+        assert prove(repository, "--jobs", "2") == (0, ALL)
+        assert proved(repository) == again
 
 
 def test_a_library_that_is_gone_is_proved_again_with_those_above(repository: Path) -> None:
     prove(repository)
     shutil.rmtree(repository / "crates/sk_base/out")
     (repository / "crates/sketch/out/sketch").unlink()
+    assert proved(repository) == EACH
     prove(repository)
-    assert [call[2] for call in calls(repository)] == ["sk_base", "sk_cli", "sketch"] * 2
+    assert proved(repository) == EACH
 
 
 def test_what_was_changed_in_its_own_proof_is_proved_again_and_the_program_is_stale_till_then(repository: Path) -> None:
     edit = f'[ $name != sk_base ] || echo "// more" >>{repository}/crates/sk_base/src/lib.rt'
     assert prove(repository, "--jobs", "2", meanwhile=edit) == (0, [*ALL, OLDER])
     assert is_stale(repository)
+    assert proved(repository) == EACH
     assert prove(repository, "--jobs", "2") == (0, ALL)
     assert not is_stale(repository)
-    assert [call[2] for call in calls(repository)] == ["sk_base", "sk_cli", "sketch"] * 2
+    assert proved(repository) == EACH
     assert prove(repository) == (0, [STANDS])
 
 
@@ -174,14 +187,17 @@ def test_another_kit_a_file_that_went_and_one_with_an_older_date_are_seen(reposi
     extra = repository / "crates/sk_base/src/extra.rt"
     extra.write_text("// more\n")
     prove(repository)
+    assert proved(repository) == EACH
     extra.unlink()
     prove(repository)
+    assert proved(repository) == EACH
     extra.write_text("// other\n")
     os.utime(extra, (1, 1))
     prove(repository)
+    assert proved(repository) == EACH
     (repository.parent / "kit/KIT-ID").write_text("a later kit\n")
     prove(repository)
-    assert [call[2] for call in calls(repository)] == ["sk_base", "sk_cli", "sketch"] * 4
+    assert proved(repository) == EACH
     assert prove(repository) == (0, [STANDS])
 
 
@@ -200,8 +216,8 @@ def test_a_static_library_is_built_where_it_is_named(repository: Path) -> None:
     (repository / "crates/sk_c/src").mkdir(parents=True)
     here = {**os.environ, **surroundings(repository)}
     subprocess.run([repository / "tools/build", "sk_c"], env=here, check=True, capture_output=True)
-    assert [call[2] for call in calls(repository)] == ["sk_base", "sk_c"]
     assert "--crate-type" in calls(repository)[1] and (repository / "crates/sk_c/out/libsk_c.a").exists()
+    assert proved(repository) == ["sk_base", "sk_c"]
 
 
 def test_where_a_crate_is_not_proved_it_is_said_and_nothing_above_is_built(repository: Path) -> None:

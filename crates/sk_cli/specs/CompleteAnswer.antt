@@ -13,9 +13,6 @@ use Rattle.sk_complete.specs.declared.Reason.TheVariants as reason
 use Rattle.sk_complete.specs.Completions.{IsCompletionOf, HasVerdict, HasLinesAlone}
 use Rattle.sk_complete.specs.CompletionText.{completion_text}
 use Rattle.sk_report.specs.RefusalLine.{refusal_line}
-use Rattle.sk_request.specs.Asking.{Asks}
-use Rattle.sk_request.specs.declared.Command.TheVariants.{Complete}
-use Rattle.sk_request.specs.declared.Request.{Request}
 use Rattle.sk_answers.specs.declared.Status.{Status}
 use Rattle.sk_answers.specs.declared.Status.TheVariants.{Done, Refused, NotWell}
 
@@ -39,10 +36,6 @@ completion_status (completion.Without why) = NotWell
 -- what is told of a sketch that is read
 abbrev pub IsCompletedOrNot : Sketch → Status → List ℕ → Type 0
 IsCompletedOrNot s status text = (c : Completion) × IsGiven s c text × (status ≡ completion_status c)
-
--- the words ask for `complete`
-abbrev pub AskToComplete : List (List ℕ) → Type 0
-AskToComplete words = (request : Request) × Asks words request × (request.command ≡ Complete)
 
 -- what `complete` answers to an input
 abbrev pub IsCompleteAnswer : List ℕ → Status → List ℕ → Type 0

@@ -11,7 +11,6 @@ use Rattle.sk_session.specs.declared.Reply.TheVariants as reply
 use Rattle.sk_session.specs.SessionCodes.{code_in}
 use Rattle.sk_session.specs.State.{State}
 use Rattle.sk_session.specs.Replies.{Answers, Only}
-use Rattle.sk_request.specs.declared.Command.TheVariants.{Session}
 use Rattle.sk_request.specs.declared.Request.{Request}
 use Rattle.sk_live_lines.specs.InTime.{in_time}
 use Rattle.sk_answers.specs.declared.Status.{Status}
@@ -27,10 +26,6 @@ pub record Sat : Type 0 where
 -- a session with these keys before its first line
 abbrev pub begun : Request → Sat
 begun request = record { request = request; state = at_start request.order }
-
--- the same keys, with `session` for their command
-abbrev pub for_session : Request → Request
-for_session request = record { command = Session; order = request.order; bits = request.bits; within = request.within; layout = request.layout }
 
 -- the line is answered with this text, and the session goes on
 abbrev pub IsSaid : Sat → List ℕ → Sat → List ℕ → Type 0

@@ -1,5 +1,5 @@
 -- What is told of the parts of a sketch: the line of each, and below that of one that isn't over how its own sketch is placed.
-use Rattle.std.specs.Prelude.{◌≡◌, ◌≢◌, ◌⊎◌, ◌+◌, ℕ, List, [], ◌∷◌, ◌++◌, codes}
+use Rattle.std.specs.Prelude.{◌≡◌, ◌⊎◌, ◌+◌, ℕ, List, [], ◌∷◌, ◌++◌}
 use Rattle.sk_base.specs.declared.Sketch.{Sketch}
 use Rattle.sk_graph.specs.SketchGraph.{graph_of}
 use Rattle.sk_verdict.specs.declared.Judgement.{Judgement}
@@ -11,11 +11,9 @@ use Rattle.sk_solve.specs.declared.Placement.{Placement}
 use Rattle.sk_parts.specs.OwnSketch.{part_sketch}
 use Rattle.sk_report.specs.CheckReport.{part_line, parts_head}
 use Rattle.sk_request.specs.declared.Request.{Request}
-use Rattle.sk_cli.specs.declared.solving.Report.TheVariants.{Places, Shape}
-use Rattle.sk_answers.specs.declared.Status.{Status}
-use Rattle.sk_answers.specs.declared.Status.TheVariants.{Done}
+use Rattle.sk_cli.specs.declared.solving.Report.TheVariants.{Shape}
 use Rattle.sk_request.specs.Grids.{digits_of}
-use Rattle.sk_cli.specs.Solved.{IsPlacedPlan, IsSolved}
+use Rattle.sk_cli.specs.Solved.{IsPlacedPlan}
 use Rattle.sk_cli.specs.Solving.{placement_words}
 
 -- the verdict on the sketch is well, and this is written of its placed plan: what `solve` writes behind the verdict, or what
@@ -44,19 +42,3 @@ ArePartsTold request s number parts text = EachStands (IsShape request) s number
 abbrev pub IsPartsReport : Request → Sketch → List ℕ → Type 0
 IsPartsReport request s text =
     (j : Judgement) × (lines : List ℕ) × IsTheJudgement (graph_of s) j × ArePartsTold request s 1 j.parts lines × (text ≡ parts_head j ++ lines)
-
--- what `solve` writes of the sketch: the verdict before its shape where it is done, and else the line of what fails alone
-abbrev pub IsSolvedAs : Request → Sketch → List ℕ → Type 0
-IsSolvedAs request s shape =
-    (status : Status) × (text : List ℕ) × IsSolved Places request s status text
-    × (((status ≡ Done) × (text ≡ codes "verdict well\n" ++ shape)) ⊎ ((status ≢ Done) × (text ≡ shape)))
-
--- one part, and below it the shape of the sketch itself
-pub record IsOneShape (request : Request) (s : Sketch) (text : List ℕ) : Type 0 where
-  pub judgement : Judgement
-  pub judged : IsTheJudgement (graph_of s) judgement
-  pub part : Part
-  pub alone : judgement.parts ≡ part ∷ []
-  pub shape : List ℕ
-  pub is_shape : IsShape request s shape
-  pub is : text ≡ parts_head judgement ++ (part_line s 1 part ++ shape)

@@ -1,6 +1,0 @@
--- solved_places_are_found
-use Rattle.sk_cli.proofs.FlipsAnswered.{found_again}
-use Rattle.sk_cli.proofs.law.solved_places_are_found.Goals as goal
-
-pub returns : goal.returns
-returns c request s text sound solved = found_again request s text sound solved
