@@ -117,7 +117,7 @@ module _ (g : Graph) (sound : IsSoundGraph g) where
   reached_within f reached = kept_along g AllWithin all_step (initial_bodies g) f reached all_start
 
 -- the last merge's step names a cluster of the last family
-last_lives : (g : Graph) (f end : Clusters) (before : List Taken) (last : Taken) → Leads g f (before ++ last ∷ []) end → (c : Cluster) × Contains end.live c × (c.name ≡ last.step)
+pub last_lives : (g : Graph) (f end : Clusters) (before : List Taken) (last : Taken) → Leads g f (before ++ last ∷ []) end → (c : Cluster) × Contains end.live c × (c.name ≡ last.step)
 last_lives g f end [] last (taken, is) =
     let whole = whole_from (StepName f.next_step) (names_of last.merge) f.live in
     (whole, subst (λ (e : Clusters). Contains e.live whole) is (Contains-push (unnamed (names_of last.merge) f.live) whole), sym taken.is_next)

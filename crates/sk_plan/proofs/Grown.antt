@@ -96,20 +96,20 @@ module _ (g : Graph) (before : List Taken) (f : Clusters) (sound : IsSound f) (g
   holds : Holds g f t.merge
   holds = taken_holds g f t taken
 
-  live_name_below : (c : Cluster) → Contains f.live c → IsBelow c.name (Step f.next_step)
+  pub live_name_below : (c : Cluster) → Contains f.live c → IsBelow c.name (Step f.next_step)
   live_name_below c c_in = below_next f.next_step c.name (λ k is. sound.steps_below c k c_in is)
 
   child_live : (n : Name) → Contains (names_of t.merge) n → IsLive f n
   child_live n n_in = All-contains (λ m. IsLive f m) (names_of t.merge) n (can_be_replaced g f t.merge taken.falls holds).all_live n_in
 
-  child_below : (n : Name) → Contains (names_of t.merge) n → IsBelow n (Step f.next_step)
+  pub child_below : (n : Name) → Contains (names_of t.merge) n → IsBelow n (Step f.next_step)
   child_below n n_in = (let live = child_live n n_in in subst (λ m. IsBelow m (Step f.next_step)) live.1.has_name (live_name_below live.0 live.1.lives))
 
   child_made : (n : Name) → Contains (names_of t.merge) n → IsMade before n
   child_made n n_in = (let live = child_live n n_in in subst (λ m. IsMade before m) live.1.has_name (grown.made live.0 live.1.lives))
 
   -- the tree of a name below the new step has no need of it
-  tree_back : (n : Name) (u : Tree) → IsBelow n (Step f.next_step) → IsTreeOf (before ++ t ∷ []) n u → IsTreeOf before n u
+  pub tree_back : (n : Name) (u : Tree) → IsBelow n (Step f.next_step) → IsTreeOf (before ++ t ∷ []) n u → IsTreeOf before n u
   tree_back n (Leaf k) below is = is
   tree_back n (Join' p step shared one two three) below (is, (x, y, z, there, a, b, c)) =
       elim (Contains-push_cases before t (record { step = step; merge = Three x y z; shared = shared }) there) [
@@ -213,7 +213,7 @@ module _ (g : Graph) (before : List Taken) (f : Clusters) (sound : IsSound f) (g
             (Join' p step shared one two three) refl))
       ]
 
-  stayed : (c : Cluster) → Contains (unnamed (names_of t.merge) f.live) c → Contains f.live c
+  pub stayed : (c : Cluster) → Contains (unnamed (names_of t.merge) f.live) c → Contains f.live c
   stayed c h = (filtered_from (λ (d : Cluster). not (is_named (names_of t.merge) d.name)) f.live c h).0
 
   pub grown_more : (x y z : Name) → t.merge ≡ Three x y z → IsGrown (before ++ t ∷ []) (merged f t.merge)

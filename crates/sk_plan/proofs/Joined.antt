@@ -63,7 +63,7 @@ turned : (xs ys : List Elem) (e : Elem) → IsShared xs ys e → IsShared ys xs 
 turned xs ys e h = (h.1, h.0)
 
 -- three that meet once do so in the other order
-once_back : (g : Graph) (xs ys zs : List Elem) (p q r : Elem) → MeetsOnce g xs ys zs p q r → MeetsOnce g zs ys xs q p r
+pub once_back : (g : Graph) (xs ys zs : List Elem) (p q r : Elem) → MeetsOnce g xs ys zs p q r → MeetsOnce g zs ys xs q p r
 once_back g xs ys zs p q r once = (let tri = once.triangle in record {
   triangle = record {
     a_shared = turned ys zs q tri.b_shared;

@@ -2,11 +2,13 @@ pub mod Counts
 pub mod JustEnough
 pub mod Joined
 pub mod Grown
+pub mod MadeTrees
 pub mod Sparsity
 pub mod TightSets
 pub mod Weighed
 pub mod Legal
 pub mod Finished
+pub mod MadePlans
 pub mod PlanTells
 pub mod PlanTrees
 pub mod Keeping

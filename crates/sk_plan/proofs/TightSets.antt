@@ -1,20 +1,20 @@
 -- Where each merge on the way is of three bodies that meet once, elements of a body among which it owns just enough, 2k - 3
 -- for k of them, are made one body by what lies among them alone.
-use Rattle.std.proofs.Common.{◌≡◌, ◌⊎◌, inl, inr, ℕ, ◌+◌, ◌*◌, ◌≤◌, Bool, true, false, cond, List, [], ◌∷◌, length, refl, ap, sym, subst, ◌∙◌, arith}
-use Rattle.std.specs.Prelude.{Contains, count_by, sum_by, filter, ◌&&◌}
+use Rattle.std.proofs.Common.{◌≡◌, ◌⊎◌, inl, inr, ℕ, ◌+◌, ◌*◌, ◌≤◌, Bool, true, false, cond, List, [], ◌∷◌, length, refl, ap, sym, subst, arith}
+use Rattle.std.specs.Prelude.{Contains, count_by, filter, ◌&&◌}
 use Rattle.sk_base.specs.declared.ConId.{ConId}
 use Rattle.sk_base.specs.declared.Elem.{Elem}
 use Rattle.sk_base.specs.declared.Graph.{Graph}
 use Rattle.sk_base.specs.declared.Kind.TheVariants.{Line}
 use Rattle.sk_base.specs.declared.Node.{Node}
-use Rattle.sk_base.specs.SoundGraph.{IsSoundGraph, HasRisingEdges}
+use Rattle.sk_base.specs.SoundGraph.{IsSoundGraph}
 use Rattle.sk_base.specs.Numbering.{is_elem}
 use Rattle.std.proofs.lemmas.List.Sums.{sum_by-cons}
 use Rattle.sk_base.proofs.Members.{contains_none, contains_head, contains_later, contains_one, contains_cases, contains_mapped, mapped_from, contains_filtered, filtered_from}
 use Rattle.sk_base.proofs.Numbers.{elem_found, found_elem}
 use Rattle.sk_family.specs.Body.{Body, Start, starts, starting, initial_bodies, join_all}
 use Rattle.sk_family.proofs.Bodies.{Within, each_within, holder_of}
-use Rattle.sk_rules.specs.Excess.{weight, weight_where, is_inside, is_owned, held, HasTwoEach}
+use Rattle.sk_rules.specs.Excess.{weight, is_inside, is_owned, held, HasTwoEach}
 use Rattle.sk_rules.specs.JustSome.{with_just}
 use Rattle.sk_rules.specs.Reach.{CanMerge, Reach, IsNormal}
 use Rattle.sk_rules.proofs.Counting.{inside_owned}
@@ -72,34 +72,39 @@ count_equal p q (x ∷ xs) within most y y_in passes =
     full true some = refl
     full false some = absurd (omega (arith, some))
 
+-- the body owns just enough among the elements
+abbrev pub HasTight : Graph → List Elem → Body → Type 0
+HasTight g xs x = owned_among g (inside_weight xs) x + 3 ≡ 2 * own_count x xs
+
 -- Elements among which the body owns just enough: of the graph with constraints among which are all that lie among these,
 -- each normal family has a body with those that are the body's.
 abbrev pub IsMadeWithin : Graph → Body → Type 0
 IsMadeWithin g x =
-    (xs : List Elem) → AreDistinct xs → owned_among g (inside_weight xs) x + 3 ≡ 2 * own_count x xs
+    (xs : List Elem) → AreDistinct xs → HasTight g xs x
     → (p : ConId → Bool) → ((s : Start) → Contains (starts g) s → is_inside xs s ≡ true → p s.number ≡ true)
     → (n : List Body) → IsNormal (with_just p g) n → (y : Body) × Contains n y × ((e : Elem) → Contains xs e → Contains x.elements e → Contains y.elements e)
 
 -- at the start the one constraint lies among them
-initial_made : (g : Graph) → IsSoundGraph g → (x : Body) → Contains (initial_bodies g) x → IsMadeWithin g x
-initial_made g sound x x_in =
-    let (s, s_in, is) = mapped_from starting (starts g) x x_in in
-    subst (IsMadeWithin g) is (λ xs distinct tight p lets n normal. by s s_in xs distinct tight p lets n normal (is_inside xs s) refl)
+pub lone_inside : (g : Graph) → IsSoundGraph g → (s : Start) → Contains (starts g) s → (xs : List Elem) → AreDistinct xs → HasTight g xs (starting s) → is_inside xs s ≡ true
+lone_inside g sound s s_in xs distinct tight = told (is_inside xs s) refl
   where
-    by : (s : Start) → Contains (starts g) s → (xs : List Elem) → AreDistinct xs → owned_among g (inside_weight xs) (starting s) + 3 ≡ 2 * own_count (starting s) xs
-        → (p : ConId → Bool) → ((t : Start) → Contains (starts g) t → is_inside xs t ≡ true → p t.number ≡ true) → (n : List Body) → IsNormal (with_just p g) n
-        → (b : Bool) → is_inside xs s ≡ b → (y : Body) × Contains n y × ((e : Elem) → Contains xs e → Contains s.elements e → Contains y.elements e)
-    by s s_in xs distinct tight p lets n normal true inside =
-        let there = (in_part g p sound s).1 (s_in, lets s s_in inside) in
-        let around = reach_covers (with_just p g) (initial_bodies (with_just p g)) n normal.reached (starting s) (contains_mapped starting (starts (with_just p g)) s there) in
-        (around.0, around.1, λ e e_xs e_s. around.2.elements e e_s)
-    by s s_in xs distinct tight p lets n normal false outside =
+    odd : (k e : ℕ) → e ≡ 0 → e + 3 ≡ 2 * k → ⊥
+    odd k e none is = omega arith
+
+    told : (b : Bool) → is_inside xs s ≡ b → is_inside xs s ≡ true
+    told true inside = inside
+    told false outside =
         let most = starts_weigh g sound.edges_rise s s_in xs distinct (inside_weight xs) in
         let none : inside_weight xs s ≡ 0 = ap (λ b. cond b (weight s) 0) outside in
         absurd (odd (own_count (starting s) xs) (owned_among g (inside_weight xs) (starting s)) (omega arith) tight)
-      where
-        odd : (k e : ℕ) → e ≡ 0 → e + 3 ≡ 2 * k → ⊥
-        odd k e none is = omega arith
+
+initial_made : (g : Graph) → IsSoundGraph g → (x : Body) → Contains (initial_bodies g) x → IsMadeWithin g x
+initial_made g sound x x_in =
+    let (s, s_in, is) = mapped_from starting (starts g) x x_in in
+    subst (IsMadeWithin g) is (λ xs distinct tight p lets n normal. (
+    let there = (in_part g p sound s).1 (s_in, lets s s_in (lone_inside g sound s s_in xs distinct tight)) in
+    let around = reach_covers (with_just p g) (initial_bodies (with_just p g)) n normal.reached (starting s) (contains_mapped starting (starts (with_just p g)) s there) in
+    (around.0, around.1, λ e e_xs e_s. around.2.elements e e_s)))
 
 -- where three own few, and the whole just enough: each owns just enough and all shared elements are there, or one has all
 tight_cases : (e ea eb ec k ka kb kc t : ℕ) → Parts e ea eb ec k ka kb kc t → t ≤ 3 → (ea ≡ 0) ⊎ (ea + 3 ≤ 2 * ka) → (eb ≡ 0) ⊎ (eb + 3 ≤ 2 * kb) → (ec ≡ 0) ⊎ (ec + 3 ≤ 2 * kc) → e + 3 ≡ 2 * k
@@ -163,7 +168,7 @@ three_covered : (a b c : Body) (n : List Body) → (y : Body) × Contains n y ×
 three_covered a b c n of_a of_b of_c = all_of_three (λ (x : Body). (y : Body) × Contains n y × Within x y) a b c of_a of_b of_c
 
 -- an element of the whole is one of the three
-of_three : (a b c : Body) (e : Elem) → Contains (join_all (a ∷ b ∷ c ∷ [])).elements e → Contains a.elements e ⊎ (Contains b.elements e ⊎ Contains c.elements e)
+pub of_three : (a b c : Body) (e : Elem) → Contains (join_all (a ∷ b ∷ c ∷ [])).elements e → Contains a.elements e ⊎ (Contains b.elements e ⊎ Contains c.elements e)
 of_three a b c e e_in =
     let (x, x_in, x_e) = holder_of (a ∷ b ∷ c ∷ []) e e_in in
     elim (contains_cases a (b ∷ c ∷ []) x x_in) [
@@ -175,12 +180,35 @@ of_three a b c e e_in =
     ]
 
 -- one of them has all that the whole has, where it has as many
-has_all : (some : List Body) (x : Body) → Contains some x → (xs : List Elem) → own_count (join_all some) xs ≤ own_count x xs → (e : Elem) → Contains xs e → Contains (join_all some).elements e → Contains x.elements e
+pub has_all : (some : List Body) (x : Body) → Contains some x → (xs : List Elem) → own_count (join_all some) xs ≤ own_count x xs → (e : Elem) → Contains xs e → Contains (join_all some).elements e → Contains x.elements e
 has_all some x x_in xs most e e_xs e_in =
     elem_found x.elements e
     (count_equal (is_elem x.elements) (is_elem (join_all some).elements) xs
     (λ d d_in passes. found_elem (join_all some).elements d ((each_within some x x_in).elements d (elem_found x.elements d passes)))
     most e e_xs (found_elem (join_all some).elements e e_in))
+
+module _ (g : Graph) (a b c : Body) (p q r : Elem) (once : MeetsOnce g a.elements b.elements c.elements p q r) (few_a : OwnsFew g a) (few_b : OwnsFew g b) (few_c : OwnsFew g c) where
+  -- where the whole owns just enough, each of the three does and the shared elements are there, or one of them has all
+  pub split_tight : (xs : List Elem) → AreDistinct xs → HasTight g xs (join_all (a ∷ b ∷ c ∷ []))
+      → (((x : Body) → Contains (a ∷ b ∷ c ∷ []) x → HasTight g xs x) × Contains xs p × Contains xs q × Contains xs r)
+      ⊎ ((x : Body) × Contains (a ∷ b ∷ c ∷ []) x × HasTight g xs x × (own_count (join_all (a ∷ b ∷ c ∷ [])) xs ≤ own_count x xs))
+  split_tight xs distinct tight =
+      let ab_few = one_at_most g a b c p q r once xs distinct a b p once.only_a in
+      let bc_few = one_at_most g a b c p q r once xs distinct b c q once.only_b in
+      let ca_few = one_at_most g a b c p q r once xs distinct c a r once.only_c in
+      elim (tight_cases (owned_among g (inside_weight xs) (join_all (a ∷ b ∷ c ∷ []))) (owned_among g (inside_weight xs) a) (owned_among g (inside_weight xs) b) (owned_among g (inside_weight xs) c)
+      (own_count (join_all (a ∷ b ∷ c ∷ [])) xs) (own_count a xs) (own_count b xs) (own_count c xs) (shared_there g a b c p q r once xs distinct)
+      (sums g a b c p q r once xs distinct) (omega (arith, ab_few, bc_few, ca_few)) (few_inside g a few_a xs distinct) (few_inside g b few_b xs distinct) (few_inside g c few_c xs distinct) tight) [
+        | inl (a_tight, b_tight, c_tight, all_three) ↦ inl (
+          all_of_three (λ (x : Body). HasTight g xs x) a b c a_tight b_tight c_tight,
+          one_there g a b c p q r once xs distinct a b p once.only_a (omega (arith, all_three, bc_few, ca_few)),
+          one_there g a b c p q r once xs distinct b c q once.only_b (omega (arith, all_three, ab_few, ca_few)),
+          one_there g a b c p q r once xs distinct c a r once.only_c (omega (arith, all_three, ab_few, bc_few)),
+        )
+        | inr (inl (a_tight, all)) ↦ inr (a, contains_head a (b ∷ c ∷ []), a_tight, all)
+        | inr (inr (inl (b_tight, all))) ↦ inr (b, contains_later a (b ∷ c ∷ []) b (contains_head b (c ∷ [])), b_tight, all)
+        | inr (inr (inr (c_tight, all))) ↦ inr (c, contains_later a (b ∷ c ∷ []) c (contains_later b (c ∷ []) c (contains_head c [])), c_tight, all)
+      ]
 
 module _ (g : Graph) (a b c : Body) (p q r : Elem) (once : MeetsOnce g a.elements b.elements c.elements p q r)
     (few_a : OwnsFew g a) (few_b : OwnsFew g b) (few_c : OwnsFew g c) (made_a : IsMadeWithin g a) (made_b : IsMadeWithin g b) (made_c : IsMadeWithin g c) where
@@ -222,22 +250,17 @@ module _ (g : Graph) (a b c : Body) (p q r : Elem) (once : MeetsOnce g a.element
         ),
       )
 
+  each_made : (x : Body) → Contains three x → IsMadeWithin g x
+  each_made = all_of_three (IsMadeWithin g) a b c made_a made_b made_c
+
   made_whole : IsMadeWithin g (join_all three)
   made_whole xs distinct tight passes lets n normal =
       let theirs = those xs a ∷ those xs b ∷ those xs c ∷ [] in
-      let ab_few = one_at_most g a b c p q r once xs distinct a b p once.only_a in
-      let bc_few = one_at_most g a b c p q r once xs distinct b c q once.only_b in
-      let ca_few = one_at_most g a b c p q r once xs distinct c a r once.only_c in
-      elim (tight_cases (owned_among g (inside_weight xs) (join_all three)) (owned_among g (inside_weight xs) a) (owned_among g (inside_weight xs) b) (owned_among g (inside_weight xs) c)
-      (own_count (join_all three) xs) (own_count a xs) (own_count b xs) (own_count c xs) (shared_there g a b c p q r once xs distinct)
-      (sums g a b c p q r once xs distinct) (omega (arith, ab_few, bc_few, ca_few)) (few_inside g a few_a xs distinct) (few_inside g b few_b xs distinct) (few_inside g c few_c xs distinct) tight) [
-        | inl (a_tight, b_tight, c_tight, all_three) ↦ (
-            let p_there = one_there g a b c p q r once xs distinct a b p once.only_a (omega (arith, all_three, bc_few, ca_few)) in
-            let q_there = one_there g a b c p q r once xs distinct b c q once.only_b (omega (arith, all_three, ab_few, ca_few)) in
-            let r_there = one_there g a b c p q r once xs distinct c a r once.only_c (omega (arith, all_three, ab_few, bc_few)) in
-            let (ya, ya_in, has_a) = made_a xs distinct a_tight passes lets n normal in
-            let (yb, yb_in, has_b) = made_b xs distinct b_tight passes lets n normal in
-            let (yc, yc_in, has_c) = made_c xs distinct c_tight passes lets n normal in
+      elim (split_tight g a b c p q r once few_a few_b few_c xs distinct tight) [
+        | inl (each, p_there, q_there, r_there) ↦ (
+            let (ya, ya_in, has_a) = made_a xs distinct (each a (contains_head a (b ∷ c ∷ []))) passes lets n normal in
+            let (yb, yb_in, has_b) = made_b xs distinct (each b (contains_later a (b ∷ c ∷ []) b (contains_head b (c ∷ [])))) passes lets n normal in
+            let (yc, yc_in, has_c) = made_c xs distinct (each c (contains_later a (b ∷ c ∷ []) c (contains_later b (c ∷ []) c (contains_head c [])))) passes lets n normal in
             let (y, y_in, around) = either_gathers (with_just passes g) theirs n
             (three_covered (those xs a) (those xs b) (those xs c) n (ya, ya_in, in_those xs a ya has_a) (yb, yb_in, in_those xs b yb has_b) (yc, yc_in, in_those xs c yc has_c))
             normal.closed theirs (λ x h. h) (those_merge (with_just passes g) xs refl p_there q_there r_there) in (
@@ -249,9 +272,7 @@ module _ (g : Graph) (a b c : Body) (p q r : Elem) (once : MeetsOnce g a.element
                 | inr (inr e_c) ↦ (around (those xs c) (contains_later (those xs a) (those xs b ∷ those xs c ∷ []) (those xs c) (contains_later (those xs b) (those xs c ∷ []) (those xs c) (contains_head (those xs c) [])))).elements e (among_those xs c e e_xs e_c)
               ],
             ))
-        | inr (inl (a_tight, all)) ↦ one_makes a (contains_head a (b ∷ c ∷ [])) made_a xs distinct a_tight all passes lets n normal
-        | inr (inr (inl (b_tight, all))) ↦ one_makes b (contains_later a (b ∷ c ∷ []) b (contains_head b (c ∷ []))) made_b xs distinct b_tight all passes lets n normal
-        | inr (inr (inr (c_tight, all))) ↦ one_makes c (contains_later a (b ∷ c ∷ []) c (contains_later b (c ∷ []) c (contains_head c []))) made_c xs distinct c_tight all passes lets n normal
+        | inr (x, x_in, x_tight, all) ↦ one_makes x x_in (each_made x x_in) xs distinct x_tight all passes lets n normal
       ]
 
 -- along a way on which each merge meets once
@@ -261,27 +282,33 @@ made_within g sound f way once x x_in =
     (λ a b c p q r meets of_a of_b of_c. (few_whole g a b c p q r meets of_a.0 of_b.0 of_c.0, made_whole g a b c p q r meets of_a.0 of_b.0 of_c.0 of_a.1 of_b.1 of_c.1))
     (initial_bodies g) f way once (λ z z_in. (initial_few g sound.edges_rise z z_in, initial_made g sound z z_in)) x x_in).1
 
+-- what lies among elements of a body that owns all of it
+pub held_tight : (g : Graph) (x : Body) (xs : List Elem) → AreIn xs x.elements → ((s : Start) → Contains (starts g) s → is_inside xs s ≡ true → Contains x.owned s.number) → held g xs + 3 ≡ 2 * length xs → HasTight g xs x
+held_tight g x xs own owns tight =
+    let all : own_count x xs ≡ length xs = count_all (is_elem x.elements) xs (λ e e_in. found_elem x.elements e (own e e_in)) in
+    let one = weighs_by_one (is_inside xs) (starts g) in
+    let most = sum_within (owned_weight (inside_weight xs) x) (λ s. weighs_one (is_inside xs s) s 0) (starts g) (λ s s_in. less (is_owned x.owned s) (is_inside xs s) s) in
+    let least = sum_within (λ s. weighs_one (is_inside xs s) s 0) (owned_weight (inside_weight xs) x) (starts g)
+    (λ s s_in. more (is_owned x.owned s) (is_inside xs s) s (λ inside. found_owned x.owned s (owns s s_in inside))) in
+    omega (arith, all, one, most, least, tight)
+  where
+    less : (owned inside : Bool) (s : Start) → cond owned (cond inside (weight s) 0) 0 ≤ weighs_one inside s 0
+    less true true s = omega arith
+    less true false s = omega arith
+    less false true s = omega arith
+    less false false s = omega arith
+
+    more : (owned inside : Bool) (s : Start) → (inside ≡ true → owned ≡ true) → weighs_one inside s 0 ≤ cond owned (cond inside (weight s) 0) 0
+    more owned false s is = omega arith
+    more true true s is = omega arith
+    more false true s is = absurd (let never : false ≡ true = is refl in cc)
+
 -- in a normal family with no constraint too many: elements of a body among which constraints weigh just enough
 module _ (g : Graph) (f : List Body) (sound : IsSoundGraph g) (two : HasTwoEach g) (normal : IsNormal g f) (none : HoldsNoneTooMany g f) (x : Body) (x_in : Contains f x) where
   pub tight_made : (xs : List Elem) → AreDistinct xs → AreIn xs x.elements → held g xs + 3 ≡ 2 * length xs
       → (p : ConId → Bool) → ((s : Start) → Contains (starts g) s → is_inside xs s ≡ true → p s.number ≡ true)
       → (n : List Body) → IsNormal (with_just p g) n → (y : Body) × Contains n y × ((e : Elem) → Contains xs e → Contains y.elements e)
   tight_made xs distinct own tight p lets n normal_there =
-      let all : own_count x xs ≡ length xs = count_all (is_elem x.elements) xs (λ e e_in. found_elem x.elements e (own e e_in)) in
-      let one = weighs_by_one (is_inside xs) (starts g) in
-      let most = sum_within (owned_weight (inside_weight xs) x) (λ s. weighs_one (is_inside xs s) s 0) (starts g) (λ s s_in. less (is_owned x.owned s) (is_inside xs s) s) in
-      let least = sum_within (λ s. weighs_one (is_inside xs s) s 0) (owned_weight (inside_weight xs) x) (starts g)
-      (λ s s_in. more (is_owned x.owned s) (is_inside xs s) s (λ inside. found_owned x.owned s (inside_owned g f two normal x x_in s s_in (λ e e_in. own e (found_inside xs s inside e e_in))))) in
-      let (y, y_in, has) = made_within g sound f normal.reached (way_meets_once g f normal.reached sound.edges_rise (none_too_many g f sound.edges_rise two normal none)) x x_in xs distinct (omega (arith, all, one, most, least, tight)) p lets n normal_there in
+      let all = held_tight g x xs own (λ s s_in inside. inside_owned g f two normal x x_in s s_in (λ e e_in. own e (found_inside xs s inside e e_in))) tight in
+      let (y, y_in, has) = made_within g sound f normal.reached (way_meets_once g f normal.reached sound.edges_rise (none_too_many g f sound.edges_rise two normal none)) x x_in xs distinct all p lets n normal_there in
       (y, y_in, λ e e_in. has e e_in (own e e_in))
-    where
-      less : (owned inside : Bool) (s : Start) → cond owned (cond inside (weight s) 0) 0 ≤ weighs_one inside s 0
-      less true true s = omega arith
-      less true false s = omega arith
-      less false true s = omega arith
-      less false false s = omega arith
-
-      more : (owned inside : Bool) (s : Start) → (inside ≡ true → owned ≡ true) → weighs_one inside s 0 ≤ cond owned (cond inside (weight s) 0) 0
-      more owned false s is = omega arith
-      more true true s is = omega arith
-      more false true s is = absurd (let never : false ≡ true = is refl in cc)

@@ -4,3 +4,4 @@ pub mod Leaves
 pub mod Judged
 pub mod ConstraintStarts
 pub mod PlanBy
+pub mod MadeBy

@@ -3,6 +3,7 @@ ghost use Rattle.std.specs.Prelude.{◌≡◌, ◌≢◌, ◌+◌, ◌-◌, ◌*
 ghost use Rattle.sk_base.specs.declared.ConId.{ConId};
 ghost use Rattle.sk_base.specs.declared.Elem.{Elem};
 ghost use Rattle.sk_base.specs.declared.Graph.{Graph};
+ghost use Rattle.sk_base.specs.declared.Node.{Node};
 ghost use Rattle.sk_base.specs.declared.Sketch.{Sketch};
 ghost use Rattle.sk_base.specs.SoundGraph.{IsSoundGraph, HasRisingEdges};
 ghost use Rattle.sk_base.specs.SoundSketch.{IsSoundSketch};
@@ -23,6 +24,7 @@ ghost use Rattle.sk_verdict.specs.Parts.{elem_of};
 ghost use Rattle.sk_tree.specs.DrawnChoice.{HasDrawnChoice};
 ghost use Rattle.sk_plan.specs.Judged.{HoldsWhatIsDue, IsWell};
 ghost use Rattle.sk_plan.specs.Leaves.{HasLeaves};
+ghost use Rattle.sk_plan.specs.MadeBy.{IsMadeBy};
 ghost use Rattle.sk_tree.specs.PlanTree.{IsPlanTree};
 ghost use Rattle.sk_plan.specs.PlanBy.{IsPlanBy};
 ghost use Rattle.sk_plan.specs.Runs.{EachTakesOnce};
@@ -31,9 +33,10 @@ ghost use Rattle.sk_plan.specs.Sparse.{weight_among, angles_among, pins_weight, 
 /// Only a graph with the verdict well has a legal plan. The plan has half as many steps as the graph has
 /// constraints but one, which without blocks is two fewer than it has nodes, or none for one node; each
 /// step is at three of the nodes, and the leaves of its tree are all constraints, each once, and it has a
-/// tree unless it has no leaf. Of the graph, all constraints together weigh just 2n - 3 for the n nodes,
-/// or nothing for one node; among no k ≥ 2 different elements do they weigh more than 2k - 3, and no k ≥ 1
-/// different lines have more than k - 1 angles.
+/// tree unless it has no leaf. Join by join the tree makes one body with all nodes. Of the graph, all
+/// constraints together weigh just 2n - 3 for the n nodes, or nothing for one node; among no k ≥ 2
+/// different elements do they weigh more than 2k - 3, and no k ≥ 1 different lines have more than k - 1
+/// angles.
 pub fn legal_plan()
     ensures well { (g : Graph) (p : Plan) → IsSoundGraph g → IsLegalPlan g p → IsWell g }
     ensures steps { (g : Graph) (p : Plan) → IsSoundGraph g → IsLegalPlan g p → 2 * length p.steps ≡ length g.edges + length g.blocks - 1 }
@@ -41,6 +44,7 @@ pub fn legal_plan()
     ensures corners { (g : Graph) (p : Plan) → IsLegalPlan g p → (s : PlanStep) (e : Elem) → Contains p.steps s → Contains (s.a ∷ s.b ∷ s.c ∷ []) e → Contains (map elem_of g.nodes) e }
     ensures tree { (g : Graph) (p : Plan) → IsSoundGraph g → IsLegalPlan g p → p.leaves ≢ [] → (t : Tree) × IsPlanTree p t }
     ensures leaves { (g : Graph) (p : Plan) → IsSoundGraph g → IsLegalPlan g p → (t : Tree) → IsPlanTree p t → HasLeaves t p.leaves }
+    ensures made { (g : Graph) (p : Plan) → IsSoundGraph g → IsLegalPlan g p → (t : Tree) → IsPlanTree p t → (x : Body) × IsMadeBy g t x × ((n : Node) → Contains g.nodes n → Contains x.elements n.elem) }
     ensures due { (g : Graph) (p : Plan) → IsSoundGraph g → IsLegalPlan g p → HoldsWhatIsDue g }
     ensures elements { (g : Graph) (p : Plan) → IsSoundGraph g → IsLegalPlan g p → IsSparse g }
     ensures lines { (g : Graph) (p : Plan) → IsSoundGraph g → IsLegalPlan g p → HasFewAngles g }

@@ -1,5 +1,6 @@
 use Rattle.sk_family.specs.Clusters.{initial_clusters}
 use Rattle.sk_plan.proofs.Legal.{corners_of}
+use Rattle.sk_plan.proofs.MadePlans.{plan_made}
 use Rattle.sk_plan.proofs.PlanTrees.{tree_leaves, some_plan_tree}
 use Rattle.sk_plan.proofs.WellPlans.{plan_well}
 use Rattle.sk_plan.proofs.PlanTells.{plan_steps, plan_nodes, plan_due, plan_sparse, plan_few_angles}
@@ -19,6 +20,9 @@ returns-clause-without_blocks c g p sound legal none = plan_nodes g p sound lega
 
 pub returns-clause-leaves : goal.returns-clause-leaves
 returns-clause-leaves c g p sound legal t is = tree_leaves g p sound legal t is
+
+pub returns-clause-made : goal.returns-clause-made
+returns-clause-made c g p sound legal t is = plan_made g p sound legal t is
 
 pub returns-clause-due : goal.returns-clause-due
 returns-clause-due c = plan_due
