@@ -10,3 +10,7 @@ pub mod ReasonsTold
 pub mod Groups
 pub mod TightGroups
 pub mod OneGroup
+pub mod Walked
+pub mod KeptElements
+pub mod PlanBranch
+pub mod QuickGroup

@@ -54,10 +54,10 @@ not_too_many : (h n : ℕ) → 2 ≤ n → ¬ (2 * n - 3 < h) → h + 3 ≤ 2 * 
 not_too_many h n two not = omega (arith, two, not)
 
 -- the elements of a cluster are two at least
-cluster_long : (g : Graph) → IsSoundGraph g → (f : List Body) → IsNormal g f → (x : Body) → Contains f x → 2 ≤ length x.elements
+pub cluster_long : (g : Graph) → IsSoundGraph g → (f : List Body) → IsNormal g f → (x : Body) → Contains f x → 2 ≤ length x.elements
 cluster_long g sound f normal x x_in = (let (a, b, other, a_in, b_in) = has_two g f sound normal x x_in in two_long x.elements a b other a_in b_in)
 
-cluster_distinct : (g : Graph) → IsSoundGraph g → (f : List Body) → IsNormal g f → (x : Body) → Contains f x → AllPairs (λ (d e : Elem). d ≢ e) x.elements
+pub cluster_distinct : (g : Graph) → IsSoundGraph g → (f : List Body) → IsNormal g f → (x : Body) → Contains f x → AllPairs (λ (d e : Elem). d ≢ e) x.elements
 cluster_distinct g sound f normal x x_in = distinct elem_number x.elements ((reached_tight g f sound.edges_rise normal.reached).family.rising x x_in).elements
 
 -- the weights of those that pass a test, and of those that don't

@@ -41,7 +41,7 @@ found_none p (x ∷ xs) is y h passes = told (p x) refl is (λ there later. foun
           | inr later ↦ rest there later
         ]
 
-module _ (g : Graph) (sound : IsSoundGraph g) (clusters : List Cluster) (are : clusters ≡ map start_of (starts g)) where
+module _ (g : Graph) (clusters : List Cluster) (are : clusters ≡ map start_of (starts g)) where
   pub none_owns : (k : ConId) → HasConstraint g k → ¬ (find (λ (c : Cluster). is_number c.owned k) clusters ≡ None)
   none_owns k (s, s_in, is) none =
       found_none (λ (c : Cluster). is_number c.owned k) clusters none (start_of s)
@@ -72,7 +72,7 @@ module _ (g : Graph) (sound : IsSoundGraph g) (left kept : List ConId) (is : kep
   pub kept_there : (k : ConId) → Contains kept k → HasConstraint g k
   kept_there k h = (kept_from k h).0
 
-  there_kept : (k : ConId) → HasConstraint g k → is_kept left k ≡ true → Contains kept k
+  pub there_kept : (k : ConId) → HasConstraint g k → is_kept left k ≡ true → Contains kept k
   there_kept k has passes =
       subst (λ (ks : List ConId). Contains ks k) (sym is) (contains_filtered (is_kept left) (numbers_of g) k (has_number g k has) passes)
 

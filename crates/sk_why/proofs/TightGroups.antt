@@ -31,7 +31,7 @@ use Rattle.sk_rules.proofs.SomeClosed.{some_closed}
 use Rattle.sk_rules.proofs.SummedWeights.{weighs_one, weighs_more, found_inside, inside_found, owned_found}
 use Rattle.sk_rules.proofs.WeighedGraphs.{sound_two_each}
 use Rattle.sk_verdict.proofs.Normals.{has_two}
-use Rattle.sk_plan.specs.Sparse.{weight_within, AreDistinct, AreIn, HoldsNoneTooMany}
+use Rattle.sk_plan.specs.Sparse.{weight_within, weight_among, AreDistinct, AreIn, HoldsNoneTooMany}
 use Rattle.sk_plan.proofs.Counts.{count_all, whole_weight}
 use Rattle.sk_plan.proofs.Sparsity.{sparse}
 use Rattle.sk_plan.proofs.TightSets.{tight_made}
@@ -88,14 +88,17 @@ module _ (g : Graph) (sound : IsSoundGraph g) where
       let less = where_less (λ s. p s.number && is_inside xs s) (is_inside xs) (starts g) (λ s h passes. (and_parts (p s.number) (is_inside xs s) passes).1) in
       omega (arith, part, less)
 
+-- where constraints weigh few among elements, few lie there
+pub sparse_held : (g : Graph) (xs : List Elem) → weight_among g xs + 3 ≤ 2 * length xs → held g xs + 3 ≤ 2 * length xs
+sparse_held g xs most =
+    let less = whole_weight (is_inside xs) (weight_within xs) (starts g)
+    (λ s s_in inside. (let all = count_all (is_elem xs) s.elements (λ e e_in. found_elem xs e (found_inside xs s inside e e_in)) in omega (arith, all))) in
+    omega (arith, most, less)
+
 -- what is kept has no constraint too many
 module _ (g : Graph) (sound : IsSoundGraph g) (f : List Body) (normal : IsNormal g f) (none : HoldsNoneTooMany g f) where
   pub sparse_in : (x : Body) → Contains f x → (xs : List Elem) → AreDistinct xs → AreIn xs x.elements → 2 ≤ length xs → held g xs + 3 ≤ 2 * length xs
-  sparse_in x x_in xs apart own two =
-      let most = sparse g f sound.edges_rise (sound_two_each g sound) normal none x x_in xs apart own two in
-      let less = whole_weight (is_inside xs) (weight_within xs) (starts g)
-      (λ s s_in inside. (let all = count_all (is_elem xs) s.elements (λ e e_in. found_elem xs e (found_inside xs s inside e e_in)) in omega (arith, all))) in
-      omega (arith, most, less)
+  sparse_in x x_in xs apart own two = sparse_held g xs (sparse g f sound.edges_rise (sound_two_each g sound) normal none x x_in xs apart own two)
 
   module _ (x : Body) (x_in : Contains f x) (es : List Elem) (u v : Elem) (differ : u ≢ v) (u_in : Contains es u) (v_in : Contains es v) (x_has : (e : Elem) → Contains es e → Contains x.elements e)
       (ks : List ConId) (enough : AreTogether (with_just (is_number ks) g) es) where

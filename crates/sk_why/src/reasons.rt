@@ -1,15 +1,19 @@
 // What a constraint that is left out follows from: of the kept ones, those that hold its elements together.
-ghost use Rattle.std.specs.Prelude.{◌≡◌, IfOk, find, option_copied};
+ghost use Rattle.std.specs.Prelude.{◌≡◌, IfOk, filter, List as Items};
+ghost use Rattle.sk_base.specs.declared.ConId.{ConId as Number};
 ghost use Rattle.sk_base.specs.SoundGraph.{IsSoundGraph};
-ghost use Rattle.sk_family.specs.declared.Cluster.{Cluster as TheCluster};
 ghost use Rattle.sk_excess.specs.LeftOut.{is_number, HasConstraint};
 ghost use Rattle.sk_why.specs.Because.{FollowsFrom};
+ghost use Rattle.sk_why.specs.KeptOf.{IsKept};
+ghost use Rattle.sk_why.specs.Needed.{needed};
 
+use crate::branches::Branch;
+use crate::keeping::{Kept, kept_of};
 use crate::leaving::holding;
-use sk_base::{ConId, Graph, List, NoMemory};
-use sk_family::{Cluster, initial};
-use sk_spare::{is_among, others_of};
-use sk_tree::numbers_of;
+use crate::owners::elements_at;
+use crate::walking::add_needed;
+use sk_base::{ConId, Elem, Graph, List, NoMemory};
+use sk_spare::is_among;
 use std::alloc::Global;
 
 /// Those of the constraints that aren't left out which hold the elements of this one together, of a block all its pins:
@@ -25,20 +29,53 @@ pub fn because(
     requires there { HasConstraint graph.now number }
     ensures { IfOk result (FollowsFrom graph.now left.now number) }
 {
-    let all = numbers_of(alloc, graph)?;
-    let kept = others_of(alloc, all.as_slice(), left)?;
-    let family = initial(alloc, graph)?;
-    match owner_of(family.clusters(), number) {
-        Some(owner) => holding(alloc, graph, kept.as_slice(), owner.elements.as_slice()),
-        None => unreachable!(),
+    let kept = kept_of(alloc, graph, left, None)?;
+    reasons_of(alloc, graph, &kept, number)
+}
+
+/// The same of what is kept: by its tree where it has one, and by halves where it hasn't.
+pub(crate) fn reasons_of(
+    alloc: Global,
+    graph: &Graph,
+    kept: &Kept,
+    number: ConId,
+) -> Result<List<ConId>, NoMemory>
+    requires sound { IsSoundGraph graph.now }
+    requires there { HasConstraint graph.now number }
+    requires kept { (left : Items Number) × IsKept graph.now left kept.now }
+    ensures { IfOk result (λ because. (left : Items Number) → IsKept graph.now left kept.now → FollowsFrom graph.now left number because) }
+{
+    let elements = elements_at(kept.starts.clusters(), number);
+    let numbers = kept.numbers.as_slice();
+    match &kept.tree {
+        Some(tree) => needed_of(alloc, numbers, tree, elements),
+        None => holding(alloc, graph, numbers, elements),
     }
 }
 
-/// The first cluster that owns the constraint.
-fn owner_of(clusters: &[Cluster], number: ConId) -> Option<&Cluster>
-    ensures { option_copied result ≡ find (λ (c : TheCluster). is_number c.owned number) clusters.now }
+/// Those of the numbers that hold the elements together, as the tree tells it.
+fn needed_of(
+    alloc: Global,
+    numbers: &[ConId],
+    tree: &Branch,
+    elements: &[Elem],
+) -> Result<List<ConId>, NoMemory>
+    ensures { IfOk result (λ group. group ≡ filter (is_number (needed tree.now elements.now)) numbers.now) }
 {
-    clusters
-        .iter()
-        .find(|cluster| is_among(cluster.owned.as_slice(), number))
+    let mut found = List::new(alloc);
+    add_needed(alloc, &mut found, tree, elements)?;
+    those_of(alloc, numbers, found.as_slice())
+}
+
+/// Those of the numbers that are among the others.
+fn those_of(alloc: Global, numbers: &[ConId], others: &[ConId]) -> Result<List<ConId>, NoMemory>
+    ensures { IfOk result (λ those. those ≡ filter (is_number others.now) numbers.now) }
+{
+    let mut those = List::new(alloc);
+    for number in numbers {
+        if is_among(others, *number) {
+            those.push(*number)?;
+        }
+    }
+    Ok(those)
 }

@@ -9,11 +9,13 @@ ghost use Rattle.sk_plan.specs.Judged.{IsTheJudgement};
 ghost use Rattle.sk_excess.specs.LeftOut.{HasConstraint};
 ghost use Rattle.sk_why.specs.WhyLines.{follows_line};
 ghost use Rattle.sk_why.specs.Because.{FollowsFrom};
+ghost use Rattle.sk_why.specs.KeptOf.{IsKept};
 ghost use Rattle.sk_why.specs.OverParts.{StandsForOver};
 ghost use Rattle.sk_why.specs.WhyReport.{AreReasonsTold, AreGroupsTold, IsWhyReport};
 
+use crate::keeping::{Kept, kept_of, tree_of_kept};
 use crate::reason_lines::put_follows;
-use crate::reasons::because;
+use crate::reasons::reasons_of;
 use sk_base::{ConId, Graph, NoMemory, Sketch, Text};
 use sk_excess::left_out;
 use sk_graph::reduce;
@@ -65,7 +67,9 @@ fn groups(alloc: Global, own: &Sketch) -> Result<Text, NoMemory>
 {
     let graph = reduce(alloc, own)?;
     let left = left_out(alloc, &graph)?;
-    reasons_text(alloc, own, &graph, left.as_slice())
+    let tree = tree_of_kept(alloc, own, left.as_slice())?;
+    let kept = kept_of(alloc, &graph, left.as_slice(), tree)?;
+    reasons_text(alloc, own, &graph, &kept, left.as_slice())
 }
 
 /// A line for each constraint that is left out.
@@ -73,16 +77,18 @@ fn reasons_text(
     alloc: Global,
     own: &Sketch,
     graph: &Graph,
+    kept: &Kept,
     left: &[ConId],
 ) -> Result<Text, NoMemory>
     requires sound { IsSoundSketch own.now }
     requires graph { graph.now ≡ graph_of own.now }
     requires there { (k : Number) → Contains left.now k → HasConstraint graph.now k }
+    requires kept { IsKept graph.now left.now kept.now }
     ensures { IfOk result (AreReasonsTold own.now left.now left.now) }
 {
     let mut text = Text::new(alloc);
     for number in left {
-        put_reasons(alloc, &mut text, own, graph, left, *number)?;
+        put_reasons(alloc, &mut text, own, graph, kept, *number)?;
     }
     Ok(text)
 }
@@ -93,14 +99,15 @@ fn put_reasons(
     text: &mut Text,
     own: &Sketch,
     graph: &Graph,
-    left: &[ConId],
+    kept: &Kept,
     number: ConId,
 ) -> Result<(), NoMemory>
     requires sound { IsSoundSketch own.now }
     requires graph { graph.now ≡ graph_of own.now }
     requires there { HasConstraint graph.now number }
-    ensures { OnOk result ((reasons : Items Number) × FollowsFrom (graph_of own.now) left.now number reasons × (text.new ≡ text.old ++ follows_line own.now number reasons)) }
+    requires kept { (left : Items Number) × IsKept graph.now left kept.now }
+    ensures { OnOk result ((reasons : Items Number) × ((left : Items Number) → IsKept graph.now left kept.now → FollowsFrom graph.now left number reasons) × (text.new ≡ text.old ++ follows_line own.now number reasons)) }
 {
-    let reasons = because(alloc, graph, left, number)?;
+    let reasons = reasons_of(alloc, graph, kept, number)?;
     put_follows(alloc, text, own, number, reasons.as_slice())
 }
