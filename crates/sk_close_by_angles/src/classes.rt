@@ -27,7 +27,7 @@ pub(crate) fn classes_of(
 }
 
 /// Each line in a class of its own.
-fn lines_alone(alloc: Global, nodes: &[Node]) -> Result<Vec<usize>, NoMemory>
+pub fn lines_alone(alloc: Global, nodes: &[Node]) -> Result<Vec<usize>, NoMemory>
     ensures { IfOk result (λ classes. AreAlone nodes.now classes.items) }
 {
     let mut classes = Vec::new(alloc);
@@ -59,7 +59,7 @@ fn add_line(classes: &mut Vec<usize>, line: Elem) -> Result<(), NoMemory>
 }
 
 /// The number of the element's class.
-pub(crate) fn class_of(classes: &[usize], elem: Elem) -> usize
+pub fn class_of(classes: &[usize], elem: Elem) -> usize
     ensures { result ≡ class_in classes.now elem }
 {
     match classes.get(elem.0 as usize) {
@@ -82,7 +82,7 @@ pub(crate) fn class_among(classes: &[usize], elements: &[Elem]) -> usize
 }
 
 /// Joins the classes of all lines among the elements.
-fn tie_all(classes: &mut [usize], elements: &[Elem])
+pub fn tie_all(classes: &mut [usize], elements: &[Elem])
     ensures coarsens { Coarsens classes.old classes.new }
     ensures together { AreTogether classes.new elements.now }
     ensures tell { (g : AnyGraph) (f : Items Body) (x : Body) → Contains f x → x.elements ≡ elements.now → TellTies g f classes.old → TellTies g f classes.new }

@@ -10,6 +10,7 @@ mod text;
 mod tie_merges;
 mod ties;
 
+pub use classes::{class_of, lines_alone, tie_all};
 pub use closing::{derive, derive_in_any_order};
 pub use law::{
     derived_lists_rise, normal_lies_in_wide, one_derived_text, one_list_of_wide_choices,

@@ -1,9 +1,9 @@
 -- Sketches with more constraints.
-use Rattle.std.proofs.Common.{◌≡◌, ℕ, ◌+◌, ◌<◌, ◌==◌, List, [], ◌∷◌, ◌++◌, length, refl, ap, sym, subst, ◌∙◌, arith}
+use Rattle.std.proofs.Common.{◌≡◌, ℕ, ◌+◌, ◌*◌, ◌-◌, ◌*◌, ◌-◌, ◌<◌, ◌==◌, List, [], ◌∷◌, ◌++◌, length, refl, ap, sym, subst, ◌∙◌, arith}
 use Rattle.std.specs.Prelude.{All, find}
 use Rattle.std.proofs.lemmas.List.{append-nil, append_assoc}
 use Rattle.std.proofs.lemmas.List.Elements.{All-nil, All-head, All-tail, All-push}
-use Rattle.std.proofs.lemmas.List.Sums.{sum_by-cons}
+use Rattle.std.proofs.lemmas.List.Sums.{sum_by-cons, sum_by-append}
 use Rattle.sk_base.specs.declared.Constraint.{Constraint}
 use Rattle.sk_base.specs.declared.Element.{Element}
 use Rattle.sk_base.specs.declared.Rule.{Rule}
@@ -19,7 +19,7 @@ use Rattle.sk_drawn.specs.DrawnValues.{IsDrawnValue}
 use Rattle.sk_complete.specs.Begun.{Extends, last_number}
 use Rattle.sk_complete.specs.Completions.{Completes}
 use Rattle.sk_complete.proofs.CountingOn.{last_along, numbered_more}
-use Rattle.sk_complete.proofs.Weighing.{missing_weight}
+use Rattle.sk_complete.proofs.Weighing.{well_weighs}
 
 pub extends_itself : (s : Sketch) → IsSoundSketch s → Extends s s
 extends_itself s sound = record {
@@ -48,6 +48,9 @@ all_weigh s (c ∷ cs) drawn =
     let rest = all_weigh s cs (All-tail (λ (d : Constraint). IsDrawnValue s d.rule) c cs drawn) in
     omega arith
 
+pub some_elements : (s t : Sketch) → Extends s t → 0 < length s.elements → 0 < length t.elements
+some_elements s t extends some = let level = ap (λ es. length es) extends.more.elements in omega arith
+
 -- what is well adds just what is missing
 pub completes_well : (s t : Sketch) → 0 < length s.elements → Extends s t → IsWell (graph_of t) → Completes s t
 completes_well s t some extends well = record {
@@ -58,7 +61,10 @@ completes_well s t some extends well = record {
   sound = extends.sound;
   well = well;
   count =
-      let missing = missing_weight s t extends.added extends.more extends.sound some well in
+      let some_there = some_elements s t extends some in
+      let whole = well_weighs t extends.sound some_there well in
+      let both = ap weight_together extends.more.constraints ∙ sum_by-append constraint_weight s.constraints extends.added in
+      let level = ap (λ (es : List Element). 2 * length es - 3) extends.more.elements in
       let ones = all_weigh s extends.added extends.drawn in
       omega arith;
 }
@@ -68,9 +74,6 @@ completes_itself s t same sound some well = subst (λ (z : Sketch). Completes s 
 
 pub extends_same : (s t : Sketch) → t ≡ s → IsSoundSketch s → Extends s t
 extends_same s t same sound = subst (λ (z : Sketch). Extends s z) (sym same) (extends_itself s sound)
-
-pub some_elements : (s t : Sketch) → Extends s t → 0 < length s.elements → 0 < length t.elements
-some_elements s t extends some = let level = ap (λ es. length es) extends.more.elements in omega arith
 
 -- and what is drawn more is said behind it
 pub extends_more : (s t : Sketch) (c : Constraint) (cs : List Constraint) → Extends s t

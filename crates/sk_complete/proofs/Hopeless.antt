@@ -1,8 +1,8 @@
 -- Sketches that nothing completes: those of lines alone, and those that weigh enough and aren't well.
-use Rattle.std.proofs.Common.{◌≡◌, ◌≢◌, ℕ, ◌+◌, ◌*◌, ◌-◌, ◌<◌, ◌≤◌, Bool, true, false, cond, List, [], ◌∷◌, ◌++◌, length, refl, ap, sym, subst, ◌∙◌, arith}
-use Rattle.std.specs.Prelude.{All, Contains, map, sum_by, count_by}
-use Rattle.std.proofs.lemmas.List.{append-nil, length-map}
-use Rattle.std.proofs.lemmas.List.Elements.{All-contains, Contains-append_right}
+use Rattle.std.proofs.Common.{◌≡◌, ◌≢◌, ℕ, ◌+◌, ◌*◌, ◌-◌, ◌<◌, ◌≤◌, Bool, true, false, cond, List, [], ◌∷◌, length, refl, ap, sym, subst, ◌∙◌, arith}
+use Rattle.std.specs.Prelude.{All, Contains, map, not, sum_by, count_by}
+use Rattle.std.proofs.lemmas.List.{length-map}
+use Rattle.std.proofs.lemmas.List.Elements.{All-contains}
 use Rattle.std.proofs.lemmas.List.Sums.{sum_by-cons}
 use Rattle.sk_base.specs.declared.Elem.{Elem}
 use Rattle.sk_base.specs.declared.Kind.{Kind}
@@ -20,7 +20,7 @@ use Rattle.sk_base.specs.Drawn.{IsLine}
 use Rattle.sk_base.specs.Numbering.{is_elem}
 use Rattle.sk_base.specs.SoundGraph.{IsSoundGraph}
 use Rattle.sk_base.specs.SoundSketch.{IsSoundSketch, IsSoundRule}
-use Rattle.sk_base.proofs.Members.{contains_head, contains_later, contains_mapped, mapped_from}
+use Rattle.sk_base.proofs.Members.{contains_none, contains_head, contains_later, contains_mapped, mapped_from, contains_filtered, filtered_from}
 use Rattle.sk_base.proofs.Numbers.{found_elem}
 use Rattle.sk_base.proofs.Pairs.{pairs_map, pairs_weaken}
 use Rattle.sk_family.specs.Body.{starts, starting, initial_bodies}
@@ -38,8 +38,8 @@ use Rattle.sk_plan.proofs.PlanTells.{plan_due, plan_few_angles}
 use Rattle.sk_plan.proofs.SomePlans.{some_plan_by}
 use Rattle.sk_plan.proofs.Weighed.{lines_weigh}
 use Rattle.sk_complete.specs.Weights.{rule_weight, constraint_weight, weight_together, due_for}
-use Rattle.sk_complete.specs.Begun.{HasMore}
-use Rattle.sk_complete.proofs.Weighing.{whole_weight, missing_weight}
+use Rattle.sk_complete.specs.Begun.{HasAmong, is_numbered_in, besides}
+use Rattle.sk_complete.proofs.Weighing.{whole_weight, all_kept, kept_are, missing_weight}
 
 -- sums of the same terms
 sum_same : {X : Type 0} (v w : X → ℕ) (xs : List X) → ((x : X) → Contains xs x → v x ≡ w x) → sum_by v xs ≡ sum_by w xs
@@ -130,11 +130,28 @@ weightless s (c ∷ cs) sound none =
     absurd (omega (arith, first, more, none))
 
 -- what weighs enough is well if something completes it
-pub enough_alone : (s t : Sketch) (added : List Constraint) → HasMore s t added → IsSoundSketch t → 0 < length s.elements → IsWell (graph_of t) → due_for s ≤ weight_together s.constraints → IsWell (graph_of s)
-enough_alone s t added more sound some well enough =
-    let missing = missing_weight s t added more sound some well in
-    let none : added ≡ [] = weightless t added (λ c c_in. All-contains (λ (d : Constraint). IsSoundRule t d.rule) _ _ sound.rules_sound
-    (subst (λ (cs : List Constraint). Contains cs c) (sym more.constraints) (Contains-append_right s.constraints added c c_in))) (omega (arith, missing, enough)) in
-    let make : List Element → List Constraint → Sketch = λ es cs. record { elements = es; constraints = cs } in
-    let same : t ≡ s = ap (λ es. make es t.constraints) more.elements ∙ ap (λ cs. make s.elements cs) (more.constraints ∙ ap (λ (cs : List Constraint). s.constraints ++ cs) none ∙ append-nil s.constraints) in
-    subst (λ (z : Sketch). IsWell (graph_of z)) same well
+pub enough_alone : (s t : Sketch) → HasAmong s t → IsSoundSketch t → 0 < length s.elements → IsWell (graph_of t) → due_for s ≤ weight_together s.constraints → IsWell (graph_of s)
+enough_alone s t among sound some well enough = subst (λ (z : Sketch). IsWell (graph_of z)) same well
+  where
+    missing : weight_together s.constraints + weight_together (besides s t) ≡ due_for s
+    missing = missing_weight s t among sound some well
+
+    none : besides s t ≡ []
+    none =
+        weightless t (besides s t)
+        (λ c c_in. All-contains (λ (d : Constraint). IsSoundRule t d.rule) _ _ sound.rules_sound (filtered_from (λ (d : Constraint). not (is_numbered_in s d)) t.constraints c c_in).0)
+        (omega (arith, missing, enough))
+
+    passes : (c : Constraint) → Contains t.constraints c → (b : Bool) → is_numbered_in s c ≡ b → is_numbered_in s c ≡ true
+    passes c c_in true is = is
+    passes c c_in false is =
+        absurd (contains_none c (subst (λ (cs : List Constraint). Contains cs c) none
+        (contains_filtered (λ (d : Constraint). not (is_numbered_in s d)) t.constraints c c_in (ap not is))))
+
+    same_constraints : t.constraints ≡ s.constraints
+    same_constraints = sym (all_kept (is_numbered_in s) t.constraints (λ c c_in. passes c c_in (is_numbered_in s c) refl)) ∙ kept_are s t among sound
+
+    same : t ≡ s
+    same =
+        let make : List Element → List Constraint → Sketch = λ es cs. record { elements = es; constraints = cs } in
+        ap (λ es. make es t.constraints) among.elements ∙ ap (λ cs. make s.elements cs) same_constraints

@@ -4,3 +4,7 @@ pub mod OverAlready
 pub mod Extending
 pub mod Verdicts
 pub mod CountingOn
+pub mod Ringing
+pub mod Circles
+pub mod Angles
+pub mod Reasons

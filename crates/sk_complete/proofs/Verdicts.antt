@@ -19,3 +19,9 @@ several_not_well g j judged is well = well_alone g j well judged (λ same. (let 
 
 pub never_over : (g : Graph) (j : Judgement) (verdict : Verdict) → IsTheJudgement g j → j.verdict ≡ verdict → verdict ≢ Over → ¬ HasVerdict g Over
 never_over g j verdict judged is other over = other (sym is ∙ one_verdict g j Over judged over)
+
+pub over_not_several : (g : Graph) (j : Judgement) → IsTheJudgement g j → j.verdict ≡ Over → ¬ HasVerdict g Several
+over_not_several g j judged is several = (let never : Over ≡ Several = sym is ∙ one_verdict g j Several judged several in absurd (cc))
+
+pub well_not_several : (g : Graph) (j : Judgement) → IsTheJudgement g j → j.verdict ≡ Well → ¬ HasVerdict g Several
+well_not_several g j judged is several = (let never : Well ≡ Several = sym is ∙ one_verdict g j Several judged several in absurd (cc))

@@ -1,10 +1,11 @@
 -- What the constraints of a well sketch weigh.
-use Rattle.std.proofs.Common.{◌≡◌, ◌≢◌, ℕ, ◌+◌, ◌*◌, ◌-◌, ◌<◌, Bool, true, List, [], ◌∷◌, length, refl, ap, sym, ◌∙◌, arith}
-use Rattle.std.specs.Prelude.{All, Contains, filter, map, sum_by}
+use Rattle.std.proofs.Common.{◌≡◌, ◌≢◌, ℕ, ◌+◌, ◌*◌, ◌-◌, ◌<◌, Bool, true, List, [], ◌∷◌, length, refl, ap, sym, subst, ◌∙◌, arith}
+use Rattle.std.specs.Prelude.{All, Contains, filter, map, not, sum_by}
 use Rattle.std.specs.List.{filter_map}
 use Rattle.std.proofs.lemmas.List.{length-map}
 use Rattle.std.proofs.lemmas.List.Elements.{All-head, All-tail}
-use Rattle.std.proofs.lemmas.List.Sums.{sum_by-cons, sum_by-append}
+use Rattle.std.proofs.lemmas.List.Filters.{sum_by-filter_both}
+use Rattle.std.proofs.lemmas.List.Sums.{sum_by-cons}
 use Rattle.sk_base.specs.declared.Edge.{Edge}
 use Rattle.sk_base.specs.declared.Block.{Block}
 use Rattle.sk_base.specs.declared.Graph.{Graph}
@@ -12,9 +13,13 @@ use Rattle.sk_base.specs.declared.Constraint.{Constraint}
 use Rattle.sk_base.specs.declared.Rule.{Rule}
 use Rattle.sk_base.specs.declared.Rule.TheVariants as rule
 use Rattle.sk_base.specs.declared.Sketch.{Sketch}
+use Rattle.sk_base.specs.Numbering.{con_number, con_exact}
 use Rattle.sk_base.specs.Pins.{AreSoundPins}
 use Rattle.sk_base.specs.SoundSketch.{IsSoundSketch, IsSoundRule}
-use Rattle.sk_base.proofs.Members.{contains_head, contains_later, contains_mapped}
+use Rattle.sk_base.proofs.Members.{contains_head, contains_later, contains_mapped, mapped_from, contains_filtered, filtered_from}
+use Rattle.sk_base.proofs.Numbers.{among_found, found_among}
+use Rattle.sk_base.proofs.Pairs.{pairs_filter, pairs_same}
+use Rattle.sk_base.proofs.Unions.{rising_apart}
 use Rattle.sk_family.specs.Body.{Start, starts, edge_start, block_start}
 use Rattle.sk_graph.specs.SketchGraph.{graph_of, node_of, edge_of, block_of, drawn_as, distance_edge, on_edge, tangent_edge, outside_edge, inside_edge, angle_edge}
 use Rattle.sk_graph.proofs.Soundness.{graph_is_sound, rule_sound}
@@ -25,10 +30,10 @@ use Rattle.sk_tree.specs.LegalPlan.{numbers_of}
 use Rattle.sk_plan.specs.Judged.{IsWell}
 use Rattle.sk_plan.proofs.SomePlans.{well_due}
 use Rattle.sk_complete.specs.Weights.{rule_weight, constraint_weight, weight_together, due_for}
-use Rattle.sk_complete.specs.Begun.{HasMore}
+use Rattle.sk_complete.specs.Begun.{HasAmong, number_of, is_numbered_in, besides}
 
 -- where all pass, all are kept
-all_kept : {X : Type 0} (p : X → Bool) (xs : List X) → ((x : X) → Contains xs x → p x ≡ true) → filter p xs ≡ xs
+pub all_kept : {X : Type 0} (p : X → Bool) (xs : List X) → ((x : X) → Contains xs x → p x ≡ true) → filter p xs ≡ xs
 all_kept p [] all = refl
 all_kept p (x ∷ xs) all = rw (all x (contains_head x xs)) (ap (λ ys. x ∷ ys) (all_kept p xs (λ y h. all y (contains_later x xs y h))))
 
@@ -90,11 +95,32 @@ module _ (s : Sketch) (sketch : IsSoundSketch s) where
   well_weighs some well =
       sym graph_weighs ∙ well_due s sketch some well ∙ ap (λ n. 2 * n - 3) (length-map s.elements node_of)
 
-pub missing_weight : (s t : Sketch) (added : List Constraint) → HasMore s t added → IsSoundSketch t → 0 < length s.elements → IsWell (graph_of t)
-    → weight_together s.constraints + weight_together added ≡ due_for s
-missing_weight s t added more sound some well =
-    let as_many = ap (λ es. length es) more.elements in
-    let all = well_weighs t sound (omega (arith, as_many)) well in
-    let both = ap weight_together more.constraints ∙ sum_by-append constraint_weight s.constraints added in
-    let due = ap (λ n. 2 * n - 3) as_many in
-    omega (arith, all, both, due)
+module _ (s t : Sketch) (among : HasAmong s t) (sound : IsSoundSketch t) where
+  ours : (c : Constraint) → Contains t.constraints c → is_numbered_in s c ≡ true → Contains s.constraints c
+  ours c c_in told =
+      let (d, d_in, is) = mapped_from number_of s.constraints c.number (among_found con_number con_exact (map number_of s.constraints) c.number told) in
+      let same : d ≡ c = rising_apart (λ (x : Constraint). x.number.0) t.constraints sound.constraints_rise d c (among.constraints d d_in) c_in (ap con_number is) in
+      subst (λ (z : Constraint). Contains s.constraints z) same d_in
+
+  -- those of t whose numbers s has are the constraints of s
+  pub kept_are : filter (is_numbered_in s) t.constraints ≡ s.constraints
+  kept_are =
+      pairs_same (λ (x y : Constraint). x.number.0 < y.number.0) (λ x h. absurd (omega (arith, h))) (λ x y h k. absurd (omega (arith, h, k)))
+      (filter (is_numbered_in s) t.constraints) s.constraints
+      (pairs_filter (λ (x y : Constraint). x.number.0 < y.number.0) (is_numbered_in s) t.constraints sound.constraints_rise) among.rise
+      (λ c h. (let was = filtered_from (is_numbered_in s) t.constraints c h in ours c was.0 was.1))
+      (λ c h. contains_filtered (is_numbered_in s) t.constraints c (among.constraints c h)
+      (found_among con_number (map number_of s.constraints) c.number (contains_mapped number_of s.constraints c h)))
+
+  -- what t has besides weighs the rest
+  pub both_weigh : weight_together s.constraints + weight_together (besides s t) ≡ weight_together t.constraints
+  both_weigh =
+      subst (λ (cs : List Constraint). weight_together cs + weight_together (besides s t) ≡ weight_together t.constraints) kept_are
+      (sum_by-filter_both (is_numbered_in s) (λ (c : Constraint). not (is_numbered_in s c)) (λ c. refl) constraint_weight t.constraints)
+
+  pub missing_weight : 0 < length s.elements → IsWell (graph_of t) → weight_together s.constraints + weight_together (besides s t) ≡ due_for s
+  missing_weight some well =
+      let as_many = ap (λ es. length es) among.elements in
+      let all = well_weighs t sound (omega (arith, as_many, some)) well in
+      let due = ap (λ n. 2 * n - 3) as_many in
+      omega (arith, all, both_weigh, due)

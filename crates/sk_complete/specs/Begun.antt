@@ -1,9 +1,29 @@
 -- A sketch with constraints more.
-use Rattle.std.specs.Prelude.{◌≡◌, ℕ, ◌+◌, List, [], ◌∷◌, ◌++◌, All}
+use Rattle.std.specs.Prelude.{◌≡◌, ℕ, ◌+◌, ◌==◌, Bool, not, List, [], ◌∷◌, ◌++◌, All, Contains, filter, map}
+use Rattle.std.specs.List.{list_any}
+use Rattle.sk_base.specs.declared.ConId.{ConId}
 use Rattle.sk_base.specs.declared.Constraint.{Constraint}
 use Rattle.sk_base.specs.declared.Sketch.{Sketch}
+use Rattle.sk_base.specs.Rising.{IsRising}
 use Rattle.sk_base.specs.SoundSketch.{IsSoundSketch}
 use Rattle.sk_drawn.specs.DrawnValues.{IsDrawnValue}
+
+-- t has the elements of s, and its constraints, with their numbers, among its own
+pub record HasAmong (s t : Sketch) : Type 0 where
+  pub elements : t.elements ≡ s.elements
+  pub rise : IsRising (λ (c : Constraint). c.number.0) s.constraints
+  pub constraints : (c : Constraint) → Contains s.constraints c → Contains t.constraints c
+
+abbrev pub number_of : Constraint → ConId
+number_of c = c.number
+
+-- whether s has a constraint of that number
+abbrev pub is_numbered_in : Sketch → Constraint → Bool
+is_numbered_in s c = list_any (λ (k : ConId). k.0 == c.number.0) (map number_of s.constraints)
+
+-- the constraints that t has besides
+abbrev pub besides : Sketch → Sketch → List Constraint
+besides s t = filter (λ (c : Constraint). not (is_numbered_in s c)) t.constraints
 
 -- t has the elements of s, and behind its constraints others
 pub record HasMore (s t : Sketch) (added : List Constraint) : Type 0 where

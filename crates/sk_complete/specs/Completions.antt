@@ -17,6 +17,7 @@ use Rattle.sk_complete.specs.declared.completion.Reason.{Reason}
 use Rattle.sk_complete.specs.declared.completion.Reason.TheVariants as reason
 use Rattle.sk_complete.specs.Weights.{weight_together, due_for}
 use Rattle.sk_drawn.specs.DrawnValues.{IsDrawnValue}
+use Rattle.sk_complete.specs.Rings.{HasRing}
 use Rattle.sk_complete.specs.Begun.{HasMore, AreNumberedBehind, last_number}
 
 -- t is sound and well, and says besides what s says just as much as is due, all of it as it is drawn, with numbers that
@@ -38,14 +39,13 @@ HasVerdict g verdict = (j : Judgement) × IsTheJudgement g j × (j.verdict ≡ v
 abbrev pub HasLinesAlone : Sketch → Type 0
 HasLinesAlone s = (2 < length s.elements) × All (λ (e : Element). IsLine e.shape) s.elements
 
--- what a reason tells of a sketch that has no completion; of angles that close a circle, and of a search that leads no
--- further, nothing is said
+-- what a reason tells of a sketch that has no completion
 abbrev pub Tells : Sketch → Reason → Type 0
 Tells s reason.Over = HasVerdict (graph_of s) Over
 Tells s reason.Lines = HasLinesAlone s
-Tells s reason.Angles = Unit {0}
+Tells s reason.Angles = HasRing s
 Tells s reason.Enough = due_for s ≤ weight_together s.constraints
-Tells s reason.Stuck = Unit {0}
+Tells s reason.Stuck = weight_together s.constraints < due_for s
 
 -- a completion, or why there is none, which is said only of a sketch that isn't well
 abbrev pub IsCompletionOf : Sketch → Completion → Type 0

@@ -1,14 +1,17 @@
 // Completions of a sketch. A search proposes one, and the judgement decides. So of the search it is only known that it adds
 // sound constraints with drawn values.
-ghost use Rattle.std.specs.Prelude.{◌≡◌, ◌≢◌, ◌↔◌, ◌<◌, length, IfOk, IfSome, IsTrue};
+ghost use Rattle.std.specs.Prelude.{◌≡◌, ◌≢◌, ◌↔◌, ◌<◌, ◌≤◌, length, IfOk, IfSome, IsTrue};
 ghost use Rattle.sk_base.specs.SoundSketch.{IsSoundSketch};
 ghost use Rattle.sk_graph.specs.SketchGraph.{graph_of};
 ghost use Rattle.sk_plan.specs.Judged.{IsTheJudgement, IsWell};
+ghost use Rattle.sk_complete.specs.Weights.{weight_together, due_for as due};
+ghost use Rattle.sk_complete.specs.Rings.{HasRing};
 ghost use Rattle.sk_complete.specs.Completions.{Completes, HasLinesAlone, HasVerdict, IsCompletionOf};
 
 use crate::draft::copy_sketch;
-use crate::hindrance::{due_for, has_ring, hindrance, weight_of};
+use crate::hindrance::{due_for, hindrance, weight_of};
 use crate::proposal::{bases_of, propose};
+use crate::rings::has_ring;
 use sk_base::{NoMemory, Sketch};
 use sk_graph::reduce;
 use sk_plan::judgement_of;
@@ -38,14 +41,17 @@ pub enum Completion {
     Without(Reason),
 }
 
-/// A completion of the sketch, which has an element: the sketch itself where its verdict is well. The reason is `Over`
-/// exactly where the verdict is over, and `Lines` exactly where it isn't, and more than two elements are lines alone.
+/// A completion of the sketch, which has an element: the sketch itself where its verdict is well. Else there is none for the
+/// first reason that holds: the verdict is over; more than two elements are lines alone; its parts tell an angle twice; the
+/// constraints weigh what is due. Where none of these holds the search decides.
 pub fn complete(alloc: Global, s: &Sketch) -> Result<Completion, NoMemory>
     requires sound { IsSoundSketch s.now }
     requires some { 0 < length s.now.elements }
     ensures completes { IfOk result (IsCompletionOf s.now) }
     ensures over { IfOk result (λ c. (c ≡ Completion.Without Reason.Over) ↔ HasVerdict (graph_of s.now) Verdict.Over) }
     ensures lines { IfOk result (λ c. (c ≡ Completion.Without Reason.Lines) ↔ ((¬ HasVerdict (graph_of s.now) Verdict.Over) × HasLinesAlone s.now)) }
+    ensures angles { IfOk result (λ c. (c ≡ Completion.Without Reason.Angles) ↔ (HasVerdict (graph_of s.now) Verdict.Several × (¬ HasLinesAlone s.now) × HasRing s.now)) }
+    ensures enough { IfOk result (λ c. (c ≡ Completion.Without Reason.Enough) ↔ (HasVerdict (graph_of s.now) Verdict.Several × (¬ HasLinesAlone s.now) × (¬ HasRing s.now) × (due s.now ≤ weight_together s.now.constraints))) }
 {
     let judgement = judged(alloc, s)?;
     match judgement.verdict {
@@ -67,11 +73,13 @@ fn completed(alloc: Global, s: &Sketch, judgement: &Judgement) -> Result<Complet
     ensures completes { IfOk result (IsCompletionOf s.now) }
     ensures not_over { IfOk result (λ c. c ≢ Completion.Without Reason.Over) }
     ensures lines { IfOk result (λ c. (c ≡ Completion.Without Reason.Lines) ↔ HasLinesAlone s.now) }
+    ensures angles { IfOk result (λ c. (c ≡ Completion.Without Reason.Angles) ↔ ((¬ HasLinesAlone s.now) × HasRing s.now)) }
+    ensures enough { IfOk result (λ c. (c ≡ Completion.Without Reason.Enough) ↔ ((¬ HasLinesAlone s.now) × (¬ HasRing s.now) × (due s.now ≤ weight_together s.now.constraints))) }
 {
     let graph = reduce(alloc, s)?;
     let lines = lines_of(alloc, graph.nodes.as_slice())?;
     let parts = judgement.parts.as_slice();
-    let is_ring = has_ring(alloc, lines.as_slice(), parts)?;
+    let is_ring = has_ring(alloc, &graph, parts)?;
     let missing = due_for(s).saturating_sub(weight_of(s.constraints.as_slice()));
     if let Some(reason) = hindrance(s, is_ring, missing) {
         return Ok(Completion::Without(reason));

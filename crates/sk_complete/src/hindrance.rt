@@ -1,25 +1,27 @@
 // What can be said before any search: how much is missing, and why some sketches have no completion.
-ghost use Rattle.std.specs.Prelude.{◌≡◌, ◌≢◌, ◌↔◌, ◌≤◌, ◌-◌, Some, All, IfSome, IsTrue, length};
+ghost use Rattle.std.specs.Prelude.{◌≡◌, ◌≢◌, ◌↔◌, ◌≤◌, ◌<◌, ◌-◌, None, Some, All, IsTrue, length};
 ghost use Rattle.sk_base.specs.declared.Constraint.{Constraint as TheConstraint};
 ghost use Rattle.sk_base.specs.declared.Element.{Element as TheElement};
 ghost use Rattle.sk_base.specs.Drawn.{IsLine};
 ghost use Rattle.sk_base.specs.SoundSketch.{IsSoundSketch};
 ghost use Rattle.sk_complete.specs.Weights.{constraint_weight, weight_together, due_for};
-ghost use Rattle.sk_complete.specs.Completions.{HasLinesAlone, Tells};
+ghost use Rattle.sk_complete.specs.Completions.{HasLinesAlone};
+ghost use Rattle.sk_complete.specs.Rings.{HasRing};
 
 use crate::completion::Reason;
-use sk_base::{Constraint, Element, NoMemory, Rule, Sketch};
-use sk_rigid::Groups;
-use sk_verdict::Part;
-use std::alloc::Global;
+use sk_base::{Constraint, Element, Rule, Sketch};
 
 /// Why no completion is sought, if there is a reason. The sketch isn't over, lacks so much weight, and its parts tell the
 /// angles of lines in a ring or not.
 pub(crate) fn hindrance(s: &Sketch, is_ring: bool, missing: usize) -> Option<Reason>
-    requires { missing ≡ due_for s.now - weight_together s.now.constraints }
+    requires ring { IsTrue is_ring ↔ HasRing s.now }
+    requires missing { missing ≡ due_for s.now - weight_together s.now.constraints }
     ensures not_over { result ≢ Some Reason.Over }
     ensures lines { (result ≡ Some Reason.Lines) ↔ HasLinesAlone s.now }
-    ensures tells { IfSome result (Tells s.now) }
+    ensures angles { (result ≡ Some Reason.Angles) ↔ ((¬ HasLinesAlone s.now) × HasRing s.now) }
+    ensures enough { (result ≡ Some Reason.Enough) ↔ ((¬ HasLinesAlone s.now) × (¬ HasRing s.now) × (due_for s.now ≤ weight_together s.now.constraints)) }
+    ensures none { (result ≡ None) → weight_together s.now.constraints < due_for s.now }
+    ensures not_stuck { result ≢ Some Reason.Stuck }
 {
     if has_lines_alone(s) {
         Some(Reason::Lines)
@@ -43,17 +45,6 @@ fn are_lines(elements: &[Element]) -> bool
     ensures { IsTrue result ↔ All (λ (e : TheElement). IsLine e.shape) elements.now }
 {
     elements.iter().all(|element| element.shape.is_line())
-}
-
-/// Whether two parts tell the angle of the same two lines, or more parts do in a ring.
-pub(crate) fn has_ring(alloc: Global, lines: &[bool], parts: &[Part]) -> Result<bool, NoMemory> {
-    let mut classes = Groups::none(alloc);
-    for part in parts {
-        if classes.join_lines(lines, part.elements.as_slice())? {
-            return Ok(true);
-        }
-    }
-    Ok(false)
 }
 
 /// What is due for all elements.

@@ -9,6 +9,7 @@ mod hinges;
 mod law;
 mod pair;
 mod proposal;
+mod rings;
 mod text;
 
 pub use completion::{Completion, Reason, complete};

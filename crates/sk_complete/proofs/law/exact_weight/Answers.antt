@@ -5,4 +5,4 @@ pub returns-clause-due : goal.returns-clause-due
 returns-clause-due c = well_weighs
 
 pub returns-clause-missing : goal.returns-clause-missing
-returns-clause-missing c = missing_weight
+returns-clause-missing c s t among sound some well = missing_weight s t among sound some well
