@@ -1,5 +1,6 @@
 -- A completion is given of each sketch, or it is told why there is none.
 use Rattle.std.proofs.Common.{◌≡◌, inl, inr, refl, ℕ, ◌<◌, List, length}
+use Rattle.std.proofs.lemmas.Bool.{cases_lt}
 use Rattle.sk_base.specs.declared.Element.{Element}
 use Rattle.sk_base.specs.declared.Shape.{Shape}
 use Rattle.sk_base.specs.declared.Shape.TheVariants.{Point, Line, Circle}
@@ -16,6 +17,7 @@ use Rattle.sk_verdict.specs.declared.Verdict.TheVariants.{Well, Over, Several}
 use Rattle.sk_complete.specs.declared.Completion.{Completion}
 use Rattle.sk_complete.specs.declared.Completion.TheVariants.{Done, Without}
 use Rattle.sk_complete.specs.declared.Reason.TheVariants as reason
+use Rattle.sk_complete.specs.Weights.{weight_together, due_for}
 use Rattle.sk_complete.specs.Completions.{HasLinesAlone}
 use Rattle.sk_complete.proofs.Extending.{completes_itself}
 use Rattle.sk_complete.proofs.Hopeless.{few_lines}
@@ -59,14 +61,24 @@ some_completion s sound some j judged = by j.verdict refl
           lines = ((λ same. ((λ over. never_over (graph_of s) j Several judged is (λ same. cc) over), lines)), (λ told. refl));
         },
       )
-      | inr others ↦ (
-        Without reason.Stuck,
-        record {
-          completes = (several_not_well (graph_of s) j judged is, tt);
-          over = ((λ same. absurd (cc)), (λ over. absurd (never_over (graph_of s) j Several judged is (λ same. cc) over)));
-          lines = ((λ same. absurd (cc)), (λ told. absurd (others told.1)));
-        },
-      )
+      | inr others ↦ elim (cases_lt (weight_together s.constraints) (due_for s)) [
+        | inl less ↦ (
+          Without reason.Stuck,
+          record {
+            completes = (several_not_well (graph_of s) j judged is, less);
+            over = ((λ same. absurd (cc)), (λ over. absurd (never_over (graph_of s) j Several judged is (λ same. cc) over)));
+            lines = ((λ same. absurd (cc)), (λ told. absurd (others told.1)));
+          },
+        )
+        | inr enough ↦ (
+          Without reason.Enough,
+          record {
+            completes = (several_not_well (graph_of s) j judged is, enough);
+            over = ((λ same. absurd (cc)), (λ over. absurd (never_over (graph_of s) j Several judged is (λ same. cc) over)));
+            lines = ((λ same. absurd (cc)), (λ told. absurd (others told.1)));
+          },
+        )
+      ]
     ]
 
 -- what is given is an answer
