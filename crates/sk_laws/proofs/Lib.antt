@@ -1,4 +1,5 @@
 pub mod AcceptedOffs
+pub mod ClaimedTolerances
 pub mod Fitting
 pub mod FlipsFound
 pub mod GapsNamed

@@ -26,6 +26,7 @@ ghost use Rattle.sk_tolerance.specs.Tolerances.{AllHoldWithin};
 ghost use Rattle.sk_tree.specs.LegalPlan.{IsLegalPlan};
 ghost use Rattle.sk_verify.specs.AsClaimed.{plan_claimed};
 ghost use Rattle.sk_tolerance.specs.declared.Tolerance.{Tolerance};
+ghost use Rattle.sk_solve.specs.Placements.{IsTolerance};
 ghost use Rattle.sk_tolerance.specs.declared.OffBy.{OffBy};
 ghost use Rattle.sk_tolerance.specs.declared.Turned.{Turned};
 ghost use Rattle.sk_tolerance.specs.Turns.{signs, constraint_signs, IsTurned, AllAsDrawn};
@@ -233,14 +234,16 @@ pub fn why_measure_ends()
 /// Where each element has a place, `measure` tells by how much the places are off each constraint, in order, and the least tolerances
 /// with which all holds there, whatever its status (`offs`). Of one constraint where the elements lie so there is one such answer
 /// (`same`). Where the elements lie as in a claim that `verify` accepts, no constraint is off by more than the claim's tolerance, and
-/// no sign is turned over (`accepted`). With the element lines of `solve`, an `end` behind them and the same limit
-/// it is done, and tells the tolerances that `solve` told (`solved`).
+/// no sign is turned over (`accepted`); and the least tolerances there are no greater than the claim's (`tolerances`). With the
+/// element lines of `solve`, an `end` behind them and the same limit it is done, and tells the tolerances that `solve` told
+/// (`solved`).
 pub fn given_places_are_measured()
     ensures offs { (words : List (List ℕ)) (bytes text : List ℕ) (status : Status) (request : Request) (f : Front) (c : Claim) → IsOutcome words bytes status text → Asks words request
         → request.command ≡ Command.Measure → HasPlaces bytes f c → AllTold c f.sketch.elements → (offs line : List ℕ) × TellsOffs f.sketch c.at offs × (text ≡ offs ++ line) }
     ensures same { (at : Placed) (s : Sketch) (k : ConId) (one other : OffBy) → IsOffThere at s k one → IsOffThere at s k other → one ≡ other }
     ensures accepted { (s : Sketch) (c : Claim) (k : ConId) (off : OffBy) → IsSoundSketch s → IsAccepted s (graph_of s) c → IsOffThere c.at s k off
         → (off.length ≡ true → unsigned_abs off.off ≤ c.t) × (off.length ≡ false → unsigned_abs off.off ≤ c.w) × (off.turned ≡ None) }
+    ensures tolerances { (s : Sketch) (c : Claim) (t : Tolerance) → IsSoundSketch s → IsAccepted s (graph_of s) c → IsTolerance c.at (graph_of s) t → (t.t ≤ c.t) × (t.w ≤ c.w) }
     ensures solved { (words asked : List (List ℕ)) (bytes input : List ℕ) (request measures : Request) (s : Sketch) (p : Plan) (at : Placed) (t : Tolerance) (f : Front)
         → Asks words request → Reads bytes s → HoldsAt request s p at t → Asks asked measures → measures.command ≡ Command.Measure → measures.within ≡ request.within
         → ReadsFront input f → f.sketch ≡ s → drop f.used input ≡ printed_places s at

@@ -24,6 +24,7 @@ use Rattle.sk_answers.specs.MeasureAnswer.{all_numbers, IsMeasurement, IsMeasure
 use Rattle.sk_answers.specs.OffsThere.{AreOffsPut}
 use Rattle.sk_cli.specs.Outcome.{IsAnswerOf, IsOutcome}
 use Rattle.sk_laws.proofs.AcceptedOffs.{within_claimed, not_turned_there}
+use Rattle.sk_laws.proofs.ClaimedTolerances.{tolerances_claimed}
 use Rattle.sk_laws.proofs.OneOutcome.{LowerLaws, same_off}
 use Rattle.sk_laws.proofs.PrintedClaims.{places_read, places_told}
 use Rattle.sk_laws.proofs.SomeMeasures.{some_lines}
@@ -75,6 +76,7 @@ returns c =
       same = λ at s k one other there there'. same_off at s k one other there there';
       accepted = λ s claim k off sketch accepted there.
           (let within = within_claimed s sketch claim accepted k off there in (within.0, within.1, not_turned_there s sketch claim accepted k off there));
+      tolerances = λ s claim t sketch accepted least. tolerances_claimed s sketch claim accepted t least;
       solved = λ words asked bytes input request measures s p at t f asks reads holds asks' is same front sketch rest.
           (let sound_s = sound bytes s reads in
           let claim = places_drawn s at in
