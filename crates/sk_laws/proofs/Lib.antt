@@ -3,6 +3,7 @@ pub mod ClaimedTolerances
 pub mod Fitting
 pub mod FlipsFound
 pub mod GapsNamed
+pub mod KeptMeasured
 pub mod KeptSolved
 pub mod LeftOnce
 pub mod LiveAsSession

@@ -33,7 +33,7 @@ use Rattle.sk_graph.proofs.Soundness.{graph_is_sound, given_edge_id, given_block
 use Rattle.sk_lang.specs.Renumbered.{constraints_from, renumbered}
 use Rattle.sk_place.specs.Rounding.{rounded}
 use Rattle.sk_tolerance.specs.declared.Tolerance.{Tolerance}
-use Rattle.sk_measure.specs.Placing.{lies, HasKind, IsPlacedAs, AreSpotsOf}
+use Rattle.sk_measure.specs.Placing.{lies, HasKind, IsPlacedAs, AreSpotsOf, PlacesExactly}
 use Rattle.sk_measure.specs.Items.{Item, constraint, block}
 use Rattle.sk_tolerance.specs.Tolerances.{number_of, angles, between, normals, rigid, distances, constraints, lengthwise, anglewise, everything}
 use Rattle.sk_tolerance.proofs.Merging.{block_in}
@@ -160,6 +160,67 @@ some_is : (o : Option At) (x : At) → IsSome o → x ≡ unwrap_or o (at.Point 
 some_is None x is same = absurd (cc)
 some_is (Some y) x is same = ap (λ (z : At). Some z) (sym same)
 
+-- places of all elements of a sketch, and of no others, are read as they are written
+module _ (s : Sketch) (sound : IsSoundSketch s) (here : Placed) (are_spots : AreSpotsOf (graph_of s).nodes here.spots) (exactly : PlacesExactly (graph_of s) here) where
+  places_apart : AllPairs (λ (x y : Spot). x.elem ≢ y.elem) here.spots
+  places_apart i j d i_j j_len same =
+      let below : (get_or here.spots i d).elem.0 < (get_or here.spots j d).elem.0 = spots_rise (graph_of s).nodes here.spots are_spots (graph_is_sound s sound).nodes_rise i j d i_j j_len in
+      let level : (get_or here.spots i d).elem.0 ≡ (get_or here.spots j d).elem.0 = ap (λ (e : Elem). e.0) same in
+      omega arith
+
+  node_at : (spot : Spot) → Contains here.spots spot → (n : Node) × Contains (graph_of s).nodes n × (n.elem ≡ spot.elem) × IsPlacedAs here spot.elem n.kind
+  node_at spot there =
+      let known = exactly.no_others spot there in
+      (known.0, known.1, known.2, subst (λ (e : Elem). IsPlacedAs here e known.0.kind) known.2 (exactly.nodes known.0 known.1))
+
+  pub spot_there : (spot : Spot) → Contains here.spots spot → place_of here spot.elem ≡ Some spot.at
+  spot_there spot there = (let of = node_at spot there in some_is (place_of here spot.elem) spot.at of.3.placed (of.3.once spot there refl))
+
+  pub element_found : (e : Element) → Contains s.elements e → IsFound s e
+  element_found e there = record {
+    name = ap (λ (o : Option Element). unwrap_or (option_map (λ (y : Element). y.label) o) []) (found_so s sound e there);
+    drawn = sym (drawn_so s sound e.number e there refl);
+  }
+
+  pub fit_there : IsFitting (graph_of s) (places_drawn s here)
+  fit_there = record {
+    spots = λ spot there.
+        (let of = node_at spot there in
+        let lie : spot.at ≡ lies here spot.elem = of.3.once spot there refl in (
+          of.0,
+          of.1,
+          record {
+            elem = of.2;
+            has_kind = subst (λ (q : At). HasKind of.0.kind q) (sym lie) of.3.has_kind;
+            bounded = subst (λ (q : At). IsBounded q) (sym lie) of.3.bounded;
+          },
+        ));
+    spots_differ = places_apart;
+    radii_differ = radii_apart s here.spots places_apart;
+    t = omega arith;
+    w = omega arith;
+  }
+
+  own_radius : (x : Element) → Contains s.elements x → (shape : Shape) → shape ≡ drawn_as s x.number → (spot : Spot) → Contains here.spots spot → spot.elem ≡ x.number
+      → HasItsRadius (radii_drawn s here.spots) x.number shape
+  own_radius x x_in (Point u v) drawn spot there same = tt
+  own_radius x x_in (Line x1 y1 x2 y2) drawn spot there same = tt
+  own_radius x x_in (Circle u v r) drawn spot there same =
+      let shape : Circle u v r ≡ drawn_as s spot.elem = drawn ∙ ap (drawn_as s) (sym same) in
+      let radius : Radius = record { elem = x.number; nm = radius_nm r.0 } in
+      contains_flat (λ (y : Spot). radius_drawn y.elem (drawn_as s y.elem)) here.spots spot radius there
+      (subst (λ (z : Shape). Contains (radius_drawn spot.elem z) radius) shape
+      (subst (λ (e : Elem). Contains (radius_drawn e (Circle u v r)) radius) (sym same) (contains_head radius [])))
+
+  pub told_there : AllTold (places_drawn s here) s.elements
+  told_there x x_in =
+      let is = exactly.nodes (node_of x) (contains_mapped node_of s.elements x x_in) in
+      let at_spot = spot_of here x.number is.placed in
+      record { placed = is.placed; radius = own_radius x x_in x.shape (drawn_so s sound x.number x x_in refl) at_spot.0 at_spot.1 at_spot.2 }
+
+  pub read_there : ReadsPlaces s (printed_places s here) (places_drawn s here)
+  read_there = subst (λ (text : List ℕ). ReadsPlaces s text (places_drawn s here)) (sym (text_of_places s here are_spots element_found spot_there)) (places_back s here sound fit_there)
+
 module _ (s : Sketch) (sound : IsSoundSketch s) (numbered : renumbered s ≡ s) (words : List (List ℕ)) (request : Request) (asks : Asks words request) (p : ThePlan) (here : Placed) (t : Tolerance) (holds : HoldsAt request s p here t) where
   graph : IsSoundGraph (graph_of s)
   graph = graph_is_sound s sound
@@ -174,81 +235,29 @@ module _ (s : Sketch) (sound : IsSoundSketch s) (numbered : renumbered s ≡ s) 
       subst (λ (xs : List Spot). AreSpotsOf (graph_of s).nodes xs) (sym spots)
       (laid_spots (grid_of request.bits) request.layout (digits_of request.bits) s p graph legal lie.0 lie.1)
 
-  apart : AllPairs (λ (x y : Spot). x.elem ≢ y.elem) here.spots
-  apart i j d i_j j_len same =
-      let below : (get_or here.spots i d).elem.0 < (get_or here.spots j d).elem.0 = spots_rise (graph_of s).nodes here.spots are_spots graph.nodes_rise i j d i_j j_len in
-      let level : (get_or here.spots i d).elem.0 ≡ (get_or here.spots j d).elem.0 = ap (λ (e : Elem). e.0) same in
-      omega arith
-
-  its_node : (spot : Spot) → Contains here.spots spot → (n : Node) × Contains (graph_of s).nodes n × (n.elem ≡ spot.elem) × IsPlacedAs here spot.elem n.kind
-  its_node spot there =
-      let known = holds.exactly.no_others spot there in
-      (known.0, known.1, known.2, subst (λ (e : Elem). IsPlacedAs here e known.0.kind) known.2 (holds.exactly.nodes known.0 known.1))
-
-  spot_placed : (spot : Spot) → Contains here.spots spot → place_of here spot.elem ≡ Some spot.at
-  spot_placed spot there = (let of = its_node spot there in some_is (place_of here spot.elem) spot.at of.3.placed (of.3.once spot there refl))
-
-  found_element : (e : Element) → Contains s.elements e → IsFound s e
-  found_element e there = record {
-    name = ap (λ (o : Option Element). unwrap_or (option_map (λ (y : Element). y.label) o) []) (found_so s sound e there);
-    drawn = sym (drawn_so s sound e.number e there refl);
-  }
-
   fits_here : IsFitting (graph_of s) (printed_claim s p here t)
   fits_here =
       let limit = limit_small words request asks in
       let lengths = holds.least.lengths.least request.within (λ item h. holds.within item (length_in (graph_of s) graph item h)) in
       let angles = holds.least.angles.least request.within (λ item h. holds.within item (angle_in (graph_of s) graph item h)) in
-      record {
-        spots = λ spot there.
-            (let of = its_node spot there in
-            let lie : spot.at ≡ lies here spot.elem = of.3.once spot there refl in (
-              of.0,
-              of.1,
-              record {
-                elem = of.2;
-                has_kind = subst (λ (q : At). HasKind of.0.kind q) (sym lie) of.3.has_kind;
-                bounded = subst (λ (q : At). IsBounded q) (sym lie) of.3.bounded;
-              },
-            ));
-        spots_differ = apart;
-        radii_differ = radii_apart s here.spots apart;
-        t = omega (arith, limit, lengths);
-        w = omega (arith, limit, angles);
-      }
-
-  own_radius : (x : Element) → Contains s.elements x → (shape : Shape) → shape ≡ drawn_as s x.number → (spot : Spot) → Contains here.spots spot → spot.elem ≡ x.number
-      → HasItsRadius (radii_drawn s here.spots) x.number shape
-  own_radius x x_in (Point u v) drawn spot there same = tt
-  own_radius x x_in (Line x1 y1 x2 y2) drawn spot there same = tt
-  own_radius x x_in (Circle u v r) drawn spot there same =
-      let shape : Circle u v r ≡ drawn_as s spot.elem = drawn ∙ ap (drawn_as s) (sym same) in
-      let radius : Radius = record { elem = x.number; nm = radius_nm r.0 } in
-      contains_flat (λ (y : Spot). radius_drawn y.elem (drawn_as s y.elem)) here.spots spot radius there
-      (subst (λ (z : Shape). Contains (radius_drawn spot.elem z) radius) shape
-      (subst (λ (e : Elem). Contains (radius_drawn e (Circle u v r)) radius) (sym same) (contains_head radius [])))
-
-  all_told : AllTold (printed_claim s p here t) s.elements
-  all_told x x_in =
-      let is = holds.exactly.nodes (node_of x) (contains_mapped node_of s.elements x x_in) in
-      let at_spot = spot_of here x.number is.placed in
-      record { placed = is.placed; radius = own_radius x x_in x.shape (drawn_so s sound x.number x x_in refl) at_spot.0 at_spot.1 at_spot.2 }
-
-  places_fit : IsFitting (graph_of s) (places_drawn s here)
-  places_fit = record { spots = fits_here.spots; spots_differ = fits_here.spots_differ; radii_differ = fits_here.radii_differ; t = omega arith; w = omega arith }
+      let fit = fit_there s sound here are_spots holds.exactly in
+      record { spots = fit.spots; spots_differ = fit.spots_differ; radii_differ = fit.radii_differ; t = omega (arith, limit, lengths); w = omega (arith, limit, angles) }
 
   pub places_read : ReadsPlaces s (printed_places s here) (places_drawn s here)
-  places_read = subst (λ (text : List ℕ). ReadsPlaces s text (places_drawn s here)) (sym (text_of_places s here are_spots found_element spot_placed)) (places_back s here sound places_fit)
+  places_read = read_there s sound here are_spots holds.exactly
 
   pub places_told : AllTold (places_drawn s here) s.elements
-  places_told x x_in = (let told = all_told x x_in in record { placed = told.placed; radius = told.radius })
+  places_told = told_there s sound here are_spots holds.exactly
+
+  all_told : AllTold (printed_claim s p here t) s.elements
+  all_told x x_in = (let told = places_told x x_in in record { placed = told.placed; radius = told.radius })
 
   module _ (few : 2 * length p.steps ≡ length (graph_of s).edges + length (graph_of s).blocks - 1) where
     pub printed_reads : ReadsClaim s (printed_text s p here t) (printed_claim s p here t)
     printed_reads =
         let most = graph.few_constraints in
         let short : length p.steps ≤ 999999 = omega (arith, few, most) in
-        subst (λ (text : List ℕ). ReadsClaim s text (printed_claim s p here t)) (sym (text_of_claim s p here t are_spots found_element spot_placed))
+        subst (λ (text : List ℕ). ReadsClaim s text (printed_claim s p here t)) (sym (text_of_claim s p here t are_spots (element_found s sound here are_spots holds.exactly) (spot_there s sound here are_spots holds.exactly)))
         (reads_written s sound (printed_claim s p here t) fits_here (said_steps s p legal short (plain_numbers s sound numbered)) refl)
 
   pub printed_accepted : IsAccepted s (graph_of s) (printed_claim s p here t)

@@ -47,7 +47,7 @@ ghost use Rattle.sk_cli.specs.FlipsReport.{IsReportOnFlips};
 ghost use Rattle.sk_laws.specs.Gaps.{IsAsFine, NamesGap, NamesGapThere};
 ghost use Rattle.sk_cli.specs.PartsReport.{IsShape, IsPartsReport};
 ghost use Rattle.sk_laws.specs.Shapes.{IsSolvedAs, IsOneShape};
-ghost use Rattle.sk_cli.specs.ExcessReport.{IsExcess};
+ghost use Rattle.sk_cli.specs.ExcessReport.{IsExcess, IsMeasuredLeft};
 ghost use Rattle.sk_laws.specs.Repeats.{IsByKept, FitWhereRepeated};
 ghost use Rattle.sk_request.specs.Grids.{grid_of, digits_of};
 ghost use Rattle.sk_cli.specs.Outcome.{IsSolved, IsOutcome, AreFirstReplies, AreLiveReplies};
@@ -234,8 +234,9 @@ pub fn why_measure_ends()
 /// Where each element has a place, `measure` tells by how much the places are off each constraint, in order, and the least tolerances
 /// with which all holds there, whatever its status (`offs`). Of one constraint where the elements lie so there is one such answer
 /// (`same`). Where the elements lie as in a claim that `verify` accepts, no constraint is off by more than the claim's tolerance, and
-/// no sign is turned over (`accepted`); and the least tolerances there are no greater than the claim's (`tolerances`). With the
-/// element lines of `solve`, an `end` behind them and the same limit it is done, and tells the tolerances that `solve` told
+/// no sign is turned over (`accepted`); and the least tolerances there are no greater than the claim's (`tolerances`). Where
+/// `excess` measures what is left out of an own sketch, the element lines of these places, with an `end` behind them, are measured
+/// there, so that by `same` each constraint that is left out is off by what `excess` told (`left`). With the element lines of `solve`, an `end` behind them and the same limit it is done, and tells the tolerances that `solve` told
 /// (`solved`).
 pub fn given_places_are_measured()
     ensures offs { (words : List (List ℕ)) (bytes text : List ℕ) (status : Status) (request : Request) (f : Front) (c : Claim) → IsOutcome words bytes status text → Asks words request
@@ -244,6 +245,9 @@ pub fn given_places_are_measured()
     ensures accepted { (s : Sketch) (c : Claim) (k : ConId) (off : OffBy) → IsSoundSketch s → IsAccepted s (graph_of s) c → IsOffThere c.at s k off
         → (off.length ≡ true → unsigned_abs off.off ≤ c.t) × (off.length ≡ false → unsigned_abs off.off ≤ c.w) × (off.turned ≡ None) }
     ensures tolerances { (s : Sketch) (c : Claim) (t : Tolerance) → IsSoundSketch s → IsAccepted s (graph_of s) c → IsTolerance c.at (graph_of s) t → (t.t ≤ c.t) × (t.w ≤ c.w) }
+    ensures left { (asked : List (List ℕ)) (input text told : List ℕ) (status : Status) (request measures : Request) (own : Sketch) (left : List ConId) (m : IsMeasuredLeft request own left told) (f : Front)
+        → IsSoundSketch own → IsOutcome asked input status text → Asks asked measures → measures.command ≡ Command.Measure → ReadsFront input f → f.sketch ≡ own → drop f.used input ≡ printed_places own m.at
+        → (offs line : List ℕ) × TellsOffs own m.at offs × (text ≡ offs ++ line) }
     ensures solved { (words asked : List (List ℕ)) (bytes input : List ℕ) (request measures : Request) (s : Sketch) (p : Plan) (at : Placed) (t : Tolerance) (f : Front)
         → Asks words request → Reads bytes s → HoldsAt request s p at t → Asks asked measures → measures.command ≡ Command.Measure → measures.within ≡ request.within
         → ReadsFront input f → f.sketch ≡ s → drop f.used input ≡ printed_places s at
