@@ -280,7 +280,7 @@ def placed(asked: Trial, program: Solver) -> Trial:
 
 def told_by(asked: Trial, spelled: Spelled, program: Solver) -> Trial:
     """What the program says where the same is told by another sketch."""
-    told = placed(_answered(asked.rails, spelled, program), program)
+    told = placed(answered(asked.rails, spelled, program), program)
     return replace(told, grown=asked.grown, frozen=asked.frozen, off=asked.off)
 
 
