@@ -4,6 +4,7 @@ from __future__ import annotations
 import pytest
 
 from pertxogai.drawing import read_drawing
+from pertxogai.judging import judge
 from pertxogai.judging.measure import Unit
 from pertxogai.judging.measure.deviation import Deviation
 from pertxogai.judging.measure.limit import Limit
@@ -11,8 +12,12 @@ from pertxogai.judging.roundings import Off, moved_by_rounding
 from pertxogai.judging.surplus import Surplus
 from pertxogai.language import Angle, Distance
 from pertxogai.language.numbers import ratios_beside
+from pertxogai.program import Program
 from pertxogai.spelling import Spelled, Style, spell
 
+LEANING = ("segment S -100 0 -65 999\nsegment A 0 0 698 19988\non S.start XAxis\nx S.start -100\n"
+           "length S 1000\nAngle: angle S 88deg\ncoincident A.start Origin\nSame: parallel S A\n"
+           "Long: length A 20000\nAcross: x A.end {}\n")
 TRIANGLE = ("point A 0 0\npoint B 4 0\npoint C 4 3\n"
             "distance A B {}\ndistance A C {}\ndistance B C 3\n")
 
@@ -96,3 +101,22 @@ def test_what_is_off_by_no_more_than_rounding_is_no_contradiction(
         amount, rounding, repeats, may_be_rounding):
     surplus = Surplus(3, "it", deviation(amount), limit=Limit(1000), rounding=rounding)
     assert (surplus.repeats(), surplus.may_be_rounding()) == (repeats, may_be_rounding)
+
+
+def test_what_hangs_on_an_angle_that_is_no_ratio_is_rounded(program: Program) -> None:
+    """20,000 times the cosine of 88 degrees is 697.989934. The angle is told by 315/11, of which
+    the cosine is 11 over the root of 99,346; that is 0.000000134 less, so 2.68 um less across."""
+    judged = judge(read_drawing(LEANING.format("697.989934")), program)
+    found = {each.name: each for each in judged.surplus}
+    across = found["Across"]
+    assert across.off is not None and 2_660 <= across.off.amount <= 2_710
+    assert across.may_be_rounding() and across.repeats() is None
+    assert found["Angle"].repeats() is found["Same"].repeats() is True
+
+
+def test_what_is_off_by_more_than_rounding_contradicts(program: Program) -> None:
+    """It is 0.110066 mm more than follows."""
+    judged = judge(read_drawing(LEANING.format("698.1")), program)
+    across, = [each for each in judged.surplus if each.name == "Across"]
+    assert across.off is not None and abs(across.off.amount - 110_066) < 3_000
+    assert across.repeats() is False and not across.may_be_rounding()
