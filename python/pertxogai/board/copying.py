@@ -223,4 +223,4 @@ class _Copying:
             place = self.mapping.at(self.drawing.drawn(ref))
             made[which.value] = spots.get(leader, place) if not isinstance(shape, Point) else place
             spots.setdefault(leader, PointRef(names[shape.name], which))
-        return replace(shape, **made)  # type: ignore[arg-type]
+        return replace(shape, **made)

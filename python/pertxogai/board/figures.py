@@ -61,11 +61,12 @@ def polygon(drawing: Drawing, name: str, spots: tuple[Anchor, ...], sides: int) 
         raise WordFault(name, "has its corner in its centre: draw them apart")
     names = [f"{name}Side{number}" for number in range(1, sides + 1)]
     shapes: list[Shape] = [Circle(name, spots[0], radius, construction=True)]
-    first = spots[1]
+    first: Anchor = spots[1]
     for number, side in enumerate(names, 1):
         turn = 2 * math.pi * number / sides
         way = (x * math.cos(turn) - y * math.sin(turn), x * math.sin(turn) + y * math.cos(turn))
-        end = _beside(centre, way, 1) if number < sides else PointRef(names[0], Which.START)
+        last = PointRef(names[0], Which.START)
+        end: Anchor = _beside(centre, way, 1) if number < sides else last
         shapes.append(Segment(side, first, end))
         first = PointRef(side, Which.END)
     asks = [["on", f"{side}.start", name] for side in names]

@@ -91,7 +91,7 @@ class _Rows:
     """The rows of a drawing's constraints where it is drawn, each of length 1, by the number of the
     constraint; under 0 those of the shapes themselves. basis: what was taken, made square."""
 
-    rows: dict[int, Array]
+    rows: dict[int, list[Array]]
     count: int
     basis: list[Array]
 

@@ -9,7 +9,7 @@ from pertxogai.board.copying import behind, copied
 from pertxogai.board.document import read_document
 from pertxogai.board.line_reader import asking
 from pertxogai.board.mapping import shift
-from pertxogai.drawing import Constraint, Drawing, Valued, words_of
+from pertxogai.drawing import VALUED, Constraint, Drawing, words_of
 
 
 @dataclass(frozen=True)
@@ -37,4 +37,4 @@ class Paste:
 
 def _plain(constraint: Constraint) -> Constraint:
     """A constraint with its value as a number, where that is an expression."""
-    return replace(constraint, expression=None) if isinstance(constraint, Valued) else constraint
+    return replace(constraint, expression=None) if isinstance(constraint, VALUED) else constraint
