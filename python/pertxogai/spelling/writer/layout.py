@@ -26,8 +26,8 @@ class Layout:
     names: what the line of each track is called. points: the name of each knot's point. ways: where
     each knot is drawn in the sketch. bars: the rails that are told by a distance. crossed: those
     with a point on another side than it is drawn. behind: the lines of help behind a rail.
-    left_out: who says something that isn't told. unmeasured: points of help between which a distance
-    stands for what has no value."""
+    left_out: who says something that isn't told. unmeasured: points of help between which a
+    distance stands for what has no value."""
 
     def __init__(self, axes: Axes, rails: Rails, style: Style, care: Care) -> None:
         self.care = care
