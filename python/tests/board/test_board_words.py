@@ -42,14 +42,15 @@ def test_a_blank_may_set_a_unit_apart(value: str, word: str) -> None:
     assert value_word(value) == word
 
 
-@pytest.mark.parametrize("value", ["40 50", "1 000", "40 mm 5", "40 + 5", "40 mm mm", ""])
+@pytest.mark.parametrize("value", ["40 50", "1 000", "40 mm 5", "40 + + +", "40 mm mm", ""])
 def test_two_words_are_no_value(value: str) -> None:
     with pytest.raises(WordFault, match="isn't one value"):
         value_word(value)
 
 
 @pytest.mark.parametrize("value, line", [
-    ("41 mm", "Width: length Bottom 41"), ("1 in", "Width: length Bottom 25.4")])
+    ("41 mm", "Width: length Bottom 41"), ("1 in", "Width: length Bottom 25.4"),
+    ("40 + 5", "Width: length Bottom 40 + 5")])
 def test_another_value_is_taken_with_its_unit(value: str, line: str) -> None:
     found = edited({"do": "value", "number": 1, "value": value})
     assert line in str(found["text"]).splitlines()
@@ -69,7 +70,8 @@ def test_a_value_is_asked_for_with_its_unit(words: list[str], value: str, line: 
     ({"do": "value", "number": 1, "value": "10000000"},
      "Width: '10000000' is beyond 1000000 mm: give lengths in millimetres, or as 1.5in"),
     ({"do": "value", "number": 1, "value": "40 50"}, 
-     "Width: '40 50' isn't one value: write a number, as 40, 0.5in or 60deg"),
+     "Width: '40 50' isn't one value: write a number, as 40, 0.5in or 60deg, or an expression, as "
+     "Width/2"),
     ({"do": "value", "number": 1, "value": "0"}, "Width: '0' is no length, which is above 0"),
     ({"do": "value", "number": 2, "value": "60"},
      "constraint 2 (angle Bottom Left 90deg): '60' is no angle: write 60deg, or a ratio as 1/2"),
