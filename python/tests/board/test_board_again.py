@@ -62,7 +62,7 @@ def test_a_polygon_is_drawn(page: Page, board_of) -> None:
     option(page, "sides", "5")
     page.press(*at((40, 20)))
     page.hover(*at((60, 20)))
-    page.wait("a preview", "return document.querySelector('.preview[d*=\"A\"]')")
+    page.wait("a preview", "return document.querySelector('.preview[d*=\"Z\"]')")
     page.press(*at((60, 20)))
     asks(page, *(f"equal G1Side1 G1Side{number}" for number in (2, 3, 4, 5)))
     assert "construction circle G1 40 20 20\n" in page.text()
@@ -133,11 +133,15 @@ def test_a_row_of_holes(page: Page, board_of) -> None:
     page.press(*at((50, 10.6)))
     asks(page, "x C.centre C1.centre 30", "horizontal C.centre C1.centre", "equal C C1",
          "symmetric C.centre C2.centre about C1.centre", "equal C C2")
+
+
+def test_a_row_that_leans_a_little(page: Page, board_of) -> None:
+    at = board_of(HOLE)
     page.select("C")
     page.keys("w")
     option(page, "count", "2")
     page.press(*at((22, 40)), held=Keys.CONTROL)
-    asks(page, "x C.centre C3.centre 2", "y C.centre C3.centre 30", "equal C C3")
+    asks(page, "x C.centre C1.centre 2", "y C.centre C1.centre 30", "equal C C1")
 
 
 def test_a_ring_of_holes(page: Page, board_of) -> None:

@@ -110,6 +110,7 @@ export class Copies {
   async offset(shapes, pixels) {
     const { plane } = this.board;
     const drawn = this.away(plane.toPlane(pixels));
+    await clicked();
     const size = await typed('offset', String(rounded(drawn, 10) || 1), pixels);
     if (size === null) return null;
     const [x, y] = plane.toPlane(pixels).map((each) => rounded(each, 1000));
@@ -269,6 +270,14 @@ export class Copies {
     const all = this.shapes().map((shape) => board.awayFrom(shape, pixels) / plane.scale);
     return Math.min(...all.filter(Number.isFinite), 1e6);
   }
+}
+
+/**
+ * Waits until a click is over: it would close a dialog that it opens.
+ * @returns {Promise<void>}
+ */
+function clicked() {
+  return new Promise((done) => { setTimeout(done); });
 }
 
 /**

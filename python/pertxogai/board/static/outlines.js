@@ -112,7 +112,7 @@ function tangentPath(first, second, way) {
 export function tangentCentre([x, y], [u, v], way) {
   const to = /** @type {Place} */ ([u - x, v - y]);
   const aside = across(way, to);
-  if (Math.abs(aside) < 1e-3 * Math.hypot(...to)) return null;
+  if (Math.abs(aside) <= 1e-3 * Math.hypot(...to)) return null;
   const share = (to[0] ** 2 + to[1] ** 2) / (2 * aside);
   return [x - way[1] * share, y + way[0] * share];
 }

@@ -206,7 +206,7 @@ function asksOf(figure, clicks) {
     case 'rectangle': return named(clicks, cornersOf(clicks[0].at, clicks[1].at));
     case 'centre-rectangle': return named(
       clicks, ['*Centre', cornersOf(clicks[0].at, clicks[1].at)[1]]);
-    case 'tangent-arc': return [];
+    case 'tangent-arc': return named(clicks, ['*', '*']);
     default: return named(clicks, ['*']);
   }
 }
