@@ -59,7 +59,7 @@ def _copies(drawing: Drawing, given: Fields) -> Edit:
         case "row":
             return Row(shapes, given.um("dx"), given.um("dy"), given.whole("count"))
         case "ring":
-            return Ring(shapes, spot_of(drawing.scene, given.one("about")),
+            return Ring(shapes, spot_of(drawing.scene, given.single("about")),
                         given.whole("count"))
         case "offset":
             return Offset(shapes, given.text("size"), Place(given.um("x"), given.um("y")))

@@ -74,7 +74,7 @@ class Fields:
         """Several lists of texts; none where the field isn't there. Raises FieldRefused."""
         return tuple(Fields({name: each}).texts(name) for each in self._items(name))
 
-    def one(self, name: str) -> Fields:
+    def single(self, name: str) -> Fields:
         """An object. Raises FieldRefused."""
         return Fields.of(self.values.get(name))
 

@@ -65,9 +65,8 @@ def polygon(drawing: Drawing, name: str, spots: tuple[Anchor, ...], sides: int) 
     for number, side in enumerate(names, 1):
         turn = 2 * math.pi * number / sides
         way = (x * math.cos(turn) - y * math.sin(turn), x * math.sin(turn) + y * math.cos(turn))
-        last = PointRef(names[0], Which.START)
-        end: Anchor = _beside(centre, way, 1) if number < sides else last
-        shapes.append(Segment(side, first, end))
+        last: Anchor = PointRef(names[0], Which.START)
+        shapes.append(Segment(side, first, _beside(centre, way, 1) if number < sides else last))
         first = PointRef(side, Which.END)
     asks = [["on", f"{side}.start", name] for side in names]
     return _figure(drawing, shapes, [*asks, ["equal", *names]])

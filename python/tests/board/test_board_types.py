@@ -169,6 +169,10 @@ class Read(Fields):
         self.names.add(name)
         return super().lines(name)
 
+    def single(self, name: str) -> Fields:
+        self.names.add(name)
+        return super().single(name)
+
     def _items(self, name: str) -> Iterator[object]:
         self.names.add(name)
         return super()._items(name)
