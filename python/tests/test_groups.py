@@ -14,7 +14,7 @@ from pertxogai.judging.judgement import Judgement
 from pertxogai.output.drawing_text import JudgedDrawing, drawing_json, drawing_lines
 from pertxogai.output.sketch_text import sketch_json, sketch_lines
 from pertxogai.program import Program
-from pertxogai.program.reports import Verdict
+from pertxogai.program.reports import Verdict, read_why
 
 DRAWINGS = Path(__file__).parent / "drawings"
 TRIANGLE = ("point A 0 0\npoint B 4 0\npoint C 4 3\n"
@@ -98,6 +98,23 @@ def test_of_many_only_the_first_are_asked_for(program: Program, monkeypatch) -> 
     assert groups.keys() == set(numbers[:2])
 
 
+def test_as_many_are_asked_for_as_are_answered_soon(program: Program, monkeypatch) -> None:
+    text = TRIANGLE + "Again: distance A C 5\nOnce: distance A C 5\n"
+    judged = judge(read_drawing(text), program)
+    numbers, check = [each.number for each in judged.surplus], judged.asked.check
+    assert (len(numbers), check.constraints, check.too_many()) == (3, 5, 2)
+    monkeypatch.setattr("pertxogai.judging.groups.TOGETHER", 104)  # Thrice 7 times 5 is 105.
+    assert groups_of(judged.names, program, numbers, check).keys() == set(numbers[:2])
+
+
+def test_what_is_kept_stays_over_where_too_little_is_left_out() -> None:
+    over = "why 1\npart 1 over elements 3 held {} due 3 : A B C\n"
+    line = "c4 : distance A B 5 follows from c1\n"
+    assert not read_why(over.format(4) + line).stays_over()
+    assert read_why(over.format(5) + line).stays_over()
+    assert not read_why("why 0\n").stays_over()
+
+
 SQUARE = ("sketch 1\npoint A 0 0\npoint B 4 0\npoint C 4 3\npoint D 0 3\ndistance A B 4\n"
           "distance A C 5\ndistance A D 3\ndistance B C 3\ndistance B D 5\ndistance C D 4\nend\n")
 
@@ -110,7 +127,7 @@ def test_of_a_sketch_each_that_is_left_out_follows_from_others(program: Program)
 
 
 def test_a_sketch_that_would_take_long_is_not_asked_about(program: Program, monkeypatch) -> None:
-    monkeypatch.setattr("pertxogai.judging.judged_sketch.WORK", 35)
-    judged = judge_sketch("square", SQUARE, program)  # One too many of six: 36.
+    monkeypatch.setattr("pertxogai.judging.judged_sketch.WORK", 41)
+    judged = judge_sketch("square", SQUARE, program)  # One too many of six: 7 times 6.
     assert judged.why is None and judged.excess is not None
     assert not any("follows from" in line for line in sketch_lines(judged))

@@ -14,12 +14,14 @@ from pertxogai.judging.freedoms import freedoms
 from pertxogai.judging.naming import Names
 from pertxogai.judging.trials import written_by
 from pertxogai.program import Solver
-from pertxogai.program.reports import CheckReport, read_why
+from pertxogai.program.reports import CheckReport, WhyReport, read_why
 from pertxogai.program.reports.why import WORK, work_of
 from pertxogai.spelling.facts import Owner
 
 MOST = 64
 """The most dimensions of which the group is asked for."""
+TOGETHER = 8 * WORK
+"""How much the program may have to do for all of them: some ten seconds."""
 
 
 def groups_of(names: Names, program: Solver, numbers: Sequence[int],
@@ -27,8 +29,15 @@ def groups_of(names: Names, program: Solver, numbers: Sequence[int],
     """The others in the group of each of these dimensions, by its place: of the first of them, as
     many as are answered soon, and only where the program leaves a line of it out. check: what the
     program says of the sketch. Raises ProgramError."""
-    most = min(MOST, WORK // max(1, work_of(check)))
-    found = {number: _others(names, program, Owner(number)) for number in numbers[:most]}
+    found: dict[int, frozenset[Owner]] = {}
+    left = TOGETHER
+    for number in numbers[:MOST]:
+        if work_of(check, False) > left:
+            break
+        order = _told_last(names, Owner(number))
+        report = _why(names, program, order)
+        found[number] = _others(names, report, order, Owner(number))
+        left -= work_of(check, report.stays_over())
     taking_part = _taking_part(names)
     told = {number: names.owners(others if taking_part is None else others & taking_part)
             for number, others in found.items()}
@@ -41,15 +50,26 @@ def _taking_part(names: Names) -> frozenset[Owner] | None:
     return free.among() if free is not None and free.excess else None
 
 
-def _others(names: Names, program: Solver, owner: Owner) -> frozenset[Owner]:
-    """The others in the group of a dimension. The program is asked with the lines that it says
-    last, since it leaves out the last ones that it can."""
+def _told_last(names: Names, owner: Owner) -> Sequence[int]:
+    """The places of the lines, those of a dimension last: the program leaves the last ones out
+    that it can."""
     owners = names.spelled.owners
-    order = sorted(range(len(owners)), key=lambda place: owner in owners[place])
+    return sorted(range(len(owners)), key=lambda place: owner in owners[place])
+
+
+def _why(names: Names, program: Solver, order: Sequence[int]) -> WhyReport:
+    """What `why` says of the lines in this order. Raises ProgramError."""
     lines = tuple(names.spelled.sketch.constraints[place] for place in order)
     text = replace(names.spelled.sketch, constraints=lines).text()
+    return read_why(written_by(program, "why", text))
+
+
+def _others(names: Names, report: WhyReport, order: Sequence[int], owner: Owner
+            ) -> frozenset[Owner]:
+    """The others in the group of a dimension."""
+    owners = names.spelled.owners
     group: set[Owner] = set()
-    for part in read_why(written_by(program, "why", text)).parts:
+    for part in report.parts:
         for each in part.left_out:
             if owner in owners[order[each.number - 1]]:
                 for number in (each.number, *each.because):

@@ -88,7 +88,7 @@ def judge_sketch(
     spare = read_spare(_written(name, "spare", text, asks))
     excess = read_excess(_written(name, "excess", text, asks, within))
     why = None
-    if work_of(check) <= WORK:
+    if work_of(check, any(part.stays_over() for part in excess.parts)) <= WORK:
         why = read_why(_written(name, "why", text, asks))
     return JudgedSketch(name, sketch, check, None, None, None, spare, excess, parts, limit,
                         why=why)

@@ -10,7 +10,7 @@ from pertxogai.program.reports.check import CheckReport, Part, take_any_part
 from pertxogai.program.reports.plan import take_constraint
 from pertxogai.program.reports.rows import COUNT, Rows, whole
 
-WORK = 4_000_000
+WORK = 256_000_000
 """What `why` answers within a second or two, by `work_of`."""
 _WHY = re.compile(f"why ({COUNT})")
 _FOLLOWS = re.compile(f"c({COUNT}) : (.*) follows from((?: c{COUNT})+)")
@@ -38,6 +38,11 @@ class ReasonedPart:
     part: Part
     left_out: tuple[Follows, ...]
 
+    def stays_over(self) -> bool:
+        """Whether what is kept is over too: what is left out weighs less than what is too much."""
+        weight = sum(_weight(it.constraint) for it in self.left_out)
+        return weight < self.part.held - self.part.due
+
     def text(self) -> str:
         """The lines of the report."""
         return self.part.text() + "".join(it.text() for it in self.left_out)
@@ -49,15 +54,23 @@ class WhyReport:
 
     parts: tuple[ReasonedPart, ...]
 
+    def stays_over(self) -> bool:
+        """Whether what is kept of some part is over too."""
+        return any(part.stays_over() for part in self.parts)
+
     def text(self) -> str:
         """The report as the program writes it."""
         return f"why {len(self.parts)}\n" + "".join(part.text() for part in self.parts)
 
 
-def work_of(check: CheckReport) -> int:
-    """How much `why` has to do for a sketch of which this is said: it takes as long, about, as the
-    square of the constraints times those of them that are too many."""
-    return check.too_many() * check.constraints ** 2
+def work_of(check: CheckReport, searched: bool) -> int:
+    """How much `why` has to do for a sketch of which this is said. It reads a group off a plan of
+    what is kept, in about the time in which it looks through the constraints. searched: what is
+    kept is over too, so that each group is searched by halves, which takes as long as many looks
+    through the constraints for each of them."""
+    if searched:
+        return 64 * check.too_many() * check.constraints ** 2
+    return (check.too_many() + check.constraints) * check.constraints
 
 
 def read_why(text: str) -> WhyReport:
