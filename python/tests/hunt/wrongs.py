@@ -212,11 +212,18 @@ def _searched(made: Made, answer: Answer) -> Iterator[Found]:
     radii = set(answer.names("free_radii")) & read(made.text).radii.keys()
     if radii != true.sizeless and not freedoms["doubtful"]:
         yield Found(Cause.RADII_UNTRUE, f"told {sorted(radii)}, true {sorted(true.sizeless)}")
-    clashes = [name for group in answer.names("contradictions") for name in group
-               if name.startswith("constraint ") and _number(name) not in true.spare]
+    clashes = [name for group in answer.names("contradictions") if not _may_clash(made, group)
+               for name in group]
     if clashes and not made.is_impossible() and made.kind is not Kind.ELSEWHERE:
         yield Found(Cause.CLASH_UNTRUE, "; ".join(clashes))
     yield from _found_places(made, answer)
+
+
+def _may_clash(made: Made, group: list[str]) -> bool:
+    """Whether one of a group is too many in a drawing that contradicts itself. By rank the others
+    needn't be: a distance that is as great as a right angle lets it be is met without that."""
+    numbers = {_number(name) for name in group if name.startswith("constraint ")}
+    return made.contradicts() and not numbers.isdisjoint(made.truth.spare)
 
 
 def _found_places(made: Made, answer: Answer) -> Iterator[Found]:
