@@ -54,6 +54,11 @@ export class Board {
   /** @type {PlacedMark[]} */
   placed = [];
   /**
+   * The constraints from which what is pointed at or chosen follows.
+   * @type {Set<number>}
+   */
+  grouped = new Set();
+  /**
    * The marks of what is proposed, each with its line.
    * @type {(Mark & { line: string })[]}
    */
@@ -302,7 +307,18 @@ export class Board {
     return this.answer.drawing.constraints.map(({ number, called }) => [
       'markgroup', spare.has(number) && 'spare', excess.has(number) && 'excess',
       (blamed.has(called) || unmet.has(number)) && 'blamed',
-      numbers.has(number) && 'selectedmark'].filter(Boolean).join(' '));
+      numbers.has(number) && 'selectedmark', this.grouped.has(number) && 'grouped',
+    ].filter(Boolean).join(' '));
+  }
+
+  /**
+   * Has the marks of some constraints stand out as a group.
+   * @param {number[]} numbers
+   */
+  group(numbers) {
+    if (String(numbers) === String([...this.grouped])) return;
+    this.grouped = new Set(numbers);
+    this.draw();
   }
 
   /**

@@ -17,6 +17,7 @@ import { Steps } from './steps.js';
 import { Tabs } from './tabs.js';
 import { Files } from './files.js';
 import { Keeping } from './keeping.js';
+import { Groups } from './groups.js';
 import { Keys } from './keys.js';
 
 /** @typedef {import('./protocol').Judged} Judged */
@@ -51,6 +52,7 @@ export class Page {
     this.steps = new Steps(paper, this.board);
     this.keeping = new Keeping(paper, banner);
     this.files = new Files(paper, this.keeping, () => this.board.fit());
+    this.groups = new Groups(this.board, selection);
     this.keys = new Keys(this);
     this.tabs = new Tabs();
     this.acts = this.buttons();
