@@ -259,6 +259,13 @@ def test_a_triangle_that_cannot_be_is_contradicted_by_its_three_lengths():
     assert found.solution is None and found.is_doubtful
 
 
+def test_a_large_drawing_without_places_names_what_contradicts():
+    # The ends of 400 triangles are 3,990 apart, and are told to be 5: so that word is the one.
+    found = found_of(strip(400) + "\nNear: distance P0 P399 5\n")
+    assert found.contradictions == (("Near",),)
+    assert (found.freedoms, found.solution, found.is_doubtful) == (0, None, True)
+
+
 # -- the ends of the range
 
 

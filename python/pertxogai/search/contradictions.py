@@ -6,6 +6,8 @@ places; all of them, where leaving out one alone helps nowhere."""
 from __future__ import annotations
 
 from collections.abc import Iterable, Iterator
+from itertools import takewhile
+from time import thread_time
 
 import numpy as np
 
@@ -25,16 +27,18 @@ MOST_LEFT_OUT = 12
 SHRUNK = 0.02
 """Next to nothing: this part of the size as it is drawn."""
 STEPS, SECONDS = 60, 0.6
-"""The most steps of each of these searches, and the most seconds of all."""
+"""The most steps of each of these searches, and the seconds after which no more are begun."""
 
 
-def contradictions(equations: Equations, found: Found, free: Freedom) -> tuple[Numbers, ...]:
+def contradictions(equations: Equations, found: Found,
+                   free: Freedom | None) -> tuple[Numbers, ...]:
     """Groups of constraints that can't all be met; none where the drawing is solved, or none is
-    found."""
+    found. free: None where the rank isn't asked."""
     if found.is_solved():
         return ()
+    dependencies = free.dependencies if free is not None else ()
     by_rank = [tuple(source.number for source in each.sources if source.by is not By.SHAPE)
-               for each in free.dependencies if not each.repeats()]
+               for each in dependencies if not each.repeats()]
     if not by_rank:
         sharp = _sharp(equations, _worst(equations, found))
         return (sharp,) if sharp else ()
@@ -77,10 +81,11 @@ def _worst(equations: Equations, found: Found) -> Iterator[int]:
 
 
 def _sharp(equations: Equations, numbers: Iterable[int]) -> Numbers:
-    """Those without each of which there are places."""
+    """Those without each of which there are places, of the first that can be tried in time."""
     tried = list(dict.fromkeys(numbers))[:MOST_LEFT_OUT]
-    seconds = SECONDS / max(1, len(tried))
-    return _latest_first(number for number in tried
+    seconds, end = SECONDS / max(1, len(tried)), thread_time() + SECONDS
+    in_time = takewhile(lambda _: thread_time() < end, tried)
+    return _latest_first(number for number in in_time
                          if _is_solved_without(equations, number, seconds))
 
 

@@ -10,6 +10,7 @@ from dataclasses import dataclass
 
 import numpy as np
 from scipy import linalg, sparse
+from scipy.linalg import lapack
 from scipy.sparse import csgraph
 
 from pertxogai.search.arrays import Array, Indices, Matrix, dense, is_sparse
@@ -126,11 +127,26 @@ def _ranked(matrix: Array) -> _Ranked:
     rows, columns = matrix.shape
     if rows == 0 or columns == 0:
         return _Ranked(0, np.eye(columns), np.eye(rows), True)
-    q, triangle, order = linalg.qr(matrix.T, pivoting=True, check_finite=False)
+    reflectors, triangle, order = linalg.qr(matrix.T, pivoting=True, mode="raw",
+                                            check_finite=False)
     diagonal = np.abs(np.diag(triangle))
     rank = int((diagonal > CUT).sum())
     doubtful = (diagonal > CUT / 10) & (diagonal < SURE)
-    return _Ranked(rank, q[:, rank:], _left(triangle, order, rank), not doubtful.any())
+    return _Ranked(rank, _last_columns(*reflectors, rank), _left(triangle, order, rank),
+                   not doubtful.any())
+
+
+def _last_columns(reflectors: Array, scales: Array, first: int) -> Array:
+    """The columns of Q from one on, of a QR as LAPACK keeps it: all of Q would take as long again
+    as the QR."""
+    units = np.asfortranarray(np.eye(len(reflectors))[:, first:])
+    if not units.shape[1]:
+        return units
+    kept = reflectors[:, :len(scales)]
+    _, work, _ = lapack.dormqr("L", "N", kept, scales, units, -1)
+    found, _, _ = lapack.dormqr("L", "N", kept, scales, units, int(work[0]))
+    columns: Array = found
+    return columns
 
 
 def _left(triangle: Array, order: Indices, rank: int) -> Array:

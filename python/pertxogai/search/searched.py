@@ -3,6 +3,7 @@ drawing."""
 from __future__ import annotations
 
 from dataclasses import replace
+from functools import cached_property
 
 from pertxogai.cached import cached_on
 from pertxogai.drawing import Drawing, line_of
@@ -24,6 +25,9 @@ from pertxogai.search.unknowns import By, Source
 
 REST_SECONDS = 0.4
 """What the search may take for what is left without what contradicts."""
+MOST_RANKED = 600
+"""The most unknowns of a drawing without places of which the rank is asked who says what others do:
+of a larger one that alone takes a second, and those are looked at that are off most."""
 
 
 class Searched:
@@ -34,7 +38,11 @@ class Searched:
         self.drawing = drawing
         self.equations = Equations(drawing)
         self.found: Found = solve(self.equations, Budget(seconds=seconds))
-        self.freedom: Freedom = freedom(self.equations, self.found.x)
+
+    @cached_property
+    def freedom(self) -> Freedom:
+        """The freedoms where it was found."""
+        return freedom(self.equations, self.found.x)
 
     def finding(self) -> Finding:
         """All of it by the names of the drawing."""
@@ -44,7 +52,7 @@ class Searched:
         solution = solution_of(self.equations.unknowns, self.found.x)
         return Finding(
             self.freedom.count, motions.of_the_whole, not self.freedom.is_sure,
-            motions.moves, motions.rims, self._repeats(), (), solution,
+            motions.moves, motions.rims, self._repeats(self.freedom), (), solution,
             measure(self.drawing, solution), PlacesBy.NUMBERS)
 
     def finding_with(self, judgement: Judgement, program: Solver) -> Finding:
@@ -65,18 +73,20 @@ class Searched:
         """What is found without places: the freedoms are those without the latest constraint of
         what is taken for a contradiction. Where the search has ended with an edge or a rim that has
         shrunk to nothing, it is stuck, and nothing is told to contradict."""
-        groups = contradictions(self.equations, self.found, self.freedom)
+        free = self.freedom if self.equations.unknowns.count <= MOST_RANKED else None
+        groups = contradictions(self.equations, self.found, free)
         is_stuck = has_shrunk(self.equations, self.found.x)
         drawing = self.drawing
         for latest in sorted({numbers[0] for numbers in groups}, reverse=True):
             drawing = without(drawing, latest)
         rest = Searched(drawing, REST_SECONDS).freedom if groups else self.freedom
-        return Finding(rest.count, rest.motions.of_the_whole, True, repeats=self._repeats(),
+        return Finding(rest.count, rest.motions.of_the_whole, True,
+                       repeats=self._repeats(free) if free is not None else (),
                        contradictions=() if is_stuck else tuple(map(self._names, groups)))
 
-    def _repeats(self) -> tuple[Group, ...]:
+    def _repeats(self, free: Freedom) -> tuple[Group, ...]:
         """What says what others do, the latest first."""
-        repeats = (each for each in self.freedom.dependencies if each.repeats())
+        repeats = (each for each in free.dependencies if each.repeats())
         groups = map(self._group, sorted(repeats, key=_latest, reverse=True))
         return tuple(dict.fromkeys(groups))
 
