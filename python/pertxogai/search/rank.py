@@ -127,12 +127,12 @@ def _ranked(matrix: Array) -> _Ranked:
     rows, columns = matrix.shape
     if rows == 0 or columns == 0:
         return _Ranked(0, np.eye(columns), np.eye(rows), True)
-    reflectors, triangle, order = linalg.qr(matrix.T, pivoting=True, mode="raw",
-                                            check_finite=False)
+    (reflectors, scales), triangle, order = linalg.qr(matrix.T, pivoting=True, mode="raw",
+                                                      check_finite=False)
     diagonal = np.abs(np.diag(triangle))
     rank = int((diagonal > CUT).sum())
     doubtful = (diagonal > CUT / 10) & (diagonal < SURE)
-    return _Ranked(rank, _last_columns(*reflectors, rank), _left(triangle, order, rank),
+    return _Ranked(rank, _last_columns(reflectors, scales, rank), _left(triangle, order, rank),
                    not doubtful.any())
 
 
