@@ -8,7 +8,8 @@ from pertxogai.judging import judge
 from pertxogai.judging.measure import Unit
 from pertxogai.judging.measure.deviation import Deviation
 from pertxogai.judging.measure.limit import Limit
-from pertxogai.judging.roundings import Off, moved_by_rounding
+from pertxogai.judging.roundings import (
+    Off, most_by_rounding, moved_by_rounding, rounded_lines)
 from pertxogai.judging.surplus import Surplus
 from pertxogai.language import Angle, Distance
 from pertxogai.language.numbers import ratios_beside
@@ -49,12 +50,13 @@ def test_a_rounded_value_moves_it_by_as_much_as_a_unit_of_it(factors, moved):
     # Of 4.0000004 mm 0.4 nm are lost, the thousandth of a micrometre of the sketch; 5 is told.
     spelled = spelled_of("4.0000004", "5")
     assert [each.number for each in spelled.rounded] == [1]
-    assert moved_by_rounding(spelled, deviation(1400), hanging_on(*factors)) == moved
+    assert moved_by_rounding(spelled, [1], deviation(1400), hanging_on(*factors)) == moved
 
 
 def test_what_several_rounded_values_move_adds_up():
     spelled = spelled_of("4.0000004", "5.0000004")
-    assert moved_by_rounding(spelled, deviation(1400), hanging_on(30, -9)) == 39
+    assert rounded_lines(spelled) == [1, 2]
+    assert moved_by_rounding(spelled, [1, 2], deviation(1400), hanging_on(30, -9)) == 39
 
 
 def test_an_angle_that_is_no_ratio_is_told_by_those_beside_it():
@@ -73,7 +75,7 @@ def test_an_angle_that_is_no_ratio_is_told_by_those_beside_it():
         return deviation(1410)
 
     assert len(spelled.near) == 1 and not spelled.rounded
-    assert moved_by_rounding(spelled, deviation(1400), measured) == 10
+    assert moved_by_rounding(spelled, spelled.near, deviation(1400), measured) == 10
     assert set(told) == {(9531, 3469), (272, 99)}
 
 
@@ -87,11 +89,35 @@ def test_the_ratios_beside_one_are_the_nearest_on_either_side(ratio, beside):
 
 
 def test_without_a_rounded_value_nothing_moves():
-    assert moved_by_rounding(spelled_of("4", "5"), deviation(1400), hanging_on(30, 9)) == 0
+    spelled = spelled_of("4", "5")
+    assert rounded_lines(spelled) == []
+    assert moved_by_rounding(spelled, [], deviation(1400), hanging_on(30, 9)) == 0
 
 
-def test_what_has_no_places_with_another_value_may_be_all_rounding():
-    assert moved_by_rounding(spelled_of("4.0000004", "5"), deviation(1400), lambda _: None) == 1400
+def test_where_no_place_is_found_on_one_side_it_is_known_of_none():
+    spelled = spelled_of("4.0000004", "5")
+
+    def measured(there: Spelled) -> Deviation | None:
+        line = there.sketch.constraints[0]
+        assert isinstance(line, Distance)
+        return deviation(9_000) if line.length_um > 4_000_000 else None
+
+    assert moved_by_rounding(spelled, [1], deviation(1400), measured) == 0
+    assert moved_by_rounding(spelled, [1], deviation(1400), lambda _: None) == 0
+
+
+def test_of_too_many_values_it_is_not_known():
+    spelled = spelled_of("4.0000004", "5")
+    lines = [1] * 17
+    assert moved_by_rounding(spelled, lines, deviation(1400), hanging_on(30, 9)) == 0
+    assert moved_by_rounding(spelled, lines[1:], deviation(1400), hanging_on(30, 9)) == 480
+
+
+def test_what_is_off_by_more_than_a_thousandth_of_the_drawing_is_no_rounding():
+    # 4 mm is the greatest coordinate.
+    drawing = read_drawing(TRIANGLE.format(4, 5))
+    assert most_by_rounding(drawing, deviation(9)) == 4_000
+    assert most_by_rounding(drawing, deviation(9, Unit.PPB)) == 1_000_000
 
 
 @pytest.mark.parametrize("amount, rounding, repeats, may_be_rounding", [
@@ -120,3 +146,35 @@ def test_what_is_off_by_more_than_rounding_contradicts(program: Program) -> None
     across, = [each for each in judged.surplus if each.name == "Across"]
     assert across.off is not None and abs(across.off.amount - 110_066) < 3_000
     assert across.repeats() is False and not across.may_be_rounding()
+
+
+def test_an_edge_that_takes_no_part_hides_no_contradiction(program: Program) -> None:
+    """The edge of 20 mm ends 5 mm beside where it is told; the other one is told by 1/0, which has
+    no ratio beside it."""
+    judged = judge(read_drawing(
+        "segment A 0 0 20 0\ncoincident A.start Origin\non A.end XAxis\nLong: length A 20\n"
+        "segment B 0 0 10 0.00001\ncoincident B.start Origin\nangle A B 0.0001deg\nlength B 10\n"
+        "Across: x A.end 25\n"), program)
+    found = {each.name: each for each in judged.surplus}
+    assert found["Across"].repeats() is found["Long"].repeats() is False
+
+
+@pytest.mark.parametrize("value, repeats", [("697.989934", None), ("698.02", False)])
+@pytest.mark.parametrize("is_before", [False, True])
+def test_angles_that_take_no_part_change_nothing(
+        program: Program, value: str, repeats: bool | None, is_before: bool) -> None:
+    """Twenty edges from the origin beside it: 0.030 mm too much contradicts, and what follows is
+    rounded."""
+    loose = "".join(f"segment B{i} Origin {10 * i} 5\nlength B{i} {10 * i + 10}\n"
+                    f"angle XAxis B{i} {2 * i + 3}deg\n" for i in range(1, 21))
+    text = LEANING.format(value)
+    judged = judge(read_drawing(loose + text if is_before else text + loose), program)
+    across, = [each for each in judged.surplus if each.name == "Across"]
+    assert across.repeats() is repeats
+
+
+def test_the_greatest_length_has_none_above_it(program: Program) -> None:
+    judged = judge(read_drawing(
+        "segment A 0 0 999999 0\ncoincident A.start Origin\non A.end XAxis\n"
+        "length A 999999.9999999\nx A.end 999000\n"), program)
+    assert all(each.repeats() is not None for each in judged.surplus if each.off is not None)

@@ -5,7 +5,7 @@ from __future__ import annotations
 from collections.abc import Iterable, Mapping
 from typing import cast
 
-from pertxogai.board.panel import Asides, Untold, alone_of, excess_told, lines_shown
+from pertxogai.board.panel import Asides, Untold, alone_of, excess_told, lines_shown, rounded_of
 from pertxogai.board.placed_parts import LaidPart
 from pertxogai.board.protocol import (
     Amount, ChangedJudgement, Excess, Failure, Judgement as JudgementJson, Missing, Places, Point)
@@ -60,7 +60,8 @@ def excess_shown(judgement: Judgement, left: TooMuch | Untold) -> list[Excess]:
         return []
     alone = alone_of(judgement, left.dimensions)
     return [{"number": each.number, "conflicts": each.conflicts,
-             "told": excess_told(each, alone)} for each in left.dimensions]
+             "told": excess_told(each, rounded_of(judgement, each) or alone)}
+            for each in left.dimensions]
 
 
 def places_shown(where: DrawnPlaces) -> Places:

@@ -175,7 +175,8 @@ def _over(judgement: Judgement, left: TooMuch | Untold,
     yield Line(_head(left, bool(others)))
     alone = alone_of(judgement, listed)
     for each in listed:
-        yield Line(f"{each.name}: {excess_told(each, alone)}", list="left out",
+        told = excess_told(each, rounded_of(judgement, each) or alone)
+        yield Line(f"{each.name}: {told}", list="left out",
                    takes=None if each.in_part else each.number)
     if listed and others:
         yield Line("Or one of these may go instead:" if len(listed) == 1
@@ -217,6 +218,13 @@ def alone_of(judgement: Judgement, listed: Sequence[Excess]) -> Surplus | None:
     if len(listed) != 1:
         return None
     return next((each for each in judgement.surplus if each.number == listed[0].number), None)
+
+
+def rounded_of(judgement: Judgement, left: Excess) -> Surplus | None:
+    """A dimension that is left out as one that may go by itself, where it may be off by rounding
+    alone."""
+    return next((each for each in judgement.surplus
+                 if each.number == left.number and each.may_be_rounding()), None)
 
 
 def excess_told(each: Excess, alone: Surplus | None = None) -> str:

@@ -18,7 +18,8 @@ from pertxogai.judging.measure.limit import Limit
 from pertxogai.judging.measure.measuring import measure
 from pertxogai.judging.pieces_measured import off_in_pieces
 from pertxogai.judging.remembering import Remembering
-from pertxogai.judging.roundings import moved_by_rounding
+from pertxogai.judging.roundings import (
+    most_by_rounding, moved_by_rounding, rounded_lines)
 from pertxogai.judging.settled import solution_of
 from pertxogai.judging.trials import Question, Trial, first_good, told_by, written_by
 from pertxogai.program import Answer, Solver
@@ -117,7 +118,7 @@ def _consistent(found: Sequence[Surplus], excess: int) -> Iterator[Surplus]:
     off by more is so on another shape of its rest, and that isn't told."""
     repeats = excess == 1 and any(each.repeats() for each in found)
     for each in found:
-        yield replace(each, off=None) if repeats and each.repeats() is False else each
+        yield replace(each, off=None, rounding=0) if repeats and each.repeats() is False else each
 
 
 def _order(each: Surplus) -> tuple[int, int, int]:
@@ -182,10 +183,13 @@ class _Trials:
 
     def try_all(self, numbers: Sequence[int]) -> None:
         """Tries the rest without each of some constraints, and without some of the last that are
-        too many beside it. Raises _Enough."""
+        too many beside it; and then how far rounding moves what is off. Raises _Enough."""
         last = self._last(numbers)
         for number in numbers:
             self.found[number] = self._tried(number, self._others(number, last))
+        for number in numbers:
+            gone = self._others(number, last) | {number}
+            self.found[number] = self._with_rounding(self.found[number], gone)
 
     def _last(self, numbers: Sequence[int]) -> Gone:
         """The last constraints without which nothing is said twice, and nothing more is free where
@@ -214,8 +218,7 @@ class _Trials:
         if asked.verdict is not Verdict.OVER and says == self.free.excess:
             off = self._off(number, gone, asked)
         then = Then.OVER if others else _then(asked)
-        return Surplus(number, self.drawing.called(number), off, then, self.limit,
-                       rounding=self._rounding(number, gone, asked, off))
+        return Surplus(number, self.drawing.called(number), off, then, self.limit)
 
     def _without(self, gone: frozenset[int]) -> Trial:
         """What the program says of the drawing without some constraints. Raises _Enough."""
@@ -237,13 +240,27 @@ class _Trials:
         places = solution_of(without(self.drawing, gone), asked, asked.solved)
         return worst(measure(self.drawing, places), number)
 
-    def _rounding(self, number: int, gone: frozenset[int], asked: Trial,
-                  off: Deviation | None) -> int:
-        """By how much what is off by more than the limit moves with the rounded values."""
-        if off is None or off.amount <= self.limit.amount:
-            return 0
-        return moved_by_rounding(asked.spelled, off, lambda spelled: self._off(
-            number, gone, told_by(asked, spelled, self.program)))
+    def _with_rounding(self, tried: Surplus, gone: frozenset[int]) -> Surplus:
+        """The same, and of what is off by more than the limit, but no more than rounding is looked
+        at for, by how much rounded values move that."""
+        off = tried.off
+        if off is None or not self.limit.amount < off.amount <= most_by_rounding(self.drawing, off):
+            return tried
+        asked = self._without(gone)
+        return replace(tried, rounding=moved_by_rounding(
+            asked.spelled, self._rounded_lines(asked.spelled, gone), off,
+            lambda spelled: self._off(
+                tried.number, gone, told_by(asked, spelled, self.program))))
+
+    def _rounded_lines(self, spelled: Spelled, gone: frozenset[int]) -> list[int]:
+        """The lines of a rest of which the value was rounded, and of whose words one by rank takes
+        part in something that is too many; from 1."""
+        kept = [number for number in range(1, len(self.drawing.constraints) + 1)
+                if number not in gone]
+        among = {each if each.shape else Owner(kept.index(each.number) + 1)
+                 for each in self.free.among() if each.shape or each.number not in gone}
+        return [line for line in rounded_lines(spelled)
+                if not among.isdisjoint(spelled.owners[line - 1])]
 
     def _off_by_sums(self, number: int, gone: frozenset[int]) -> Deviation | None:
         """How far a constraint is off what the rest says of x and y; None where that doesn't tell
