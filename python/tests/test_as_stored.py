@@ -11,7 +11,7 @@ from pertxogai.commands import main
 from pertxogai.drawing import Length, read_drawing
 from pertxogai.files.kinds import DesignerDrawing, read_inputs
 from pertxogai.judging import judge
-from pertxogai.judging.as_stored import StoredOffs, as_stored
+from pertxogai.judging.as_stored import StoredOff, StoredOffs, as_stored
 from pertxogai.judging.measure import Unit
 from pertxogai.language import Refusal
 from pertxogai.program import Answer, Program, Status
@@ -71,10 +71,26 @@ def test_a_line_runs_through_its_stored_ends(program: Program) -> None:
 
 def test_the_first_beyond_the_limit_is_told_by_its_words(program: Program) -> None:
     """AB is 0.1 mm too long; BC, the root of 0.1 and 3 squared, is too by 1,666 nm."""
-    fault = stored(TRIANGLE.format("4.1"), program).fault
-    assert fault is not None
-    assert (fault.of, fault.text) == (("AB",), "fault c1 tolerance 100000 nm limit 1000")
-    assert stored(TRIANGLE.format("4"), program).fault is None
+    first = stored(TRIANGLE.format("4.1"), program).first
+    assert first == StoredOff(("AB",), 100_000, Unit.NM)
+    assert stored(TRIANGLE.format("4"), program).first is None
+
+
+@pytest.mark.parametrize("long_mm", ["10", "10.0001"])
+def test_the_limit_is_the_drawings_also_where_the_sketch_is_larger(
+        program: Program, long_mm: str) -> None:
+    """Of 8 and 6.0001 four sines less three cosines are 0.0004 / 10.00006, which is shared out over
+    7: 5,714 ppb. The second length makes the sketch ten times as large."""
+    first = stored("segment A 0 0 8 6.0001\nfixed A.start\nLean: angle XAxis A 3/4\n"
+                   f"Long: length A {long_mm}\n", program).first
+    assert first is not None and (first.names, first.unit) == (("Lean",), Unit.PPB)
+    assert abs(abs(first.amount) - 5_714) <= 1
+
+
+def test_what_is_first_is_told_in_the_drawings_nanometres(program: Program) -> None:
+    """4.1 in place of 4.0001 is 0.0999 mm, on a sketch that is ten times as large."""
+    text = TRIANGLE.format("4.1").replace("distance A B 4\n", "distance A B 4.0001\n")
+    assert stored(text, program).first == StoredOff(("AB",), 99_900, Unit.NM)
 
 
 class Refusing:
@@ -147,13 +163,12 @@ def test_the_command_tells_it_behind_the_verdict(program: Program, tmp_path, cap
     lines = capsys.readouterr().out.splitlines()
     at = lines.index("  as stored, measured by the program: within 0.1 mm and 0 ppb")
     assert lines[at + 1] == "    AB: off by 0.1 mm, more than it says"
-    assert ("    the first that the program names: AB (fault c1 tolerance 100000 nm limit 1000)"
-            in lines)
+    assert "    the first beyond the limit: AB, off by 0.1 mm, more than it says" in lines
     main(["judge", str(path), "--as-stored", "--json", "--program", program.path])
     sketch, = json.loads(capsys.readouterr().out)["sketches"]
     first = sketch["as_stored"]["by_program"][0]
     assert first == {"of": ["AB"], "off": 100_000, "unit": "nm", "turned": False}
-    assert sketch["as_stored"]["fault"]["of"] == ["AB"]
+    assert sketch["as_stored"]["first_beyond"] == first
 
 
 def test_without_the_word_nothing_of_it_is_told(program: Program, tmp_path, capsys) -> None:

@@ -11,7 +11,6 @@ from collections.abc import Collection, Iterable, Iterator, Mapping, Sequence
 from dataclasses import dataclass, replace
 from fractions import Fraction
 from math import isqrt
-from typing import assert_never
 
 from pertxogai import language
 from pertxogai.drawing import ORIGIN, Arc, Circle, Drawing
@@ -21,14 +20,11 @@ from pertxogai.judging.measure.deviation import Deviation, Unit
 from pertxogai.judging.measure.limit import MOST
 from pertxogai.judging.measure.measuring import measure
 from pertxogai.judging.measure.solution import Solution
-from pertxogai.judging.naming import Names
 from pertxogai.language import Refusal
 from pertxogai.language.numbers import nearest_whole
 from pertxogai.language.places import Placed, PlacedLine, PlacedPoint
 from pertxogai.program import Solver
-from pertxogai.program.reports import (
-    ConstraintFault, LineFault, Measured, MeasuredFault, MeasuredOff, NotAReport, Refused,
-    TurnedFault, read_answer)
+from pertxogai.program.reports import Measured, MeasuredOff, NotAReport, Refused, read_answer
 from pertxogai.spelling.facts import DATUM, ORIGIN_KNOT, Facts, Knot, Owner
 from pertxogai.spelling.rails import Rail
 from pertxogai.spelling.writing import Track
@@ -50,16 +46,6 @@ class StoredOff:
 
 
 @dataclass(frozen=True)
-class StoredFault:
-    """What the program names as the first that is beyond the limit, or the other way round than it
-    is drawn: the words that say it, or the segment, and the program's line, with numbers of the
-    sketch."""
-
-    of: tuple[str, ...]
-    text: str
-
-
-@dataclass(frozen=True)
 class StoredOffs:
     """How far the stored places are off.
 
@@ -67,13 +53,14 @@ class StoredOffs:
     lines; of several lines that the same words say the one that is off most, in nm and in ppb.
     length_nm and angle_ppb: the least tolerances within which the program says that these hold;
     None where it wasn't asked. others: what else the drawing says, and what its shapes imply, as
-    it was measured here. fault: None where the program names none."""
+    it was measured here. first: of the lines that the program measured the first that is beyond the
+    limit, in the drawing's own units; else the first that is turned; None where all hold."""
 
     by_program: tuple[StoredOff, ...]
     length_nm: int | None
     angle_ppb: int | None
     others: tuple[Deviation, ...]
-    fault: StoredFault | None = None
+    first: StoredOff | None = None
 
 
 def as_stored(judged: Judgement, program: Solver) -> StoredOffs:
@@ -90,8 +77,8 @@ def as_stored(judged: Judgement, program: Solver) -> StoredOffs:
         return StoredOffs((), None, None, others)
     offs = _by_words(judged, stored.lines, told.offs)
     length = whole_up(Fraction(told.tolerances.length_nm, judged.asked.spelled.scale))
-    fault = _fault(judged.names, stored.lines, told.fault)
-    return StoredOffs(offs, length, told.tolerances.angle_ppb, others, fault)
+    return StoredOffs(offs, length, told.tolerances.angle_ppb, others,
+                      _first(judged, stored.lines, told.offs))
 
 
 def _solution(drawing: Drawing) -> Solution:
@@ -141,20 +128,15 @@ def _by_words(judged: Judgement, lines: Sequence[int],
     return tuple(found.values())
 
 
-def _fault(names: Names, lines: Sequence[int], fault: MeasuredFault | None) -> StoredFault | None:
-    """A fault that the program names of these lines."""
-    match fault:
-        case None:
-            return None
-        case ConstraintFault(constraint=number):
-            of = names.constraint(lines[number - 1] + 1)
-        case TurnedFault(of=turned):
-            of = names.constraint(lines[turned.number - 1] + 1)
-        case LineFault(name=name):
-            of = names.elements([name])
-        case _:
-            assert_never(fault)
-    return StoredFault(of, fault.text().strip())
+def _first(judged: Judgement, lines: Sequence[int],
+           offs: Sequence[MeasuredOff]) -> StoredOff | None:
+    """What of these lines the program measured to be off by more than the limit, the first; else
+    the first that is turned."""
+    spelled = judged.asked.spelled
+    found = [_stored_off(judged.names.owners(_words(spelled.owners[place])), off, spelled.scale)
+             for place, off in zip(lines, offs)]
+    beyond = (each for each in found if abs(each.amount) > judged.limit.amount)
+    return next(beyond, None) or next((each for each in found if each.turned), None)
 
 
 def _words(owners: Iterable[Owner]) -> list[Owner]:

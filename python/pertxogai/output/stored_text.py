@@ -20,9 +20,9 @@ def stored_lines(stored: StoredOffs, drawing: Drawing) -> Iterator[str]:
                f"{units_text(stored.angle_ppb, Unit.PPB)}")
         yield from _each((" with ".join(each.names), _off_text(each))
                          for each in stored.by_program)
-        if stored.fault:
-            of = ", ".join(stored.fault.of) or "lines of help"
-            yield f"    the first that the program names: {of} ({stored.fault.text})"
+        if stored.first:
+            first = " with ".join(stored.first.names) or "lines of help"
+            yield f"    the first beyond the limit: {first}, {_off_text(stored.first)}"
     if stored.others:
         yield "  as stored, and not told to the program as it is said; measured:"
         yield from _each((each.called(drawing), _deviation_text(each)) for each in stored.others)
@@ -56,12 +56,14 @@ def stored_json(stored: StoredOffs, drawing: Drawing) -> dict[str, object]:
     """All of it, in whole nm and ppb: of what the program measured less than nothing where the
     places give less than is said."""
     return {
-        "by_program": [{"of": list(each.names), "off": each.amount, "unit": each.unit.value,
-                        "turned": each.turned} for each in stored.by_program],
+        "by_program": list(map(_off_json, stored.by_program)),
         "length_tolerance_nm": stored.length_nm,
         "angle_tolerance_ppb": stored.angle_ppb,
-        "fault": None if stored.fault is None else {"of": list(stored.fault.of),
-                                                    "text": stored.fault.text},
+        "first_beyond": _off_json(stored.first) if stored.first else None,
         "measured": [{"of": each.called(drawing), "off": each.amount, "unit": each.unit.value}
                      for each in stored.others],
     }
+
+
+def _off_json(off: StoredOff) -> dict[str, object]:
+    return {"of": list(off.names), "off": off.amount, "unit": off.unit.value, "turned": off.turned}
