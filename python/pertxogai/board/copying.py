@@ -11,7 +11,7 @@ from pertxogai.board.mapping import Mapping, numbers
 from pertxogai.board.new_names import Figure, free_name
 from pertxogai.drawing import (
     Anchor, AngleBetween, Arc, Circle, Coincident, Collinear, Concentric, Constraint, Drawing,
-    Equal, Horizontal, Midpoint, Parallel, Perpendicular, PointOn, PointRef, Segment, Shape,
+    Equal, Fixed, Horizontal, Midpoint, Parallel, Perpendicular, PointOn, PointRef, Segment, Shape,
     ShapeRef, Symmetric, Tangent, Vertical, Which, WordFault, X_AXIS, Y_AXIS, points_of, spot_of)
 from pertxogai.drawing.checks import standing
 from pertxogai.drawing.geometry import Point
@@ -82,13 +82,15 @@ class Copy:
                 yield constraint
 
     def all_said(self) -> Iterator[Constraint]:
-        """What is said among the shapes that are copied, or of their directions, of their copies;
-        without what their copies have by sharing points."""
+        """What is said among the shapes that are copied, of their copies; where what is level stays
+        so, also of their directions against the axes. Without what the copies have by sharing
+        points, and without what lies fixed."""
         mine = set(self.names)
         for constraint in self.whole.constraints:
             about = named(constraint)
-            directed = isinstance(constraint, DIRECTED) and about <= mine | DIRECTIONS
-            if not about & mine or not (about <= mine or directed):
+            directed = self.levels and isinstance(constraint, DIRECTED)
+            about -= DIRECTIONS if directed else frozenset()
+            if not about or not about <= mine or isinstance(constraint, Fixed):
                 continue
             copied = self.renamed(replace(constraint, name=None))
             if copied != replace(constraint, name=None) and not self._has(copied):
@@ -153,9 +155,9 @@ def _shape(drawing: Drawing, name: str) -> Shape:
 
 def copied(drawing: Drawing, shapes: tuple[str, ...], mapping: Mapping, levels: bool,
            taken: frozenset[str] = frozenset()) -> Copy:
-    """A drawing with a copy of some of its shapes; what goes to where it is stays single. levels:
-    whether what is level or upright stays so. taken: names that aren't free either. Raises
-    WordFault where one doesn't stand."""
+    """A drawing with a copy of some of its shapes; what is mirrored or turned to where it is stays
+    single. levels: whether what is level or upright stays so. taken: names that aren't free either.
+    Raises WordFault where one doesn't stand."""
     for name in shapes:
         standing(drawing.scene, name, name)
     chosen = [each for each in drawing.geometry if each.name in set(shapes)]
@@ -197,7 +199,7 @@ class _Copying:
         return names
 
     def _stays_whole(self, shape: Shape) -> bool:
-        return all(self._stays(ref) for ref in points_of(shape))
+        return not self.mapping.shifts and all(self._stays(ref) for ref in points_of(shape))
 
     def _stays(self, ref: PointRef) -> bool:
         """Whether a point goes to where it is."""

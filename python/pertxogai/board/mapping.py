@@ -35,9 +35,9 @@ class Mapping:
                 self.b * x + side * self.a * y + self.y_um)
 
     @property
-    def keeps_levels(self) -> bool:
-        """Whether what is level goes to what is level."""
-        return abs(self.b) < 1e-12
+    def shifts(self) -> bool:
+        """Whether all goes the same way further, or stays."""
+        return not self.mirrors and self.a == 1.0 and self.b == 0.0
 
 
 def shift(dx_um: float, dy_um: float) -> Mapping:

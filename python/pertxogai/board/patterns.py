@@ -162,7 +162,7 @@ class _Round:
         state = state.with_spokes(self.centre, {ref: ref for ref in points})
         firsts = list(_firsts(placed, points))
         for number in range(1, self.count):
-            copy = copied(state.placed, self.shapes, self._turned(placed, number), False)
+            copy = self._copy(state.placed, self._turned(placed, number), False)
             spoked = state.with_copy(copy, self._turned(drawing, number)).with_spokes(
                 self.centre, {ref: copy.of(ref) for ref in state.spokes})
             copy = replace(copy, whole=spoked.placed)
@@ -174,11 +174,18 @@ class _Round:
 
     def _opposite(self, drawing: Drawing, placed: Drawing) -> Drawing:
         """The drawing with one copy over against what is copied."""
-        copy = copied(placed, self.shapes, self._turned(placed, 1), True)
+        copy = self._copy(placed, self._turned(placed, 1), True)
         points = [["symmetric", str(ref), str(copy.of(ref)), "about", str(self.centre)]
                   for ref in copy.points()]
         found = held(copy, _orders(copy, points, _equal_edges(copy)))
         return _asking(copy.drawn(drawing, self._turned(drawing, 1)), found.lines)
+
+    def _copy(self, drawing: Drawing, mapping: Mapping, levels: bool) -> Copy:
+        """A copy of the shapes. Raises WordFault where all of it stays where it is."""
+        copy = copied(drawing, self.shapes, mapping, levels)
+        if not copy.shapes():
+            raise WordFault(str(self.centre), "is the centre of all of it: there is nothing to turn")
+        return copy
 
     def _turned(self, drawing: Drawing, number: int) -> Mapping:
         return turn(numbers(drawing.drawn(self.centre)), 2 * math.pi * number / self.count)
