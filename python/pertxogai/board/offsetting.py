@@ -97,16 +97,17 @@ class Offset:
 
     def on(self, drawing: Drawing) -> Drawing:
         """The drawing with it. Raises WordFault where they make no outline, or there is no room."""
-        size = self._size(drawing)
-        edges = [edge_of(drawing, name) for name in self.shapes]
+        size, shown = self._size(drawing), placed_by_numbers(drawing)
+        edges = [edge_of(shown, name) for name in self.shapes]
         if len(edges) == 1 and isinstance(edges[0], Round) and not edges[0].is_arc:
-            return self._circle(drawing, edges[0], size)
+            return self._circle(drawing, edges[0], shown.drawn_radius_um(edges[0].name), size)
         if any(isinstance(each, Round) and not each.is_arc for each in edges):
             raise WordFault(self.shapes[0], "and a circle make no outline: offset a circle alone")
         outline = outline_of(drawing, self.shapes)
-        side = self._side(drawing, outline)
+        side = self._side(shown, outline)
         drawn = _Beside(drawing, outline, float(size) * side)
-        placed = _Beside(placed_by_numbers(drawing), outline, float(size) * side)
+        placed = _Beside(shown, outline, float(size) * side)
+        placed.check()
         names = drawn.names()
         scene = behind(replace(_outer(placed.drawing), constraints=()), placed.shapes(names))
         orders = _orders(drawing, outline, names, mm_text(size), placed)
@@ -127,10 +128,10 @@ class Offset:
         assert isinstance(found, Distance)
         return found.value_um
 
-    def _circle(self, drawing: Drawing, rim: Round, size: Fraction) -> Drawing:
-        """The drawing with a circle inside or outside of another."""
+    def _circle(self, drawing: Drawing, rim: Round, own_um: Fraction, size: Fraction) -> Drawing:
+        """The drawing with a circle inside or outside of another, of its own placed radius."""
         is_within = math.dist(numbers(self.at), rim.centre) < rim.radius
-        radius = drawing.drawn_radius_um(rim.name) + (-size if is_within else size)
+        radius = own_um + (-size if is_within else size)
         if radius <= 0:
             raise WordFault(self.size, f"is more than the radius of {rim.name}")
         old, name = drawing.shape(rim.name), free_name(drawing, Figure.CIRCLE)
@@ -207,6 +208,23 @@ class _Beside:
                 last = PointRef(names[0], ENDS[runs[0].is_back])
             made.append(self._made(run, name, first, last))
         return made
+
+    def check(self) -> None:
+        """Raises WordFault where there is no room: where an edge would run against its own."""
+        spots = [numbers(self._spot(number)) for number in range(len(self.outline.runs) + 1)]
+        for run, first, last in zip(self.outline.runs, spots, spots[1:]):
+            if self._is_turned(run, first, last):
+                raise WordFault(run.name, "has no room beside it: offset it by less")
+
+    def _is_turned(self, run: Run, first: PointUm, last: PointUm) -> bool:
+        """Whether the edge beside one, gone along between two places, runs against it."""
+        edge, sense = _oriented(self.drawing, run)
+        if isinstance(edge, Straight):
+            (x, y), (u, v) = way(edge.start, edge.end), way(first, last)
+            return sense * (x * u + y * v) <= 0
+        start, end = (first, last) if sense > 0 else (last, first)
+        turns = [math.atan2(v - edge.centre[1], u - edge.centre[0]) for u, v in (start, end)]
+        return (turns[1] - turns[0]) % (2 * math.pi) > edge.sweep + math.pi / 2
 
     def radius(self, run: Run) -> float:
         """The radius of the arc beside one."""
