@@ -7,6 +7,7 @@ from fractions import Fraction
 
 from pertxogai.board.copying import behind, copied
 from pertxogai.board.document import read_document
+from pertxogai.board.held import placed_by_numbers
 from pertxogai.board.line_reader import asking
 from pertxogai.board.mapping import shift
 from pertxogai.drawing import VALUED, Constraint, Drawing, words_of
@@ -14,8 +15,9 @@ from pertxogai.drawing import VALUED, Constraint, Drawing, words_of
 
 @dataclass(frozen=True)
 class Paste:
-    """Draws shapes of a drawing's text so much further, under free names, with what is said among
-    them, their dimensions too. What ties them to the datum or to others stays behind."""
+    """Draws shapes of a drawing's text so much further than where they are placed, under free
+    names, with what is said among them, their dimensions too, and their directions against the
+    axes. What ties them to a place or to others stays behind."""
 
     source: str
     shapes: tuple[str, ...]
@@ -26,7 +28,7 @@ class Paste:
         """The drawing with them. Raises DrawingRefusal where the text can't be read, WordFault
         where a shape doesn't stand in it."""
         taken = frozenset(each.name for each in (*drawing.geometry, *drawing.values))
-        source = read_document(self.source)
+        source = placed_by_numbers(read_document(self.source))
         copy = copied(source, self.shapes, shift(float(self.dx_um), float(self.dy_um)), True, taken)
         made = behind(drawing, copy.shapes())
         for constraint in copy.all_said():
