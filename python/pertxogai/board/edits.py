@@ -51,12 +51,14 @@ class Draw:
                       if note.before >= count > 0 else note for note in drawing.notes)
         whole = replace(drawing, geometry=(*drawing.geometry, *shapes),
                         constraints=(*drawing.constraints, *said.constraints), notes=notes)
-        return _asking(whole, ([word.replace("*", name) for word in each] for each in self.asks))
+        return _asking(whole, ([_named(word, name) for word in each] for each in self.asks))
 
     def _said(self, drawing: Drawing, name: str) -> Expansion:
         """The shapes of the figure, and what it asks for by itself."""
         match self.figure:
-            case Figure.SLOT if self.radius_um is not None:
+            case Figure.SLOT:
+                if self.radius_um is None:
+                    raise WordFault(name, "needs a radius")
                 return slot(drawing, name, self.spots, self.radius_um)
             case Figure.POLYGON:
                 return polygon(drawing, name, self.spots, self.sides)
@@ -232,6 +234,11 @@ def _asking(drawing: Drawing, asks: Iterable[Sequence[str]]) -> Drawing:
     for words in asks:
         drawing = asking(drawing, list(words))
     return drawing
+
+
+def _named(word: str, name: str) -> str:
+    """A word in which a `*` in front stands for a name."""
+    return name + word[1:] if word.startswith("*") else word
 
 
 def _words(spot: Anchor) -> str:

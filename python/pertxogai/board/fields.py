@@ -8,6 +8,8 @@ from fractions import Fraction
 from pertxogai.drawing import um_of_mm
 
 MOST_ITEMS = 10_000
+MOST_MM = 10_000_000
+"""No number of millimetres is greater: ten times what a drawing may have."""
 
 
 class FieldRefused(Exception):
@@ -54,6 +56,8 @@ class Fields:
         value = self.values.get(name)
         if isinstance(value, bool) or not isinstance(value, (int, float)):
             raise FieldRefused(f"{name!r} has to be a number of millimetres")
+        if not -MOST_MM <= value <= MOST_MM:
+            raise FieldRefused(f"{name!r} is no number of at most {MOST_MM} millimetres")
         try:
             return um_of_mm(value)
         except ValueError as error:
@@ -76,6 +80,8 @@ class Fields:
 
     def single(self, name: str) -> Fields:
         """An object. Raises FieldRefused."""
+        if not self.has(name):
+            raise FieldRefused(f"{name!r} has to be an object of JSON")
         return Fields.of(self.values.get(name))
 
     def objects(self, name: str) -> tuple[Fields, ...]:

@@ -255,6 +255,81 @@ def test_a_text_that_cant_be_read_isnt_pasted() -> None:
     assert "text" not in found and found["refused"]["line"] == 1
 
 
+def test_what_is_pasted_lies_where_it_is_shown() -> None:
+    """It is drawn about (14, 41), and shown about (15, 40)."""
+    source = "circle C 14 41 7\nx C 15\ny C 40\nradius C 7\n"
+    assert lines("point Q 9 9\n", do="paste", source=source, shapes=["C"], dx=35, dy=10)[1:] == [
+        "circle C1 50 50 7", "radius C1 7"]
+
+
+@pytest.mark.parametrize("text", ["point Q 9 9\n", "segment A 0 0 20 3\n"])
+def test_what_is_pasted_where_it_was_is_drawn(text: str) -> None:
+    found = lines(text, do="paste", source="segment A 0 0 20 3\nangle A 10deg\nfixed A.start\n",
+                  shapes=["A"], dx=0, dy=0)
+    name = "S1"
+    assert len(found) == 3 and found[1].startswith(f"segment {name} 0 0 ")
+    assert found[2] == f"angle {name} 10deg"
+
+
+# Only what is true of a copy is said of it, and as it is shown.
+
+def test_a_turned_copy_isnt_level_as_what_it_is_copied_from() -> None:
+    found = lines("segment S 10 0 20 0\nparallel S XAxis\n", do="ring", shapes=["S"],
+                  about=ORIGIN, count=3)
+    assert [each for each in found if "Axis" in each] == ["parallel S XAxis"]
+    assert "angle S S3 +120deg" in found
+
+
+def test_a_copy_mirrored_in_a_slanted_line_isnt_level() -> None:
+    text = "segment S 10 0 20 0\nsegment M 30 0 40 20\nparallel S XAxis\nperpendicular S YAxis\n"
+    found = lines(text, do="mirror", shapes=["S"], about="M")
+    assert [each for each in found if "Axis" in each] == [
+        "parallel S XAxis", "perpendicular S YAxis"]
+    level = lines(text, do="mirror", shapes=["S"], about="YAxis")
+    assert "parallel S1 XAxis" in level
+
+
+def test_what_a_ring_is_about_isnt_turned() -> None:
+    said = trouble(HOLE, do="ring", shapes=["C1"], about={"point": "C1.centre"}, count=4)
+    assert "nothing to turn" in said
+
+
+def test_a_circle_beside_one_goes_by_its_told_radius() -> None:
+    text = "circle C 0 0 5\nradius C 50\ncoincident C.centre Origin\n"
+    inside = lines(text, do="offset", shapes=["C"], size="2", x=30, y=0)
+    assert inside[1] == "circle C1 C.centre 48" and inside[-1] == "radius C1 48"
+
+
+def test_an_outline_goes_to_the_side_of_what_is_shown() -> None:
+    """It is drawn 10 mm wide, and told to be 100."""
+    text = ("rectangle R 0 0 10 10\ncoincident RBottom.start Origin\nlength RBottom 100\n"
+            "length RRight 100\n")
+    inside = lines(text, do="offset", shapes=SIDES, size="3", x=50, y=50.5)
+    outside = lines(text, do="offset", shapes=SIDES, size="3", x=50, y=-1)
+    assert "segment S1 3 3 7 3" in inside and "segment S1 -3 -3 13 -3" in outside
+
+
+@pytest.mark.parametrize("text, shapes, size, at", [
+    ("rectangle R 0 0 10 10\n", SIDES, "6", (5, 5)),
+    ("segment A 0 0 8 0\nsegment B A.end 4 9\nsegment C B.end A.start\n", ["A", "B", "C"], "5",
+     (4, 3)),
+    (SLOT, OF_SLOT, "9", (15, 0))])
+def test_an_outline_that_has_no_room_is_refused(text: str, shapes: list[str], size: str,
+                                                at: tuple[float, float]) -> None:
+    said = trouble(text, do="offset", shapes=shapes, size=size, x=at[0], y=at[1])
+    assert "has no room" in said or "smaller" in said
+
+
+@pytest.mark.parametrize("edit", [
+    {"do": "row", "shapes": ["C1"], "dx": 1e308, "dy": 0, "count": 3},
+    {"do": "row", "shapes": ["C1"], "dx": 10 ** 400, "dy": 0, "count": 3},
+    {"do": "ring", "shapes": ["C1"], "count": 3},
+    {"do": "draw", "figure": "slot", "spots": [place(0, 0), place(9, 0)]}])
+def test_what_an_edit_may_not_have_is_told(edit: dict[str, object]) -> None:
+    said = trouble(HOLE, **edit)
+    assert "a fault of the board" not in said and said
+
+
 # Held with none too many, and placed.
 
 COPIES: list[tuple[str, dict[str, object]]] = [

@@ -12,6 +12,9 @@ import { arcThrough } from './tools.js';
  * @typedef {{ at: (place: Place) => Place, mirrors: boolean }} Carried
  */
 
+/** The sine of the least angle at which an arc goes on aside, as on the server: half a degree. */
+const STRAIGHT = Math.sin(Math.PI / 360);
+
 /**
  * The path of the figure of a tool through places in pixels. way: the direction in which a tangent
  * arc begins.
@@ -112,7 +115,7 @@ function tangentPath(first, second, way) {
 export function tangentCentre([x, y], [u, v], way) {
   const to = /** @type {Place} */ ([u - x, v - y]);
   const aside = across(way, to);
-  if (Math.abs(aside) <= 1e-3 * Math.hypot(...to)) return null;
+  if (Math.abs(aside) <= STRAIGHT * Math.hypot(...to)) return null;
   const share = (to[0] ** 2 + to[1] ** 2) / (2 * aside);
   return [x - way[1] * share, y + way[0] * share];
 }
