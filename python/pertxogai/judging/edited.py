@@ -61,9 +61,9 @@ class EditedDrawing:
 
     def measured(self, solution: Solution) -> Measurement:
         """How far its constraints are off on some places. Raises MissingPlace."""
-        last, redrawing = self._known.measurement, self._redrawing
-        found = (Measurement(self.drawing, solution) if last is None or redrawing is None
-                 else last.redrawn(redrawing, solution))
+        last = self._known.measurement
+        found = (Measurement(self.drawing, solution) if last is None
+                 else last.redrawn(self.drawing, solution))
         if found.all:
             self.analysis.measurement = found
         return found

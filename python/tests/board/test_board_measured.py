@@ -10,7 +10,7 @@ import pytest
 
 from pertxogai.drawing import ORIGIN, Drawing, Meetings, moved, read_drawing
 from pertxogai.judging.edited import EditedDrawing
-from pertxogai.judging.measure import Frame, Solution, measure
+from pertxogai.judging.measure import Frame, Measurement, Solution, measure
 from pertxogai.judging.measure.solution import MissingPlace
 from pertxogai.spelling import Style
 from test_board_sight import PATHS, as_drawn, edited
@@ -58,6 +58,18 @@ def test_in_another_frame_all_is_measured_anew() -> None:
     assert [each.amount for each in before.measured(places).all][:2] == [0, 0]
     again = EditedDrawing(drawing, before).measured(turned)
     assert [each.amount for each in again.all][:2] == [0, 20_000_000]
+
+
+def test_what_is_drawn_elsewhere_is_measured_whatever_it_is_said_to_be_made_of() -> None:
+    """The segment of the second drawing is given from outside and drawn 1 mm further: it lies where
+    the first one's is drawn, so that each of its ends is 1 mm off."""
+    first, second = (read_drawing(f"outer segment A 0 {y} 40 {y}\nfixed A\n") for y in (0, 1))
+    drawing = Drawing(second.geometry, first.constraints)
+    measured = Measurement(first, as_drawn(first))
+    assert not any(each.amount for each in measured.all)
+    found = measured.redrawn(drawing, as_drawn(first))
+    assert found.all == Measurement(drawing, as_drawn(first)).all
+    assert {each.amount for each in found.all} == {1_000_000}
 
 
 def test_only_the_drawing_before_is_kept() -> None:

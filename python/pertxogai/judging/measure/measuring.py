@@ -10,8 +10,7 @@ from contextlib import suppress
 from dataclasses import dataclass, field
 from functools import cached_property
 
-from pertxogai.drawing import Arc, Constraint, Drawing, PointRef, ShapeRef, Which, points_of
-from pertxogai.drawing.changes import Redrawing
+from pertxogai.drawing import Arc, Constraint, Drawing, PointRef, ShapeRef, Which, moved, points_of
 from pertxogai.drawing.mentions import named
 from pertxogai.exact import whole_up
 from pertxogai.judging.measure.amounts import Amounts, amounts
@@ -48,12 +47,12 @@ class Measurement:
         implied = _all_implied(Placed(self.drawing, self.solution))
         return (*(each for some in self.by_constraint for each in some), *implied)
 
-    def redrawn(self, redrawing: Redrawing, solution: Solution) -> Measurement:
-        """The measurement of what an edit has made of the drawing, on its places. What all lies as
-        it did isn't measured again."""
-        found = Measurement(redrawing.new, solution)
-        if solution.frame == self.solution.frame:
-            elsewhere = redrawing.elsewhere | solution.elsewhere(self.solution)
+    def redrawn(self, drawing: Drawing, solution: Solution) -> Measurement:
+        """The measurement of what an edit has made of the drawing, on its places. What all is drawn
+        and lies as it did isn't measured again."""
+        found, elsewhere = Measurement(drawing, solution), moved(drawing, self.drawing)
+        if elsewhere is not None and solution.frame == self.solution.frame:
+            elsewhere |= solution.elsewhere(self.solution)
             numbered = enumerate(zip(self.drawing.constraints, self.by_constraint), start=1)
             found._known.update({(number, id(of)): deviations for number, (of, deviations)
                                  in numbered if elsewhere.isdisjoint(named(of))})
