@@ -264,8 +264,9 @@ def _surplus(each: Surplus) -> str:
     if each.repeats():
         return _repeat(off_um or Fraction(0))
     by = amount_text(each.off) if off_um is None else _mm(off_um)
-    return f"off by {by}, which may be rounding" if each.may_be_rounding() else (
-        f"a contradiction by {by}")
+    if each.may_be_rounding():
+        return f"off by {by}; rounding moves it by {units_text(each.rounding, each.off.unit)}"
+    return f"a contradiction by {by}"
 
 
 def _fault(judgement: Judgement, failure: Failure, short: str) -> Iterator[Line]:

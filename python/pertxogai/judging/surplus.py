@@ -29,6 +29,9 @@ from pertxogai.spelling.facts import Owner
 
 CALLS = 1000
 """The most calls of the program for it."""
+ROUNDING_WORK = 20_000
+"""The most constraints of the rests that are asked for with rounded values told otherwise; how far
+rounding moves what is left isn't known then."""
 WORK, TRIAL = 4000, 30
 """The most constraints, over all drawings that are tried, each of which counts as so many more;
 what is left is listed untried."""
@@ -58,8 +61,8 @@ class Surplus:
     then: Then | None = None
     limit: Limit = Limit()
     others: tuple[str, ...] = ()
-    """Those that it follows from, as the program names them; none where it wasn't asked, or keeps
-    it."""
+    """Those that it follows from, as the program names them, of those that by rank take part in
+    something that is too many; none where it wasn't asked, or keeps it."""
     rounding: int = 0
 
     def repeats(self) -> bool | None:
@@ -179,7 +182,7 @@ class _Trials:
         self.program = _Counted(Remembering(question.program))
         self.found: dict[int, Surplus] = {}
         self._known: dict[frozenset[int], Trial] = {}
-        self._work = WORK
+        self._work, self._rounding_work = WORK, ROUNDING_WORK
 
     def try_all(self, numbers: Sequence[int]) -> None:
         """Tries the rest without each of some constraints, and without some of the last that are
@@ -247,9 +250,12 @@ class _Trials:
         if off is None or not self.limit.amount < off.amount <= most_by_rounding(self.drawing, off):
             return tried
         asked = self._without(gone)
+        lines = self._rounded_lines(asked.spelled, gone)
+        self._rounding_work -= 2 * len(lines) * len(self.drawing.constraints)
+        if self._rounding_work < 0:
+            raise _Enough
         return replace(tried, rounding=moved_by_rounding(
-            asked.spelled, self._rounded_lines(asked.spelled, gone), off,
-            lambda spelled: self._off(
+            asked.spelled, lines, off, lambda spelled: self._off(
                 tried.number, gone, told_by(asked, spelled, self.program))))
 
     def _rounded_lines(self, spelled: Spelled, gone: frozenset[int]) -> list[int]:

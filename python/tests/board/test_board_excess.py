@@ -4,16 +4,17 @@ from __future__ import annotations
 
 from collections.abc import Callable, Mapping, Sequence
 from dataclasses import dataclass, field
+from fractions import Fraction
 
 import pytest
 
 from boards import drawing
 from pertxogai.board.calls import Desk
-from pertxogai.board.panel import excess_told
+from pertxogai.board.panel import excess_told, rounded_of
 from pertxogai.drawing import read_drawing
-from pertxogai.judging import Excess, Rest, TooMuch, judge_at_once, too_much
+from pertxogai.judging import Excess, Rest, TooMuch, judge, judge_at_once, too_much
 from pertxogai.language import Angle, Sketch
-from pertxogai.program import Answer, ProgramTimedOut, Solver, Status
+from pertxogai.program import Answer, Program, ProgramTimedOut, Solver, Status
 
 TRIANGLE = """segment A 0 0 40 0
 segment B A.end 20 30
@@ -526,3 +527,17 @@ def test_what_is_well_and_says_too_much_does_not_say_that_it_is_just_enough(prog
     assert any(str(each).startswith("Just as many dimensions as fix it. ") for each in lines)
     lines = told(text + "End: x S.end +30\n", "judge", program)
     assert more in lines and not any(str(each).startswith("Just") for each in lines)
+
+
+def test_what_may_be_rounding_is_no_contradiction_beside_others(program: Program) -> None:
+    """The cosine of 88 degrees, told by 315/11, is off by 0.000000134, which is 2.68 um of 20 m."""
+    drawing = read_drawing(
+        "segment S -100 0 -65 999\nsegment A 0 0 698 19988\non S.start XAxis\nx S.start -100\n"
+        "length S 1000\nangle S 88deg\ncoincident A.start Origin\nparallel S A\n"
+        "length A 20000\nAcross: x A.end 697.989934\n")
+    across, = [each for each in judge(drawing, program).surplus if each.name == "Across"]
+    left = Excess(across.number, "Across", True, Fraction(3))
+    assert "contradiction" in excess_told(left)
+    rounded = rounded_of(judge(drawing, program), left)
+    assert excess_told(left, rounded).startswith("off by 0.0026")
+    assert "; rounding moves it by 0.00" in excess_told(left, rounded)
