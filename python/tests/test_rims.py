@@ -101,8 +101,93 @@ def test_a_hole_that_leaves_its_plate_is_told(program, x, told):
     assert [each.text() for each in found.warnings] == told
 
 
+@pytest.mark.parametrize("y", [-0.4, 0.4])
+def test_a_rim_round_a_place_on_an_edge_is_on_no_side_of_it(program, y):
+    """Its centre is drawn above the edge, or below, and is placed on it, to a nanometre."""
+    text = ("rectangle Plate 0 0 118 79\ncircle Notch 47 " + str(y) + " 5\n"
+            "coincident PlateBottom.start Origin\nlength PlateBottom 120\nlength PlateRight 80\n"
+            "on Notch PlateBottom\nx Notch 45\ndiameter Notch 12\n")
+    assert not judge(read_drawing(text), program).warnings
+
+
+SLOPE = """segment Base 0 0 40 0
+segment Slope Base.end 10 30
+segment Back Slope.end Base.start
+circle Hole 12 9 3
+coincident Base.start Origin
+horizontal Base
+length Base 41
+x Slope.end 10
+y Slope.end 31
+x Hole {x}
+y Hole 9
+radius Hole 3
+"""
+
+
+@pytest.mark.parametrize(("x", "told"), [
+    # The slope runs from 41, 0 to 10, 31: x + y = 41.
+    (12, []),
+    (40, ["Hole lies on the other side of the outline of Base than it is drawn"]),
+    (-9, ["Hole lies on the other side of the outline of Base than it is drawn"]),
+])
+def test_a_hole_beside_a_triangle_is_told(program, x, told):
+    found = judge(read_drawing(SLOPE.format(x=x)), program)
+    assert [each.text() for each in found.warnings] == told
+
+
 def test_what_is_drawn_so_is_not_told(program):
     text = PLATE.format(x=5).replace("circle Hole 47", "circle Hole 3")
     assert not judge(read_drawing(text), program).warnings
     text = PLATE.format(x=5).replace("circle Hole", "construction circle Hole")
     assert not judge(read_drawing(text), program).warnings
+
+
+LINK = """segment Lower 0 -10 62 -9
+arc East 60 0.5 Lower.end 61 11
+segment Upper East.end 1 9
+arc West 0 0.3 Upper.end Lower.start
+circle Hole 59 1 4
+tangent Lower East
+tangent East Upper
+tangent Upper West
+tangent West Lower
+coincident West Origin
+horizontal West East
+distance West East 60
+radius East 10
+equal East West
+diameter Hole 8
+"""
+
+
+@pytest.mark.parametrize(("lines", "told"), [
+    ("concentric Hole East\n", False),                  # In the middle of the rounded end.
+    ("on Hole XAxis\nx Hole 60\n", False),
+    ("on Hole XAxis\nx Hole 59.999\n", False),
+    ("on Hole XAxis\nx Hole 60.001\n", False),
+    ("on Hole XAxis\nx Hole 90\n", True),
+])
+def test_what_lies_on_the_chord_of_an_arc_lies_within(program, lines, told):
+    found = judge(read_drawing(LINK + lines), program)
+    assert [each.text() for each in found.warnings] == (
+        ["Hole lies on the other side of the outline of Lower than it is drawn"] if told else [])
+
+
+@pytest.mark.parametrize(("at", "edge"), [
+    ("60 77", "PlateTop"), ("60 2", "PlateBottom"), ("3 40", "PlateLeft"), ("116 40", "PlateRight")])
+def test_a_hole_that_is_asked_for_on_an_edge_is_on_no_side_of_it(program, at, edge):
+    other = "x Hole 60" if edge in ("PlateTop", "PlateBottom") else "y Hole 40"
+    text = (f"rectangle Plate 0 0 118 79\ncircle Hole {at} 5\ncoincident PlateBottom.start Origin\n"
+            "length PlateBottom 120\nlength PlateRight 80\ndiameter Hole 12\n"
+            f"on Hole {edge}\n{other}\n")
+    told = [each.text() for each in judge(read_drawing(text), program).warnings]
+    assert not any("other side" in each for each in told)
+
+
+def test_an_outline_that_begins_on_the_edge_of_another_is_on_no_side_of_it(program):
+    text = ("rectangle A 0 0 40 30\nrectangle B 38 5 80 25\ncoincident ABottom.start Origin\n"
+            "length ABottom 40\nlength ARight 30\non BBottom.start ARight\nlength BBottom 40\n"
+            "length BRight 20\ny BBottom.start 5\n")
+    told = [each.text() for each in judge(read_drawing(text), program).warnings]
+    assert not any("other side" in each for each in told)

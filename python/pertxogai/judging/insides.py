@@ -6,9 +6,9 @@ from dataclasses import dataclass
 
 from pertxogai.classes import Classes
 from pertxogai.drawing import PointRef
-from pertxogai.exact import Vector, between, cross, square
+from pertxogai.exact import Vector, between, cross, dot, square
 from pertxogai.judging.edges import Edge, Edges
-from pertxogai.judging.rims import Rim, Round
+from pertxogai.judging.rims import TOUCHING_NM, Rim, Round
 
 
 @dataclass(frozen=True)
@@ -27,24 +27,35 @@ class Loop:
 
     def has(self, spot: Vector, is_placed: bool) -> bool:
         """Whether a place lies within it, as it is drawn or placed."""
-        rims = [each.placed if is_placed else each.drawn for each in self.rims]
-        chords = [each.placed if is_placed else each.drawn for each in self.edges]
-        ways = [(each.start, each.end) for each in chords]
-        ways += [each.ends for each in rims if each.ends is not None]
+        rims = self._rims(is_placed)
+        ways = [*self._ways(is_placed), *(each.ends for each in rims if each.ends is not None)]
         inside = sum(_is_passed(spot, *way) for way in ways)
         return (inside + sum(_is_bulge(spot, each) for each in rims)) % 2 == 1
+
+    def is_on(self, spot: Vector, is_placed: bool) -> bool:
+        """Whether a place lies on it, as near as what touches: on neither side then."""
+        return (any(_is_on_way(spot, *each) for each in self._ways(is_placed))
+                or any(each.is_on_circle(spot) for each in self._rims(is_placed)))
+
+    def _rims(self, is_placed: bool) -> list[Round]:
+        return [each.placed if is_placed else each.drawn for each in self.rims]
+
+    def _ways(self, is_placed: bool) -> list[tuple[Vector, Vector]]:
+        chords = (each.placed if is_placed else each.drawn for each in self.edges)
+        return [(each.start, each.end) for each in chords]
 
 
 def leavers(edges: Edges, outline: Sequence[Edge],
             rims: Sequence[Rim]) -> Iterator[tuple[str, str]]:
     """Each circle or closed outline that lies on the other side of another outline than it is
-    drawn, and the name of that one's first edge."""
+    drawn, and the name of that one's first edge. What lies on that one is on no side of it."""
     loops = [*_loops(edges, outline, rims)]
     for thing in loops:
         drawn, placed = thing.places()
         for loop in loops:
             if loop is not thing and loop.has(drawn, False) is not loop.has(placed, True):
-                yield thing.name, loop.name
+                if not loop.is_on(drawn, False) and not loop.is_on(placed, True):
+                    yield thing.name, loop.name
 
 
 def _loops(edges: Edges, outline: Sequence[Edge], rims: Sequence[Rim]) -> Iterator[Loop]:
@@ -75,18 +86,40 @@ def _ends(edges: Edges, thing: Edge | Rim) -> tuple[PointRef, PointRef]:
     return start, end
 
 
+def _is_on_way(spot: Vector, start: Vector, end: Vector) -> bool:
+    """Whether a place is as near to the way between two others as what touches."""
+    way, here, near = between(start, end), between(start, spot), TOUCHING_NM ** 2
+    along, long = dot(way, here), square(way)
+    if not 0 < along < long:
+        return min(square(here), square(between(end, spot))) <= near
+    return cross(way, here) ** 2 <= near * long
+
+
 def _is_passed(spot: Vector, start: Vector, end: Vector) -> bool:
-    """Whether a way passes to the right of a place, half a nanometre above it."""
+    """Whether a way passes to the right of a place, half a nanometre above it. One that leads
+    through it counts as passing to the right of its way, as for `_is_bulge`."""
     (x, y), (x1, y1), (x2, y2) = spot, start, end
     if (y1 > y) == (y2 > y):
         return False
-    rise, up = 2 * (y2 - y1), 2 * (y - y1) + 1
-    aside = (x - x1) * rise - up * (x2 - x1)
-    return aside < 0 if rise > 0 else aside > 0
+    aside = cross(between(_twice(start), _twice(end)), between(_twice(start), _above(spot)))
+    return aside >= 0 if y2 > y1 else aside < 0
 
 
 def _is_bulge(spot: Vector, rim: Round) -> bool:
-    """Whether a place lies between an arc and its chord, or within a circle."""
-    if square(between(rim.centre, spot)) >= rim.radius ** 2:
+    """Whether a place, half a nanometre above, lies between an arc and its chord, or within a
+    circle."""
+    if square(between(_twice(rim.centre), _above(spot))) >= 4 * rim.radius ** 2:
         return False
-    return rim.ends is None or cross(between(*rim.ends), between(rim.ends[0], spot)) < 0
+    if rim.ends is None:
+        return True
+    start, end = map(_twice, rim.ends)
+    return cross(between(start, end), between(start, _above(spot))) < 0
+
+
+def _twice(spot: Vector) -> Vector:
+    return 2 * spot[0], 2 * spot[1]
+
+
+def _above(spot: Vector) -> Vector:
+    """Twice a place that is half a nanometre above another: level with no whole one."""
+    return 2 * spot[0], 2 * spot[1] + 1

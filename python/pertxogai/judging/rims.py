@@ -37,6 +37,11 @@ class Round:
         return (cross(between(start, end), between(start, spot)) < 0
                 and _is_apart(start, spot) and _is_apart(end, spot))
 
+    def is_on_circle(self, spot: Vector) -> bool:
+        """Whether a place is as near to its whole circle as what touches."""
+        least, most = max(0, self.radius - TOUCHING_NM), self.radius + TOUCHING_NM
+        return least ** 2 <= square(between(self.centre, spot)) <= most ** 2
+
     def is_cut_by(self, chord: Chord) -> bool:
         """Whether a segment crosses it, and doesn't only touch it or end on it."""
         return any(map(self.has, self._cuts(chord)))
