@@ -57,8 +57,10 @@ class Cursor:
         return read_um(self.word(meant))
 
     def begins_value(self) -> bool:
-        """Whether the next word begins a number or an expression."""
-        return begins_value(self.peek(), self.scene.values)
+        """Whether the next word begins a number or an expression: a shape that stands goes before
+        a value."""
+        word = self.peek()
+        return not self.scene.has(word.partition(".")[0]) and begins_value(word, self.scene.values)
 
     def rest(self, meant: str) -> str:
         """All words that are left, with single blanks between them."""

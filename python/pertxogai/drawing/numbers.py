@@ -12,7 +12,7 @@ from pertxogai.drawing.names import nearest
 from pertxogai.drawing.places import UM_PER_MM
 from pertxogai.drawing.refusal import WordFault
 from pertxogai.drawing.values.expression import Expression, Function
-from pertxogai.drawing.values.parsing import read_expression
+from pertxogai.drawing.values.parsing import NAME, read_expression
 from pertxogai.drawing.values.quantity import Misfit
 from pertxogai.drawing.values.table import Values
 
@@ -29,7 +29,7 @@ _DEGREES = re.compile(r"([+-]?)([0-9]{1,3}(?:\.[0-9]{1,20})?)(?:deg|°)\Z")
 _RATIO = re.compile(r"([+-]?)([0-9]{1,5})/([0-9]{1,5})\Z")
 _PLAIN = re.compile(r"[+-]?[0-9.][^-+*/()×·÷−\s]*\Z")
 """What is meant as a number alone, sound or not."""
-_NAME = re.compile(r"[^\W\d]\w*")
+_NAME = re.compile(NAME)
 _FUNCTIONS = frozenset(each.value for each in Function)
 _UM_OF_UNIT = {None: Fraction(UM_PER_MM), "mm": Fraction(UM_PER_MM), "in": Fraction(25_400)}
 

@@ -46,7 +46,7 @@ def read_drawing(text: str) -> Drawing:
     if len(text.encode("utf-8", "surrogatepass")) > MOST_BYTES:
         raise DrawingRefusal(0, "", f"has more than {MOST_BYTES} bytes: split the drawing")
     lines = [line.removesuffix("\r") for line in text.split("\n")]
-    written = WrittenValues.of(lines)
+    written = WrittenValues.of(line if len(line) <= MOST_LETTERS else "" for line in lines)
     reader = _Reader(written.values())
     for number, line in enumerate(lines, start=1):
         try:

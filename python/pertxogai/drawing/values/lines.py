@@ -40,8 +40,9 @@ class WrittenValues:
         """The values that some lines name."""
         found = []
         for number, line in enumerate(lines, start=1):
-            words = line.partition("#")[0].split()
-            if words[:1] == [WORD] and len(words) > 1:
+            said = line.partition("#")[0]
+            words = said.split()
+            if words[:1] == [WORD] and len(words) > 1 and ":" not in said:
                 found.append((number, words[1], _read(words)))
         return WrittenValues(tuple(found))
 

@@ -24,7 +24,10 @@ _FUNCTIONS = {each.value: each for each in Function}
 RESERVED = frozenset(UNITS) | frozenset(_FUNCTIONS)
 """The words of expressions, so no value is called so."""
 
-_TOKEN = re.compile(r"(?P<blank> *)(?:(?P<number>[0-9.][0-9.]*)|(?P<name>[^\W\d]\w*)"
+NAME = r"[^\W\d]\w*"
+"""How the name of a value is written."""
+
+_TOKEN = re.compile(rf"(?P<blank> *)(?:(?P<number>[0-9.][0-9.]*)|(?P<name>{NAME})"
                     r"|(?P<sign>[-+−*/×·÷(),°])|(?P<other>.))")
 _NUMBER = re.compile(r"[0-9]{1,7}(?:\.[0-9]{1,20})?\Z")
 _PLUS, _MINUS = frozenset("+"), frozenset("-−")

@@ -2,13 +2,14 @@
 
 from __future__ import annotations
 
+import re
 from collections.abc import Iterable, Mapping
 from dataclasses import dataclass
 
 from pertxogai.drawing.names import check_shape_name, nearest
 from pertxogai.drawing.refusal import WordFault
 from pertxogai.drawing.values.expression import Expression
-from pertxogai.drawing.values.parsing import RESERVED
+from pertxogai.drawing.values.parsing import NAME, RESERVED
 from pertxogai.drawing.values.quantity import Quantity
 
 MOST_VALUES = 1_000
@@ -98,5 +99,7 @@ def check_value_name(name: str) -> None:
     """Raises WordFault unless a value may be called so: as a shape, and by no word of
     expressions."""
     check_shape_name(name)
+    if not re.fullmatch(NAME, name):
+        raise WordFault(name, "is no name of a value: write a letter and then letters, digits or _")
     if name in RESERVED:
         raise WordFault(name, "is a word of expressions: take another name")
