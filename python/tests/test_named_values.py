@@ -7,6 +7,8 @@ from fractions import Fraction
 
 import pytest
 
+from pertxogai.judging import judge
+from pertxogai.judging.measure import Limit
 from pertxogai.drawing import (
     Degrees, DrawingRefusal, DrawingUnsound, Note, Sense, Value, checked, line_of, read_drawing,
     read_expression, reckoned_values, rounded_roots, with_values, write_drawing)
@@ -153,21 +155,74 @@ def test_what_values_come_to_is_told_with_their_units():
         "Q": "30"}
 
 
-def test_a_root_that_is_no_fraction_is_rounded_to_a_micrometre_and_told():
-    # sqrt(2) * 40 = 56.5685424.. mm
+def test_a_root_that_is_no_fraction_is_taken_to_thirty_places_and_told():
+    # sqrt(2) = 1.41421356237309504880168872420969807856967187537694..
     drawing = read_drawing(f"value Side 40\n{SHAPES}length S sqrt(2)*Side\nlength T 50")
-    assert drawing.constraints[0].value_um == 56_569
+    exact = Fraction("56568.542494923801952067548968387923142786875")
+    assert abs(drawing.constraints[0].value_um - exact) < Fraction(1, 10 ** 24)
     assert rounded_roots(drawing) == (1,)
-    # sqrt(2) * 30 = 42.4264068711.. degrees
     found = asked("angle S T sqrt(2)*30deg")
-    assert found.value == Degrees(Fraction(4_242_640_687, 10 ** 8))
+    assert abs(found.value.value - Fraction("42.426406871192851464050661726290942")) < Fraction(
+        1, 10 ** 27)
 
 
-def test_a_root_that_is_rounded_in_a_value_is_told_where_that_is_used():
+def test_a_root_that_is_no_fraction_in_a_value_is_told_where_that_is_used():
     drawing = read_drawing(f"value D sqrt(2)*40\nvalue E 2*D\n{SHAPES}length S E\nlength T 50")
     assert rounded_roots(drawing) == (1,)
-    # 2 * 56.5685424949 = 113.137084.., which is rounded once, at the end.
-    assert drawing.constraints[0].value_um == 113_137
+    exact = Fraction("113137.08498984760390413509793677584628557375")
+    assert abs(drawing.constraints[0].value_um - exact) < Fraction(1, 10 ** 24)
+
+
+def test_a_length_by_a_root_is_measured_against_the_root(program):
+    text = f"{SHAPES}coincident S.start Origin\nhorizontal S\nlength S sqrt(2)*40\nfixed T\n"
+    text = text.replace("circle Hole 2 1 1\n", "")
+    found = judge(read_drawing(text), program, limit=Limit(1))
+    (off,) = [each for each in found.deviations if each.number == 3]
+    # The program takes whole micrometres of a larger sketch: within a nanometre, and not 458.
+    assert 1 == off.amount and found.rounded
+
+
+@pytest.mark.parametrize("words", [
+    "(sqrt(2)*sqrt(2)-2)/(sqrt(3)*sqrt(3)-3)", "1/(sqrt(2)*sqrt(2)-2)", "1/(C*C-A*A-B*B)"])
+def test_what_is_0_but_for_the_places_of_a_root_is_0(words):
+    values = "value A 2\nvalue B 3\nvalue C sqrt(A*A+B*B)"
+    assert refusal(f"{values}{SHAPES}length S {words}").endswith(
+        "comes to 0, and nothing is divided by 0")
+    assert asked("length S 5 + sqrt(C*C-A*A-B*B)", values).value_um == 5_000
+
+
+def test_a_chain_of_roots_is_reckoned():
+    # sqrt(sqrt(sqrt(2 + 1) ..: 2, 3, 4, 5 under the roots.
+    lines = ["value D1 sqrt(2)"] + [f"value D{n} sqrt(D{n - 1}*D{n - 1} + 1)" for n in range(2, 40)]
+    found = asked("length S D39", "\n".join(lines)).value_um
+    assert abs(found - Fraction("6324.5553203367586639977870888654")) < Fraction(1, 10 ** 20)
+
+
+def test_shapes_with_the_names_of_functions_are_read_as_before():
+    text = ("segment S 0 0 40 0\nsegment min S.start 20 34\nsegment col·lector S.start 9 9\n"
+            "length S min col·lector 40\nangle S min 60deg\nx S.start min.end 3\n"
+            "distance S.start min.end 3\n")
+    assert [line_of(each) for each in read_drawing(text).constraints] == [
+        "length S 40", "length min 40", "length col·lector 40", "angle S min 60deg",
+        "x S.start min.end 3", "distance S.start min.end 3"]
+
+
+def test_a_constraint_may_have_the_word_of_values_in_its_name():
+    text = "segment S 0 0 40 0\nvalue S : length S 40\nvalue: horizontal S\n"
+    assert [line_of(each) for each in read_drawing(text).constraints] == [
+        "value S: length S 40", "value: horizontal S"]
+
+
+@pytest.mark.parametrize("name", ["a·b", "Ho\u0308he"])
+def test_a_name_that_no_expression_could_use_names_no_value(name):
+    assert refusal(f"value {name} 3{SHAPES}") == (
+        f"line 1: '{name}' is no name of a value: write a letter and then letters, digits or _")
+
+
+def test_a_line_that_is_too_long_is_refused_before_it_is_reckoned():
+    told = refusal(f"{SHAPES}length S A\nvalue A 1{'+1' * 200_000}")
+    assert "begins a line of more than 1000 letters" in told or "'A' is no" in told
+    assert len(told) < 300
 
 
 @pytest.mark.parametrize(("text", "told"), [

@@ -10,7 +10,8 @@ from pertxogai.drawing import Drawing, ReckonedValue, reckoned_values, rounded_r
 
 class ValueJson(TypedDict):
     """A named value, as JSON. expression: as it is written; value: what that comes to, in its unit;
-    unit: `mm`, `deg`, another, or nothing; exact: whether no root in it was rounded."""
+    unit: `mm`, `deg`, another, or nothing; exact: whether no root in it is other than a
+    fraction, which is taken to thirty places."""
 
     name: str
     expression: str
@@ -27,16 +28,16 @@ def value_json(value: ReckonedValue) -> ValueJson:
 
 
 def values_json(drawing: Drawing) -> dict[str, object]:
-    """The named values of a drawing, and the constraints whose expressions have a root that was
-    rounded to a micrometre, or to a hundred-millionth of a degree."""
+    """The named values of a drawing, and the constraints whose expressions have a root that is no
+    fraction, and is taken to thirty places."""
     return {"values": [value_json(each) for each in reckoned_values(drawing)],
             "rounded_roots": [drawing.called(each) for each in rounded_roots(drawing)]}
 
 
 def values_lines(drawing: Drawing) -> Iterator[str]:
-    """The named values of a drawing in a line, and what was rounded."""
+    """The named values of a drawing in a line, and what has a root that is no fraction."""
     values = ", ".join(f"{each.name} = {each.quantity.text()}" for each in reckoned_values(drawing))
     if values:
         yield f"  values: {values}"
-    yield from (f"  a root in it is no fraction, and was rounded: {drawing.called(each)}"
+    yield from (f"  a root in it is taken to thirty places: {drawing.called(each)}"
                 for each in rounded_roots(drawing))

@@ -14,10 +14,10 @@ MOST_BITS = 1_000
 """No numerator and no denominator has more bits: a chain of products would take any time."""
 
 _ROOT = 10 ** 30
-"""A root that is no fraction is rounded to so many parts of one, and its user once more."""
+"""What has a root in it that is no fraction is rounded to so many parts of one."""
 
-ANGLE_PARTS = 10 ** 8
-"""An angle of a rounded root is rounded to so many parts of a degree: a sixth of a ppb."""
+_NOTHING = Fraction(1, 10 ** 15)
+"""A sum with such a root that is a smaller part of what is added is 0: the rest is rounding."""
 
 
 class Misfit(Exception):
@@ -29,7 +29,7 @@ class Misfit(Exception):
 class Quantity:
     """A number of millimetres to the power `length`, and of degrees to the power `angle`. One that
     has neither is plain: beside millimetres it counts as millimetres. exact: whether no root in it
-    was rounded."""
+    is other than a fraction; else it is taken to thirty places."""
 
     number: Fraction
     length: int = 0
@@ -44,8 +44,10 @@ class Quantity:
     def plus(self, other: Quantity) -> Quantity:
         """The sum. Raises Misfit where the units don't fit."""
         length, angle = self._unit_with(other)
-        return _checked(Quantity(self.number + other.number, length, angle,
-                                 self.exact and other.exact))
+        exact, number = self.exact and other.exact, self.number + other.number
+        if not exact and abs(number) < _NOTHING * max(abs(self.number), abs(other.number)):
+            number = Fraction(0)
+        return _checked(Quantity(number, length, angle, exact))
 
     def times(self, other: Quantity) -> Quantity:
         """The product."""
@@ -60,7 +62,7 @@ class Quantity:
         """One over it. Raises Misfit where it is 0."""
         if not self.number:
             raise Misfit("comes to 0, and nothing is divided by 0")
-        return Quantity(1 / self.number, -self.length, -self.angle, self.exact)
+        return _checked(Quantity(1 / self.number, -self.length, -self.angle, self.exact))
 
     def root(self) -> Quantity:
         """The square root. Raises Misfit of what is negative, or has a unit without a root."""
@@ -70,27 +72,22 @@ class Quantity:
             raise Misfit(f"is in {self.unit_text()}, which has no square root: write sqrt of a "
                          "number, or of mm times mm")
         root, exact = _root(self.number)
-        return Quantity(root, self.length // 2, self.angle // 2, self.exact and exact)
+        return _checked(Quantity(root, self.length // 2, self.angle // 2, self.exact and exact))
 
     def um(self) -> Fraction:
-        """A length in micrometres, whole where a root was rounded. Raises Misfit of another
-        unit."""
+        """A length in micrometres. Raises Misfit of another unit."""
         if self.angle or self.length not in (0, 1):
             raise Misfit(f"is in {self.unit_text()}, and no length")
-        value_um = self.number * UM_PER_MM
-        return value_um if self.exact else Fraction(round(value_um))
+        return self.number * UM_PER_MM
 
     def degrees(self) -> Fraction:
-        """An angle in degrees, in whole parts where a root was rounded. Raises Misfit of another
-        unit."""
+        """An angle in degrees. Raises Misfit of another unit."""
         if self.is_plain:
             raise Misfit("is a number without a unit, and no angle: write deg behind a number in "
                          "it, as 60deg")
         if self.length or self.angle != 1:
             raise Misfit(f"is in {self.unit_text()}, and no angle")
-        if self.exact:
-            return self.number
-        return Fraction(round(self.number * ANGLE_PARTS), ANGLE_PARTS)
+        return self.number
 
     def unit_text(self) -> str:
         """Its unit, as `mm`, `mm²`, `deg/mm`; nothing where it is plain."""
@@ -132,6 +129,10 @@ def _chosen(one: Quantity, other: Quantity, takes_other: bool) -> Quantity:
 
 
 def _checked(quantity: Quantity) -> Quantity:
+    """The quantity, to thirty places where it isn't exact. Raises Misfit where its number is too
+    long."""
+    if not quantity.exact:
+        quantity = replace(quantity, number=Fraction(round(quantity.number * _ROOT), _ROOT))
     number = quantity.number
     if max(number.numerator.bit_length(), number.denominator.bit_length()) > MOST_BITS:
         raise Misfit("leads to a number of hundreds of digits: write shorter numbers")
