@@ -98,11 +98,11 @@ def _is_on_way(spot: Vector, start: Vector, end: Vector) -> bool:
 def _is_passed(spot: Vector, start: Vector, end: Vector) -> bool:
     """Whether a way passes to the right of a place, half a nanometre above it. One that leads
     through it counts as passing to the right of its way, as for `_is_bulge`."""
-    (x, y), (x1, y1), (x2, y2) = spot, start, end
-    if (y1 > y) == (y2 > y):
+    level, first, last = spot[1], start[1], end[1]
+    if (first > level) == (last > level):
         return False
     aside = cross(between(_twice(start), _twice(end)), between(_twice(start), _above(spot)))
-    return aside >= 0 if y2 > y1 else aside < 0
+    return aside >= 0 if last > first else aside < 0
 
 
 def _is_bulge(spot: Vector, rim: Round) -> bool:
