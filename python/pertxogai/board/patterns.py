@@ -184,7 +184,8 @@ class _Round:
         """A copy of the shapes. Raises WordFault where all of it stays where it is."""
         copy = copied(drawing, self.shapes, mapping, levels)
         if not copy.shapes():
-            raise WordFault(str(self.centre), "is the centre of all of it: there is nothing to turn")
+            raise WordFault(str(self.centre), "is the centre of all of it: there is nothing to "
+                                              "turn")
         return copy
 
     def _turned(self, drawing: Drawing, number: int) -> Mapping:
