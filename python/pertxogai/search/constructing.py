@@ -11,8 +11,9 @@ from collections.abc import Iterator, Sequence
 from dataclasses import dataclass, replace
 
 from pertxogai.drawing import (
-    Coincident, Collinear, Concentric, Constraint, Drawing, Equal, Length, Midpoint, Parallel,
-    ParallelDistance, Perpendicular, PointOn, Symmetric, Tangent)
+    Collinear, Constraint, Drawing, Equal, Length, Midpoint, Parallel, ParallelDistance, PointOn,
+    Symmetric, Tangent)
+from pertxogai.drawing.mentions import joins_points
 from pertxogai.judging.judgement import Judgement, judge_at_once
 from pertxogai.judging.limits import DrawingRefused
 from pertxogai.language import NotHeld, Refusal
@@ -130,7 +131,7 @@ def _repeats(drawing: Drawing, free: Freedom) -> tuple[Swap, ...]:
     latest = (each.sources[0] for each in free.dependencies if each.repeats())
     constraints = (drawing.constraints[source.number - 1] for source in latest
                    if source.by is By.CONSTRAINT)
-    return tuple(Swap(each) for each in constraints if not _joins(each))
+    return tuple(Swap(each) for each in constraints if not joins_points(each))
 
 
 def _solved(drawing: Drawing, chosen: Sequence[Constraint], x: Array) -> Array | None:
@@ -228,7 +229,7 @@ class _Mending:
             return id(constraint) not in left_out, kind
 
         latest_first = (each for each in reversed(self._drawing.constraints)
-                        if id(each) not in gone and not _joins(each))
+                        if id(each) not in gone and not joins_points(each))
         return sorted(latest_first, key=order)[:MOST_TRIED]
 
     def _values(self, best: Construction, gone: Constraint) -> Iterator[Constraint]:
@@ -257,14 +258,3 @@ class _Mending:
             stretch = stretch_of(unknowns, each.first, self._x, basis)
             if stretch.is_telling(1e-3):
                 yield Length(each.first, stretch.length_um(NM))
-
-
-def _joins(constraint: Constraint) -> bool:
-    """Whether it tells points to be one: without it there would be other unknowns."""
-    match constraint:
-        case Coincident() | Concentric():
-            return True
-        case Tangent(at=at) | Perpendicular(at=at):
-            return at is not None
-        case _:
-            return False

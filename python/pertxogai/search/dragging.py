@@ -8,9 +8,8 @@ from math import hypot
 
 import numpy as np
 
-from pertxogai.drawing import (
-    Coincident, Concentric, Constraint, Drawing, Perpendicular, PointRef, Tangent, Which, points_of)
-from pertxogai.drawing.mentions import named
+from pertxogai.drawing import Drawing, PointRef, Which, points_of
+from pertxogai.drawing.mentions import joins_points, named
 from pertxogai.drawing.named_shapes import spot_of
 from pertxogai.judging.measure import Solution, Unit, greatest, measure
 from pertxogai.search.arrays import Array, Indices
@@ -153,7 +152,7 @@ def _moving_part(drawing: Drawing, moving: set[str]) -> Drawing:
     """A drawing without what stays: the constraints that speak of shapes which move, or tell points
     to be one, and all shapes that these need."""
     constraints = [each for each in drawing.constraints
-                   if _joins(each) or not moving.isdisjoint(named(each))]
+                   if joins_points(each) or not moving.isdisjoint(named(each))]
     needed = moving.union(*map(named, constraints))
     for shape in reversed(drawing.geometry):
         if shape.name in needed:
@@ -161,14 +160,3 @@ def _moving_part(drawing: Drawing, moving: set[str]) -> Drawing:
             needed |= {spot.shape for spot in spots if isinstance(spot, PointRef)}
     return Drawing(tuple(shape for shape in drawing.geometry if shape.name in needed),
                    tuple(constraints))
-
-
-def _joins(constraint: Constraint) -> bool:
-    """Whether it tells points to be one."""
-    match constraint:
-        case Coincident() | Concentric():
-            return True
-        case Tangent(at=at) | Perpendicular(at=at):
-            return at is not None
-        case _:
-            return False
