@@ -1,3 +1,4 @@
+/* SPDX-License-Identifier: MIT OR Apache-2.0 */
 /* The sketch solver as a library: libsketch.a, or libsketch.so.
  *
  * A call takes a command, as "check" or "solve place=points", and a text, as `./sketch` takes its words and its

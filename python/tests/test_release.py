@@ -220,7 +220,8 @@ def test_the_tarball_runs_where_it_is_unpacked(dist: Path, tmp_path: Path) -> No
     done("sha256sum", "--quiet", "-c", "SHA256SUMS", cwd=root)
     assert done(root / "bin/sketch", "check", input=TRIANGLE, env={}) == WELL
     assert sorted(it.name for it in root.iterdir()) == [
-        "GATE", "README", "SHA256SUMS", "bin", "include", "lib", "licences", "share", "wheel"]
+        "GATE", "LICENSE-APACHE", "LICENSE-MIT", "README", "SHA256SUMS", "bin", "include", "lib",
+        "licences", "share", "wheel"]
     assert "prefix=${pcfiledir}/../..\n" in (root / "lib/pkgconfig/sketch.pc").read_text()
 
 

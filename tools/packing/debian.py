@@ -21,10 +21,11 @@ from pertxogai.commands import main
 
 sys.exit(main())
 """
+MAINTAINER = "The Pertxogai authors (write to the issue page of the repository)"
 CONTROL = """Package: pertxogai
 Version: {version}
 Architecture: amd64
-Maintainer: Pertxogai maintainers <maintainers@users.noreply.pertxogai.example>
+Maintainer: {maintainer}
 Installed-Size: {size}
 Depends: libc6 (>= {c_library}), python3 (>= 3.11)
 Recommends: python3-ezdxf, python3-flask
@@ -40,7 +41,13 @@ Description: solver for planar CAD sketches whose every answer is proved
  .
  Debian's own package sketch has a program of the same name.
 """
-COPYRIGHT = """{licences}
+COPYRIGHT = """Copyright: 2026 The Pertxogai authors
+License: MIT OR Apache-2.0
+
+You may choose either. The texts lie in /usr/share/doc/pertxogai/LICENSE-MIT and LICENSE-APACHE, that of
+Apache also in /usr/share/common-licenses/Apache-2.0. What follows is about code of others.
+
+{licences}
 The texts lie in /usr/share/doc/pertxogai/licences; those of the LGPL 2.1 and of the GPL 3 also in
 /usr/share/common-licenses/LGPL-2.1 and /usr/share/common-licenses/GPL-3.
 """
@@ -48,7 +55,7 @@ CHANGES = """pertxogai ({version}) unstable; urgency=low
 
   * What changed stands in /usr/share/doc/pertxogai/CHANGELOG.md.
 
- -- Pertxogai maintainers <maintainers@users.noreply.pertxogai.example>  {date}
+ -- {maintainer}  {date}
 """
 
 
@@ -79,7 +86,7 @@ def _write_pages(pages: Path, made: Made) -> None:
     """What Debian wants of each package: its licences, and what changed."""
     licences = (made.tree / "licences" / "README.md").read_text()
     (pages / "copyright").write_text(COPYRIGHT.format(licences=licences))
-    changes = CHANGES.format(version=made.version, date=formatdate(made.time))
+    changes = CHANGES.format(version=made.version, maintainer=MAINTAINER, date=formatdate(made.time))
     (pages / "changelog.gz").write_bytes(gzip.compress(changes.encode(), mtime=0))
 
 
@@ -90,5 +97,6 @@ def _write_control(root: Path, made: Made) -> None:
     needed = c_library(made.program, made.library / "libsketch.so")
     control = root / "DEBIAN"
     control.mkdir()
-    (control / "control").write_text(CONTROL.format(version=made.version, size=size, c_library=needed))
+    told = CONTROL.format(version=made.version, maintainer=MAINTAINER, size=size, c_library=needed)
+    (control / "control").write_text(told)
     (control / "triggers").write_text("activate-noawait ldconfig\n")

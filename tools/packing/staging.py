@@ -12,7 +12,8 @@ HIGHLIGHTING = {
     "textmate": "pertxogai/textmate",
 }
 PAGES = (
-    "README.md", "CHANGELOG.md", "CONTRIBUTING.md", "docs", "examples", "licences", "checker/README.md", "c/examples",
+    "README.md", "LICENSE-MIT", "LICENSE-APACHE", "CHANGELOG.md", "CONTRIBUTING.md", "SECURITY.md",
+    "CODE_OF_CONDUCT.md", "CITATION.cff", "docs", "examples", "licences", "checker/README.md", "c/examples",
     "editors/README.md",
     "python/README.md", "python/DRAWING.md", "python/pictures",
 )

@@ -15,7 +15,7 @@ SAY = """Pertxogai {version} for Linux on x86-64.
     pip install wheel/{wheel}    adds it and the Python package, in a virtual environment of your own
     man -l share/man/man1/sketch.1.gz    is the manual
 
-share/doc/pertxogai has the pages and the examples, share/pertxogai/checker the checkers of claims, licences what is linked, GATE what was proved and tested of which
+share/doc/pertxogai has the pages and the examples, share/pertxogai/checker the checkers of claims, LICENSE-MIT and LICENSE-APACHE say what you may do, licences what else is linked, GATE what was proved and tested of which
 commit, SHA256SUMS the checksums of all: sha256sum --quiet -c SHA256SUMS
 """
 
@@ -25,7 +25,8 @@ def make_tarball(room: Path, made: Made, to: Path) -> Path:
     root = room / f"pertxogai-{made.version}-{MACHINE}"
     stage(root, HERE, made)
     put(made.wheel, root / "wheel" / made.wheel.name)
-    put(made.tree / "licences", root / "licences")
+    for name in ("licences", "LICENSE-MIT", "LICENSE-APACHE"):
+        put(made.tree / name, root / name)
     (root / "GATE").write_text(made.gate)
     (root / "README").write_text(SAY.format(version=made.version, wheel=made.wheel.name))
     level_rights(root)

@@ -10,9 +10,12 @@ PYTHON = "/usr/bin/python3"
 
 
 def make_wheel(source: Path, room: Path, time: int) -> Path:
-    """The wheel of the package in the folder `source`, made in the folder `room` without network; answers its path."""
+    """The wheel of the package in the folder `source`, made in the folder `room` without network, with the
+    licences that lie beside that folder; answers its path."""
     copy = room / "python"
     shutil.copytree(source, copy)
+    for licence in source.parent.glob("LICENSE-*"):
+        shutil.copy2(licence, copy)
     alone = ["--quiet", "--no-deps", "--no-index", "--no-build-isolation", "--disable-pip-version-check"]
     said(PYTHON, "-m", "pip", "wheel", *alone, "-w", room, copy, env=at_time(time))
     (wheel,) = room.glob("*.whl")

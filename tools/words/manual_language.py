@@ -1,5 +1,5 @@
 """The manual page sketch(5): the language."""
-from .roff import chapter, head, shown, terms
+from .roff import LICENCE, chapter, head, shown, terms
 from .table import CODES, CONSTRAINTS, EDITS, ELEMENTS
 
 ABOUT = "the language of planar drawings and their dimensions"
@@ -57,4 +57,5 @@ def page(version: str, date: str) -> list[str]:
         *chapter("LIMITS", LIMITS),
         *chapter("REFUSALS", REFUSED, terms(*((f"{it.code} {it.word}", it.where + ".") for it in CODES))),
         *chapter("SEE ALSO", "`sketch`(1), `pertxogai`(1)"),
+        *LICENCE,
     ]

@@ -1,6 +1,6 @@
 """The manual page pertxogai(1): the commands of the Python package."""
 from .options import commands, options
-from .roff import chapter, head, shown, terms
+from .roff import LICENCE, chapter, head, shown, terms
 from pertxogai.commands import EPILOG
 
 ABOUT = "judges, places and draws sketches by the proved program sketch"
@@ -49,4 +49,5 @@ def page(version: str, date: str) -> list[str]:
         *chapter("EXIT STATUS", " ".join(EPILOG.removeprefix("exit status: ").split())),
         *chapter("EXAMPLES", shown(EXAMPLE)),
         *chapter("SEE ALSO", "`sketch`(1), `sketch`(5)"),
+        *LICENCE,
     ]

@@ -1,5 +1,5 @@
 """The manual page sketch(1): the program."""
-from .roff import chapter, head, shown, terms
+from .roff import LICENCE, chapter, head, shown, terms
 from .table import COMMANDS, KEYS, STATUSES, Command, Key
 
 ABOUT = "tells whether a planar drawing is dimensioned just enough, and places it exactly"
@@ -66,4 +66,5 @@ def page(version: str, date: str) -> list[str]:
         *chapter("EXAMPLES", shown(EXAMPLE), TOLD),
         *chapter("SEE ALSO", "`sketch`(5), `pertxogai`(1). The pages, the examples and what is claimed lie in"
                  " /usr/share/doc/pertxogai of an installed package."),
+        *LICENCE,
     ]

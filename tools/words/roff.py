@@ -26,6 +26,11 @@ def chapter(title: str, *paragraphs: str | list[str]) -> list[str]:
     return lines
 
 
+LICENCE = chapter("COPYRIGHT", "Copyright 2026 The Pertxogai authors. MIT OR Apache-2.0, as you choose; it comes without"
+                  " any warranty.")
+"""The last chapter of each page."""
+
+
 def terms(*pairs: tuple[str, str]) -> list[str]:
     """A list of things that are typed, each with what it means."""
     return [line for term, means in pairs for line in (".TP", f"\\fB{escaped(term)}\\fR", escaped(means))]
