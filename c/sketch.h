@@ -15,6 +15,11 @@
 #include <stdlib.h>
 #include <string.h>
 
+/* The version of the release that this header is of, and the number in the SONAME of libsketch.so. The number goes up
+ * where a program that was linked before would no longer work. */
+#define SKETCH_VERSION "0.2.0"
+#define SKETCH_INTERFACE 1
+
 #ifdef __cplusplus
 extern "C" {
 #endif

@@ -21,7 +21,7 @@ if TYPE_CHECKING:
     from pertxogai.output import picture_of_judged
     from pertxogai.program import Program
 
-__version__ = "0.1.0"
+__version__ = "0.2.0"
 """The version of a release: of the program, the library, this package, the manual pages."""
 __all__ = ["Drawing", "Program", "Sketch", "good_of", "judge", "judge_sketch", "picture_of_judged",
            "read_drawing", "read_inputs", "write_drawing"]

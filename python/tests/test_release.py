@@ -3,6 +3,7 @@ from __future__ import annotations
 
 import importlib.machinery
 import importlib.util
+import json
 import os
 import re
 import shutil
@@ -20,6 +21,7 @@ from pertxogai.program import Program
 from pertxogai.program.library import BUILD as LIBRARY
 
 sys.path.insert(0, str(TOP / "tools"))
+from packing.changes import check_dated  # noqa: E402
 from packing.gate import Gate  # noqa: E402
 from packing.made import Made, gate_text  # noqa: E402
 from packing.refusal import Refused  # noqa: E402
@@ -89,18 +91,20 @@ def dist(program: Program, tmp_path_factory: pytest.TempPathFactory) -> Path:
 
 @pytest.fixture(scope="session")
 def installed(dist: Path, tmp_path_factory: pytest.TempPathFactory) -> Path:
-    """A root that has nothing but the Debian package: installed by dpkg where this is root, else
+    """A root that has nothing but the Debian packages: installed by dpkg where this is root, else
     unpacked."""
     root = tmp_path_factory.mktemp("root")
-    (package,) = dist.glob("*.deb")
+    packages = sorted(dist.glob("*.deb"))
     if os.geteuid() != 0:
-        done("dpkg-deb", "-x", package, root)
+        for package in packages:
+            done("dpkg-deb", "-x", package, root)
         return root
     for name in ("updates", "info", "triggers"):
         (root / "var/lib/dpkg" / name).mkdir(parents=True)
     (root / "var/lib/dpkg/status").touch()
-    done("dpkg", f"--root={root}", "--force-depends", "--install", package)
-    assert "pertxogai" in done("dpkg", f"--root={root}", "-l")
+    done("dpkg", f"--root={root}", "--force-depends", "--install", *packages)
+    listed = done("dpkg", f"--root={root}", "-l")
+    assert all(f" {it.name.partition('_')[0]} " in listed.replace(":amd64", "") for it in packages)
     return root
 
 
@@ -124,8 +128,10 @@ def test_the_pages_of_the_crates_lie_where_the_others_lead(tmp_path: Path) -> No
 
 def test_a_release_has_a_tarball_a_package_a_wheel_and_checksums(dist: Path) -> None:
     assert sorted(it.name for it in dist.iterdir()) == [
-        "GATE", "SHA256SUMS", f"pertxogai-{__version__}-py3-none-any.whl",
-        f"pertxogai-{__version__}-x86_64-linux.tar.gz", f"pertxogai_{__version__}_amd64.deb"]
+        "GATE", "SHA256SUMS", f"libpertxogai-sketch-dev_{__version__}_amd64.deb",
+        f"libpertxogai-sketch1_{__version__}_amd64.deb",
+        f"pertxogai-{__version__}-py3-none-any.whl", f"pertxogai-{__version__}-x86_64-linux.tar.gz",
+        f"pertxogai-{__version__}.spdx.json", f"pertxogai_{__version__}_amd64.deb"]
     done("sha256sum", "--quiet", "-c", "SHA256SUMS", cwd=dist)
     gate = (dist / "GATE").read_text().splitlines()
     assert gate[:2] == [f"pertxogai {__version__}", "commit " + "0" * 40]
@@ -179,23 +185,76 @@ def test_the_installed_manual_is_shown(page: str, installed: Path) -> None:
 
 def test_the_package_has_its_pages_and_what_editors_read(installed: Path) -> None:
     shared = installed / "usr/share"
-    for name in ("doc/pertxogai/copyright", "doc/pertxogai/changelog.gz", "doc/pertxogai/GATE",
+    for name in ("doc/pertxogai/copyright", "doc/pertxogai/LICENSE-MIT",
+                 "doc/libpertxogai-sketch1/copyright", "doc/libpertxogai-sketch-dev/changelog.gz", "doc/pertxogai/changelog.gz", "doc/pertxogai/GATE",
                  "doc/pertxogai/examples/bracket.sketch", "doc/pertxogai/licences/slab.txt",
                  "doc/pertxogai/docs/LANGUAGE.md", "bash-completion/completions/sketch",
                  "vim/vimfiles/syntax/sketch.vim", "pertxogai/textmate/sketch.tmLanguage.json",
                  "pertxogai/freecad/Pertxogai.FCMacro", "doc/pertxogai/checker/README.md",
                  "pertxogai/checker/sketch_claim.py", "pertxogai/checker/sketch_claim.c"):
         assert (shared / name).is_file(), name
-    rights = {it.stat().st_mode & 0o777 for it in (installed / "usr").rglob("*")}
+    rights = {it.lstat().st_mode & 0o777 for it in (installed / "usr").rglob("*")
+              if not it.is_symlink()}
     assert rights == {0o644, 0o755}
 
 
-def test_the_package_says_what_it_needs(dist: Path) -> None:
-    (package,) = dist.glob("*.deb")
-    said = done("dpkg-deb", "-f", package)
-    assert f"Version: {__version__}\n" in said
-    assert re.search(r"^Depends: libc6 \(>= 2\.\d+\), python3 \(>= 3\.11\)$", said, re.MULTILINE)
-    assert "Conflicts: sketch\n" in said
+def test_the_packages_say_what_they_need(dist: Path) -> None:
+    depends = {
+        "pertxogai": r"libc6 \(>= 2\.\d+\), python3 \(>= 3\.11\)",
+        "libpertxogai-sketch1": r"libc6 \(>= 2\.\d+\)",
+        "libpertxogai-sketch-dev": rf"libpertxogai-sketch1 \(= {re.escape(__version__)}\)"}
+    for name, wanted in depends.items():
+        said = done("dpkg-deb", "-f", dist / f"{name}_{__version__}_amd64.deb")
+        assert f"Package: {name}\nVersion: {__version__}\n" in said
+        assert re.search(rf"^Depends: {wanted}$", said, re.MULTILINE), said
+        assert ("Conflicts: sketch\n" in said) == (name == "pertxogai")
+
+
+def test_each_file_is_in_one_package(dist: Path) -> None:
+    listed = [line.split(maxsplit=5)[5].partition(" -> ")[0]
+              for package in dist.glob("*.deb") for line in done("dpkg-deb", "-c", package).splitlines()
+              if not line.startswith("d")]
+    assert len(listed) == len(set(listed)) > 100
+    library = "./usr/lib/x86_64-linux-gnu/libsketch"
+    assert {it for it in listed if it.startswith(library)} == {
+        f"{library}.a", f"{library}.so", f"{library}.so.1"}
+
+
+def test_the_library_says_its_interface(installed: Path) -> None:
+    header = (installed / "usr/include/sketch.h").read_text()
+    assert f'#define SKETCH_VERSION "{__version__}"\n' in header
+    (number,) = re.findall(r"^#define SKETCH_INTERFACE (\d+)$", header, re.MULTILINE)
+    shared = installed / "usr/lib/x86_64-linux-gnu/libsketch.so"
+    assert os.readlink(shared) == f"libsketch.so.{number}"
+    assert f"SONAME               libsketch.so.{number}\n" in done("objdump", "-p", shared)
+
+
+def test_the_list_of_what_it_is_made_of(dist: Path) -> None:
+    """Each crate of the kit that is linked is in it, with its licence, and each file that is built, with its checksum."""
+    told = json.loads((dist / f"pertxogai-{__version__}.spdx.json").read_text())
+    assert told["spdxVersion"] == "SPDX-2.3"
+    licences = {it["name"].partition(" (")[0]: it["licenseDeclared"] for it in told["packages"]}
+    assert licences["pertxogai"] == "MIT OR Apache-2.0"
+    assert {"thiserror", "indexmap", "slab"} <= set(licences)
+    kit = Path("/opt/rattle/rattle")
+    for it in told["packages"]:
+        name = it["name"].partition(" (")[0]
+        if name in ("thiserror", "indexmap", "slab") and kit.is_dir():
+            assert f"`{name}` {it['versionInfo']} (" in (kit / name / "README.md").read_text()
+    gate = (dist / "GATE").read_text()
+    built = {it["fileName"][2:]: it["checksums"][0]["checksumValue"] for it in told["files"]}
+    assert f"sketch {built['sketch']}\n" in gate and f"libsketch.a {built['libsketch.a']}\n" in gate
+
+
+def test_changes_without_a_version_are_not_released(tmp_path: Path) -> None:
+    page = tmp_path / "CHANGELOG.md"
+    page.write_text("# Changes\n\n## [Unreleased]\n\n- a\n\n## [1.2.0] - 2026-05-03\n")
+    with pytest.raises(Refused, match="unreleased"):
+        check_dated(tmp_path, "1.2.0")
+    page.write_text("# Changes\n\n## [1.2.0] - 2026-05-03\n")
+    check_dated(tmp_path, "1.2.0")
+    with pytest.raises(Refused, match="no heading '## .1.3.0. - DATE'"):
+        check_dated(tmp_path, "1.3.0")
 
 
 def test_the_wheel_works_by_itself(dist: Path, program: Program, tmp_path: Path) -> None:
@@ -232,8 +291,9 @@ def test_the_same_commit_packs_alike(dist: Path, tmp_path: Path) -> None:
 
 
 def test_one_version() -> None:
-    heading = re.search(r"^## (\S+), ", (TOP / "CHANGELOG.md").read_text(), re.MULTILINE)
+    heading = re.search(r"^## \[(\S+)\] - ", (TOP / "CHANGELOG.md").read_text(), re.MULTILINE)
     assert heading is not None and heading[1] == __version__
+    assert f'#define SKETCH_VERSION "{__version__}"\n' in (TOP / "c/sketch.h").read_text()
     for page in (TOP / "man").iterdir():
         assert f'"pertxogai {__version__}"' in page.read_text().splitlines()[0], page.name
     for name in ("python/pyproject.toml", "c/sketch.pc.in", "c/CMakeLists.txt", "c/build"):

@@ -1,7 +1,8 @@
-"""The Debian package of the same."""
+"""The Debian packages: the program with its commands, the library, and what programs are linked by."""
 import gzip
 import re
 import zipfile
+from dataclasses import dataclass
 from email.utils import formatdate
 from pathlib import Path
 
@@ -22,41 +23,79 @@ from pertxogai.commands import main
 sys.exit(main())
 """
 MAINTAINER = "The Pertxogai authors (write to the issue page of the repository)"
-CONTROL = """Package: pertxogai
+CONTROL = """Package: {name}
 Version: {version}
 Architecture: amd64
 Maintainer: {maintainer}
 Installed-Size: {size}
-Depends: libc6 (>= {c_library}), python3 (>= 3.11)
-Recommends: python3-ezdxf, python3-flask
-Conflicts: sketch
-Section: graphics
+{relations}
+Section: {section}
 Priority: optional
-Description: solver for planar CAD sketches whose every answer is proved
- The program sketch tells whether the dimensions of a drawing are just as many
- as fix it, too many or too few, places it in whole nanometres, and says how
- exactly. The library libsketch does the same within a program in C or C++,
- and the Python package pertxogai reads drawings in a designer's words and files
- of FreeCAD, SolveSpace and DXF, and has a drawing board in the browser.
- .
- Debian's own package sketch has a program of the same name.
+Description: {about}
 """
 COPYRIGHT = """Copyright: 2026 The Pertxogai authors
 License: MIT OR Apache-2.0
 
-You may choose either. The texts lie in /usr/share/doc/pertxogai/LICENSE-MIT and LICENSE-APACHE, that of
-Apache also in /usr/share/common-licenses/Apache-2.0. What follows is about code of others.
+You may choose either. The text of Apache-2.0 is in /usr/share/common-licenses/Apache-2.0, that of MIT is:
+
+{mit}
+What follows is about code of others.
 
 {licences}
-The texts lie in /usr/share/doc/pertxogai/licences; those of the LGPL 2.1 and of the GPL 3 also in
-/usr/share/common-licenses/LGPL-2.1 and /usr/share/common-licenses/GPL-3.
+The package pertxogai has the texts in /usr/share/doc/pertxogai/licences; those of the LGPL 2.1 and of the GPL 3
+are also in /usr/share/common-licenses/LGPL-2.1 and /usr/share/common-licenses/GPL-3.
 """
 CHANGES = """pertxogai ({version}) unstable; urgency=low
 
-  * What changed stands in /usr/share/doc/pertxogai/CHANGELOG.md.
+  * What changed stands in CHANGELOG.md, which the package pertxogai has in /usr/share/doc/pertxogai.
 
  -- {maintainer}  {date}
 """
+
+
+@dataclass(frozen=True)
+class Package:
+    """One Debian package: its name, section, description, relations (`{c}` is the least version of the C library,
+    `{version}` that of the release), which files below the staged root it takes, and whether the linker's cache is
+    made anew behind it."""
+
+    name: str
+    section: str
+    about: str
+    relations: str
+    takes: tuple[str, ...]
+    is_library: bool = False
+
+
+RUNTIME = Package(
+    "libpertxogai-sketch1", "libs",
+    """solver for planar CAD sketches whose every answer is proved (library)
+ The library libsketch tells whether the dimensions of a drawing are just as many
+ as fix it, too many or too few, and places it in whole nanometres. It has one
+ call, keeps no state, and asks the C library for memory alone.""",
+    "Depends: libc6 (>= {c})", (f"{USR / LIBRARIES}/libsketch.so.*",), is_library=True)
+DEVELOPMENT = Package(
+    "libpertxogai-sketch-dev", "libdevel",
+    """solver for planar CAD sketches whose every answer is proved (development)
+ The header sketch.h, the static library, and what pkg-config reads, to link
+ libsketch into programs in C and C++.""",
+    "Depends: libpertxogai-sketch1 (= {version})",
+    (f"{USR}/include/*", f"{USR / LIBRARIES}/libsketch.a", f"{USR / LIBRARIES}/libsketch.so",
+     f"{USR / LIBRARIES}/pkgconfig"))
+MAIN = Package(
+    "pertxogai", "graphics",
+    """solver for planar CAD sketches whose every answer is proved
+ The program sketch tells whether the dimensions of a drawing are just as many
+ as fix it, too many or too few, places it in whole nanometres, and says how
+ exactly. The command pertxogai reads drawings in a designer's words and files
+ of FreeCAD, SolveSpace and DXF, and has a drawing board in the browser.
+ .
+ Debian's own package sketch has a program of the same name.""",
+    "Depends: libc6 (>= {c}), python3 (>= 3.11)\n"
+    "Recommends: python3-ezdxf, python3-flask, python3-numpy, python3-scipy\n"
+    "Suggests: libpertxogai-sketch1\nConflicts: sketch", (f"{USR}/*",))
+BY_NEED = (RUNTIME, DEVELOPMENT, MAIN)
+"""The packages, each of which takes what those before it have left."""
 
 
 def c_library(*built: Path) -> str:
@@ -65,38 +104,61 @@ def c_library(*built: Path) -> str:
     return str(max(asked, key=lambda version: [int(part) for part in version.split(".")]))
 
 
-def make_package(room: Path, made: Made, to: Path) -> Path:
-    """Packs the Debian package into the folder `to`, and answers its path."""
-    root = room / "debian"
-    stage(root, ROOT, made)
+def make_packages(room: Path, made: Made, to: Path) -> list[Path]:
+    """Packs the Debian packages into the folder `to`, and answers their paths."""
+    staged = room / "debian"
+    stage(staged, ROOT, made)
     with zipfile.ZipFile(made.wheel) as wheel:
-        wheel.extractall(root / PACKAGES)
-    command = root / ROOT.programs / "pertxogai"
+        wheel.extractall(staged / PACKAGES)
+    command = staged / ROOT.programs / "pertxogai"
     command.write_text(COMMAND)
     command.chmod(0o755)
-    _write_pages(root / ROOT.pages, made)
-    _write_control(root, made)
+    return [_pack(package, staged, room / package.name, made, to) for package in BY_NEED]
+
+
+def _pack(package: Package, staged: Path, root: Path, made: Made, to: Path) -> Path:
+    """Moves what a package takes from the staged root to its own, and packs that."""
+    for pattern in package.takes:
+        for each in sorted(staged.glob(pattern)):
+            place = root / each.relative_to(staged)
+            place.parent.mkdir(parents=True, exist_ok=True)
+            each.rename(place)
+    _remove_empty(root)
+    _write_pages(root / ROOT.shared / "doc" / package.name, made)
+    _write_control(package, root, made)
     level_rights(root)
-    packed = to / f"pertxogai_{made.version}_amd64.deb"
+    packed = to / f"{package.name}_{made.version}_amd64.deb"
     said("dpkg-deb", "--root-owner-group", "-Zxz", "--build", root, packed, env=at_time(made.time))
     return packed
+
+
+def _remove_empty(root: Path) -> None:
+    """Removes folders of which another package has taken all files."""
+    for each in sorted(root.rglob("*"), reverse=True):
+        if each.is_dir() and not any(each.iterdir()):
+            each.rmdir()
 
 
 def _write_pages(pages: Path, made: Made) -> None:
     """What Debian wants of each package: its licences, and what changed."""
     licences = (made.tree / "licences" / "README.md").read_text()
-    (pages / "copyright").write_text(COPYRIGHT.format(licences=licences))
+    mit = (made.tree / "LICENSE-MIT").read_text()
+    pages.mkdir(parents=True, exist_ok=True)
+    (pages / "copyright").write_text(COPYRIGHT.format(mit=mit, licences=licences))
     changes = CHANGES.format(version=made.version, maintainer=MAINTAINER, date=formatdate(made.time))
     (pages / "changelog.gz").write_bytes(gzip.compress(changes.encode(), mtime=0))
 
 
-def _write_control(root: Path, made: Made) -> None:
-    """Writes what dpkg reads: what the package is and needs, and that the linker's cache is to be made anew."""
-    files = [each for each in root.rglob("*") if each.is_file()]
+def _write_control(package: Package, root: Path, made: Made) -> None:
+    """Writes what dpkg reads: what the package is and needs, and of a library that the linker's cache is made anew."""
+    files = [each for each in root.rglob("*") if each.is_file() and not each.is_symlink()]
     size = sum(each.stat().st_size for each in files) // 1024
     needed = c_library(made.program, made.library / "libsketch.so")
     control = root / "DEBIAN"
     control.mkdir()
-    told = CONTROL.format(version=made.version, maintainer=MAINTAINER, size=size, c_library=needed)
+    told = CONTROL.format(name=package.name, version=made.version, maintainer=MAINTAINER, size=size,
+                          relations=package.relations.format(c=needed, version=made.version),
+                          section=package.section, about=package.about)
     (control / "control").write_text(told)
-    (control / "triggers").write_text("activate-noawait ldconfig\n")
+    if package.is_library:
+        (control / "triggers").write_text("activate-noawait ldconfig\n")

@@ -52,8 +52,7 @@ def stage(root: Path, places: Places, made: Made) -> None:
     root."""
     put(made.program, root / places.programs / "sketch")
     put(made.library / "sketch.h", root / places.headers / "sketch.h")
-    for name in ("libsketch.a", "libsketch.so"):
-        put(made.library / name, root / places.libraries / name)
+    _stage_libraries(root / places.libraries, made.library)
     _stage_flags(root, places, made)
     _stage_editors(root / places.shared, made.tree / "editors")
     stage_pages(root / places.pages, made.tree)
@@ -61,6 +60,15 @@ def stage(root: Path, places: Places, made: Made) -> None:
         put(made.tree / name, root / places.shared / "pertxogai" / name)
     (root / places.pages / "GATE").write_text(made.gate)
     _stage_manual(root / places.shared / "man", made.tree / "man")
+
+
+def _stage_libraries(folder: Path, library: Path) -> None:
+    """Puts the static library, the shared one under the name in its SONAME, and the link to it that linkers look for."""
+    link = library / "libsketch.so"
+    shared = link.resolve()
+    for each in (library / "libsketch.a", shared):
+        put(each, folder / each.name)
+    (folder / link.name).symlink_to(shared.name)
 
 
 def stage_pages(folder: Path, tree: Path) -> None:
@@ -98,5 +106,7 @@ def _stage_manual(folder: Path, pages: Path) -> None:
 def level_rights(root: Path) -> None:
     """Gives each folder and program the rights 755 and each other file 644, whatever the umask was."""
     for each in [root, *root.rglob("*")]:
-        runs = each.is_dir() or (each.stat().st_mode & 0o100 and each.suffix != ".so")
+        if each.is_symlink():
+            continue
+        runs = each.is_dir() or (each.stat().st_mode & 0o100 and ".so" not in each.suffixes)
         each.chmod(0o755 if runs else 0o644)
