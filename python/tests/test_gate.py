@@ -33,9 +33,11 @@ def repository(tmp_path: Path) -> Path:
     the statuses END_1 and END_2: a real gate takes an hour."""
     top = tmp_path / "repository"
     put(top / "python/tests/run", 'echo "$HALF_2"; exit "$END_2"\n')
-    put(tmp_path / "bin/rt", 'echo "$HALF_1"; exit "$END_1"\n')
+    put(tmp_path / "bin/rt", 'echo "$RT_JOBS" >"$0.jobs"; echo "$HALF_1"; exit "$END_1"\n')
     (top / ".ci").mkdir()
     shutil.copy(TOP / ".ci/run", top / ".ci/run")
+    (top / "tools").mkdir()
+    shutil.copy(TOP / "tools/lanes", top / "tools/lanes")
     (top / ".gitignore").write_text("out/\n")
     git(top, "init", "-q")
     git(top, "add", "-A")
@@ -101,3 +103,16 @@ def test_of_a_changed_tree_nothing_is_recorded(repository: Path) -> None:
     status, lines = gate(repository, "30 passed, 0 failed", "12 passed, 0 failed")
     assert status == 0 and lines == ["30 passed, 0 failed", "12 passed, 0 failed", "42 passed, 0 failed"]
     assert not (repository / RECORD).exists()
+
+
+def test_no_more_proofs_go_side_by_side_than_there_are_processors(repository: Path, monkeypatch: pytest.MonkeyPatch) -> None:
+    monkeypatch.delenv("RT_JOBS", raising=False)
+    gate(repository, "30 passed, 0 failed", "12 passed, 0 failed")
+    jobs = (repository.parent / "bin/rt.jobs").read_text().strip()
+    assert 1 <= int(jobs) <= len(os.sched_getaffinity(0))
+
+
+def test_whoever_says_how_many_go_side_by_side_is_heard(repository: Path, monkeypatch: pytest.MonkeyPatch) -> None:
+    monkeypatch.setenv("RT_JOBS", "7")
+    gate(repository, "30 passed, 0 failed", "12 passed, 0 failed")
+    assert (repository.parent / "bin/rt.jobs").read_text() == "7\n"
