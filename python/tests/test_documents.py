@@ -2,6 +2,7 @@
 from __future__ import annotations
 
 import re
+import subprocess
 from pathlib import Path
 
 import pytest
@@ -96,3 +97,25 @@ def test_no_page_is_hidden() -> None:
         ends = {(page.parent / it.partition("#")[0]).resolve() for it in links(page) if it[0] != "#"}
         left += [it for it in ends if it.suffix == ".md" and it.exists() and it not in reached]
     assert reached >= {*TOP.glob("*.md"), *TOP.glob("docs/*.md"), *TOP.glob("python/*.md")}
+
+
+SHOWN = re.compile(r"^<!-- (crates/\S+) -->\n```\n(.*?)^```$", re.MULTILINE | re.DOTALL)
+
+
+def test_the_definitions_that_a_page_shows_are_those_of_the_crates() -> None:
+    shown = SHOWN.findall((TOP / "docs/DEFINITIONS.md").read_text())
+    assert len(shown) >= 4
+    for path, text in shown:
+        assert text in (TOP / path).read_text(), path
+
+
+def test_how_much_a_reader_of_the_headline_has_to_read() -> None:
+    """The definitions are those that the clauses cite, and none that only a proof cites."""
+    asked = [TOP / "tools/definitions", "sk_verdict", "src/judgement.rt"]
+    listed = subprocess.run(asked, capture_output=True, text=True, check=True).stdout.splitlines()
+    files = [line.split()[1] for line in listed[:-1]]
+    assert "crates/sk_verdict/specs/Judging.antt" in files
+    assert "crates/sk_rules/specs/Reach.antt" in files
+    assert not [it for it in files if "/proofs/" in it or "sk_lang" in it]
+    lines = sum(int(line.split()[0]) for line in listed[:-1])
+    assert listed[-1].startswith(f"{len(files)} files of definitions, {lines} lines, ")
