@@ -15,9 +15,12 @@ class Classes(Generic[T]):
 
     def leader(self, one: T) -> T:
         """What leads the class of a thing."""
-        while one in self._above:
-            one = self._above[one]
-        return one
+        leader = one
+        while leader in self._above:
+            leader = self._above[leader]
+        if leader != one:
+            self._above[one] = leader
+        return leader
 
     def join(self, first: T, second: T) -> bool:
         """Joins the classes of two things, led by what leads the first; False where they are one

@@ -5,12 +5,16 @@ from __future__ import annotations
 from collections.abc import Callable
 from dataclasses import dataclass
 from fractions import Fraction
+from math import isqrt
 
 Number = int | Fraction
 """A whole number or a fraction; never a float. Whole numbers are the faster."""
 
 Vector = tuple[Number, Number]
 """A place, or a way from one to another, by two components."""
+
+DECIMALS = 10 ** 12
+"""How finely a root is worked out that is no whole number: by the part of its unit."""
 
 
 def between(first: Vector, second: Vector) -> Vector:
@@ -31,6 +35,11 @@ def cross(first: Vector, second: Vector) -> Number:
 def square(way: Vector) -> Number:
     """The square of the length."""
     return dot(way, way)
+
+
+def root(value: Number) -> Fraction:
+    """The square root of a number that isn't negative, rounded down to `DECIMALS`."""
+    return Fraction(isqrt(int(value * DECIMALS ** 2)), DECIMALS)
 
 
 @dataclass(frozen=True)

@@ -9,8 +9,8 @@ from fractions import Fraction
 import numpy as np
 
 from pertxogai.drawing import (
-    Coincident, Concentric, Constraint, Drawing, Parallel, ParallelDistance, PointOn, PointRef,
-    Sense, Which, XDistance, YDistance)
+    Constraint, Drawing, Parallel, ParallelDistance, PointOn, Sense, XDistance, YDistance)
+from pertxogai.drawing.meetings import JOINING_ALONE, pair_of
 from pertxogai.search.arrays import Array, Indices, dense
 from pertxogai.search.equations import Equations
 from pertxogai.search.rank import wide
@@ -111,16 +111,11 @@ class Demand:
 
 def _without_joining(constraint: Constraint) -> tuple[Constraint, ...]:
     """What asks the same, but that points which are told to be one are still two."""
-    match constraint:
-        case Coincident(first, second):
-            pass
-        case Concentric(one, other):
-            first, second = (PointRef(each.name, Which.CENTRE) for each in (one, other))
-        case _:
-            return (constraint,)
-    nothing = Fraction(0)
-    return (XDistance(first, second, nothing, Sense.SIGNED),
-            YDistance(first, second, nothing, Sense.SIGNED))
+    pair = pair_of(constraint)
+    if pair is None or not isinstance(constraint, JOINING_ALONE):
+        return (constraint,)
+    return (XDistance(pair.first, pair.second, Fraction(0), Sense.SIGNED),
+            YDistance(pair.first, pair.second, Fraction(0), Sense.SIGNED))
 
 
 @dataclass(frozen=True)

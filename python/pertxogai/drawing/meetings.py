@@ -104,14 +104,29 @@ class Meetings:
         return None
 
 
+JOINING_ALONE = Coincident, Concentric
+"""What says that two points are one, and nothing else."""
+
+
+def pair_of(constraint: Constraint) -> Pair | None:
+    """The two points that a constraint says are one; None where it says that of none."""
+    match constraint:
+        case Coincident(first, second):
+            return Pair(first, second)
+        case Concentric(one, other):
+            return Pair(PointRef(one.name, Which.CENTRE), PointRef(other.name, Which.CENTRE))
+        case Tangent(at=at) | Perpendicular(at=at):
+            return at
+        case _:
+            return None
+
+
+def joins_points(constraint: Constraint) -> bool:
+    """Whether it makes two points one: without it a drawing has other unknowns."""
+    return pair_of(constraint) is not None
+
+
 def joined(drawing: Drawn) -> Iterator[Pair]:
     """Each two points of which a word of the drawing says that they are one."""
     yield from drawing.shared()
-    for constraint in drawing.constraints:
-        match constraint:
-            case Coincident(first, second):
-                yield Pair(first, second)
-            case Concentric(one, other):
-                yield Pair(PointRef(one.name, Which.CENTRE), PointRef(other.name, Which.CENTRE))
-            case Tangent(at=Pair() as pair) | Perpendicular(at=Pair() as pair):
-                yield pair
+    yield from filter(None, map(pair_of, drawing.constraints))

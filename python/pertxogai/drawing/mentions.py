@@ -1,4 +1,4 @@
-"""What a constraint speaks of, and whether it makes points one."""
+"""What a constraint speaks of."""
 
 from __future__ import annotations
 
@@ -6,8 +6,7 @@ from collections.abc import Iterator
 from dataclasses import fields, is_dataclass
 
 from pertxogai.cached import cached_on
-from pertxogai.drawing.constraints import (
-    Coincident, Concentric, Constraint, Perpendicular, Tangent)
+from pertxogai.drawing.constraints import Constraint
 from pertxogai.drawing.references import Pair, PointRef, ShapeRef
 
 
@@ -27,14 +26,3 @@ def named(constraint: Constraint) -> frozenset[str]:
     """The names of the shapes that a constraint speaks of."""
     return frozenset(ref.shape if isinstance(ref, PointRef) else ref.name
                      for ref in refs_of(constraint))
-
-
-def joins_points(constraint: Constraint) -> bool:
-    """Whether it tells points to be one: without it a drawing has other unknowns."""
-    match constraint:
-        case Coincident() | Concentric():
-            return True
-        case Tangent(at=at) | Perpendicular(at=at):
-            return at is not None
-        case _:
-            return False

@@ -7,11 +7,11 @@ from __future__ import annotations
 from collections.abc import Iterator
 from dataclasses import dataclass
 from fractions import Fraction
-from math import isqrt
 
+from pertxogai.exact import between, cross, root, square
 from pertxogai.spelling.axes import Axes, Equation
 from pertxogai.spelling.facts import Facts, Knot, Line, Owner
-from pertxogai.spelling.linear import Form, Number
+from pertxogai.spelling.linear import Form
 from pertxogai.spelling.rails import Rails, Size
 from pertxogai.spelling.settling import with_equation
 
@@ -37,15 +37,9 @@ def frozen_choices(axes: Axes, rails: Rails) -> Iterator[Frozen]:
 
 def _drawn_distance(facts: Facts, first: Knot, second: Knot | Line) -> Fraction:
     """How far a point is drawn from a point, or from a line, in micrometres."""
-    x, y = facts.drawn[first]
+    place = facts.drawn[first]
     if isinstance(second, Knot):
-        u, v = facts.drawn[second]
-        return _root((u - x) ** 2 + (v - y) ** 2)
-    a, b = facts.direction(second)
-    u, v = facts.drawn[facts.own[second][0]]
-    aside = a * (y - v) - b * (x - u)
-    return max(aside, -aside) / _root(a * a + b * b)
-
-
-def _root(square: Number) -> Fraction:
-    return Fraction(isqrt(int(square * 10 ** 24)), 10 ** 12)
+        return root(square(between(place, facts.drawn[second])))
+    way, start = facts.direction(second), facts.drawn[facts.own[second][0]]
+    aside = cross(way, between(start, place))
+    return max(aside, -aside) / root(square(way))

@@ -6,9 +6,10 @@ from __future__ import annotations
 from collections.abc import Iterator
 from dataclasses import dataclass
 from fractions import Fraction
-from math import atan2, cos, isqrt, pi, sin
+from math import atan2, cos, pi, sin
 
-from pertxogai.judging.printed import PointNm, PrintedPlaces, along
+from pertxogai.exact import Vector, between, root, square
+from pertxogai.judging.printed import PrintedPlaces, along
 from pertxogai.program.reports import PartsReport, Solved
 from pertxogai.spelling.axes import Axes, Equation
 from pertxogai.spelling.facts import DATUM, Knot, Line
@@ -80,7 +81,7 @@ def _coordinates(rails: Rails, spelled: Spelled, plate: PrintedPlaces,
 
 
 def _axis_by_points(rails: Rails, spelled: Spelled, plate: PrintedPlaces,
-                    frame: int) -> PointNm | None:
+                    frame: int) -> Vector | None:
     """The direction of a frame's first axis by two points of a line of it that isn't in the part
     itself; None where there are none."""
     axes, spots = rails.axes, plate.points
@@ -91,14 +92,14 @@ def _axis_by_points(rails: Rails, spelled: Spelled, plate: PrintedPlaces,
                  if (name := spelled.points.get(each.knot, "")) in spots]
         if len(names) >= 2:
             (first, one), (second, other) = names[0], names[-1]
-            (x, y), (u, v) = axes.facts.drawn[first], axes.facts.drawn[second]
-            (a, b), (c, d) = spots[one], spots[other]
-            if (a, b) != (c, d):
-                return _turned_back((c - a, d - b), axes, line, (u - x, v - y))
+            way = between(spots[one], spots[other])
+            if any(way):
+                drawn = between(axes.facts.drawn[first], axes.facts.drawn[second])
+                return _turned_back(way, axes, line, drawn)
     return None
 
 
-def _turned_back(way: PointNm, axes: Axes, line: Line, drawn: PointNm) -> PointNm:
+def _turned_back(way: Vector, axes: Axes, line: Line, drawn: Vector) -> Vector:
     """The first axis of a line's frame where a way along the line runs so, which is drawn in
     another direction."""
     a, b = axes.frame(line).way
@@ -107,11 +108,11 @@ def _turned_back(way: PointNm, axes: Axes, line: Line, drawn: PointNm) -> PointN
         turn += pi
     c, s = (Fraction(round(each)) if abs(each - round(each)) < 1e-12 else Fraction(each)
             for each in (cos(turn), sin(turn)))
-    size = distance((0, 0), way)
+    size = root(square(way))
     return (way[0] * c + way[1] * s) / size, (way[1] * c - way[0] * s) / size
 
 
-def _along(rails: Rails, spelled: Spelled, plate: PrintedPlaces, axis: PointNm,
+def _along(rails: Rails, spelled: Spelled, plate: PrintedPlaces, axis: Vector,
            frame: int, upwards: bool) -> Iterator[tuple[Form, Number]]:
     """Each rail and coordinate of a part, in rails, and its place along an axis."""
     for heading in spelled.headings:
@@ -149,8 +150,7 @@ def _spans(rails: Rails, spelled: Spelled, plate: PrintedPlaces) -> Iterator[For
                 yield Form({Span(first, second): 1}, -plate.height(track, name))
 
 
-def distance(first: PointNm, second: PointNm) -> Fraction:
+def distance(first: Vector, second: Vector) -> Fraction:
     """How far two places are apart."""
-    square = (first[0] - second[0]) ** 2 + (first[1] - second[1]) ** 2
-    return Fraction(isqrt(int(square * 10 ** 24)), 10 ** 12)
+    return root(square(between(first, second)))
 

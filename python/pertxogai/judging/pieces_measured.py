@@ -11,8 +11,8 @@ from pertxogai.drawing.mentions import named
 from pertxogai.judging.measure.amounts import amounts
 from pertxogai.judging.measure.deviation import Deviation, Unit
 from pertxogai.judging.measure.placed import Placed
-from pertxogai.judging.measure.solution import Frame, MissingPlace, Solution
-from pertxogai.judging.printed import PointNm, PrintedPlaces
+from pertxogai.judging.measure.solution import Frame, MissingPlace, PointNm, Solution
+from pertxogai.judging.printed import PrintedPlaces
 from pertxogai.judging.trials import Trial, written_by
 from pertxogai.program import Solver
 from pertxogai.program.reports import Solved, read_parts

@@ -5,38 +5,36 @@ from __future__ import annotations
 from collections.abc import Sequence
 from dataclasses import dataclass
 from fractions import Fraction
-from math import cos, isqrt, sin
+from math import cos, sin
 
-from pertxogai.exact import whole_near
+from pertxogai.exact import Vector, root, square, whole_near
 from pertxogai.judging.turning import KnownSum, axis_of, drawn_axis, known_sum
 from pertxogai.language import Placed, PlacedLine, PlacedPoint
 from pertxogai.spelling.axes import Axes
+from pertxogai.spelling.drafts import PointUm
 from pertxogai.spelling.facts import DATUM
 from pertxogai.spelling.linear import Number, small
 from pertxogai.spelling.writing import Heading, Spelled
-
-PointNm = tuple[Number, Number]
-DIGITS = 10 ** 24
 
 
 @dataclass(frozen=True)
 class PrintedPlaces:
     """Printed points and lines by their names, in micrometres of the drawing."""
 
-    points: dict[str, PointNm]
+    points: dict[str, PointUm]
     lines: dict[str, tuple[Number, Number, Number]]
 
     @staticmethod
     def of(places: Sequence[Placed], scale: int) -> PrintedPlaces:
         """The places of a sketch that is so many times as large as the drawing."""
         per = 1000 * scale
-        points: dict[str, PointNm] = {
+        points: dict[str, PointUm] = {
             each.name: (_divided(each.x_nm, per), _divided(each.y_nm, per))
             for each in places if isinstance(each, PlacedPoint)}
         lines = {each.name: _line(each, per) for each in places if isinstance(each, PlacedLine)}
         return PrintedPlaces(points, lines)
 
-    def axis(self, headings: Sequence[Heading], frame: int) -> PointNm | None:
+    def axis(self, headings: Sequence[Heading], frame: int) -> Vector | None:
         """The direction of a frame's first axis; None where none of its lines is here."""
         mine = [each for each in headings if each.frame == frame and each.name in self.lines]
         mine.sort(key=lambda each: each.quarters is None)
@@ -56,7 +54,7 @@ class PrintedPlaces:
         aside = a * x + b * y - c
         return max(aside, -aside)
 
-    def foot(self, line: str) -> PointNm:
+    def foot(self, line: str) -> PointUm:
         """The line's place nearest to 0 0."""
         a, b, c = self.lines[line]
         return a * c, b * c
@@ -73,15 +71,14 @@ def _line(line: PlacedLine, per: int) -> tuple[Number, Number, Number]:
     return a, b, _divided(line.c_nm, per)
 
 
-def _of_length_one(a: Fraction, b: Fraction) -> PointNm:
+def _of_length_one(a: Fraction, b: Fraction) -> Vector:
     if not a or not b:
         return (a > 0) - (a < 0), (b > 0) - (b < 0)
-    square = a * a + b * b
-    size = Fraction(isqrt(int(square * DIGITS)), 10 ** 12)
+    size = root(square((a, b)))
     return a / size, b / size
 
 
-def along(axis: PointNm, upwards: bool, spot: PointNm) -> Number:
+def along(axis: Vector, upwards: bool, spot: PointUm) -> Number:
     """A place along an axis, or `upwards` along its left."""
     (a, b), (x, y) = axis, spot
     if b == 0:
@@ -115,7 +112,7 @@ def is_tied(axes: Axes, spelled: Spelled) -> bool:
     return spelled.tied() or axis_of(axes, spots) is not None
 
 
-def _shift(axes: Axes, spelled: Spelled, plate: PrintedPlaces, axis: PointNm,
+def _shift(axes: Axes, spelled: Spelled, plate: PrintedPlaces, axis: Vector,
            upwards: bool) -> Number:
     """How far the printed places are moved along an axis: by a line that is the datum's, points
     of which the coordinate is told, or a sum of several, or the first point, which stays where it

@@ -7,17 +7,14 @@ from __future__ import annotations
 
 from collections.abc import Iterator, Mapping
 from fractions import Fraction
-from math import isqrt
 
 from pertxogai.drawing import X_AXIS, Y_AXIS
-from pertxogai.exact import between, whole_near
+from pertxogai.drawing.places import NM_PER_UM
+from pertxogai.exact import Vector, between, cross, root, square, whole_near
+from pertxogai.judging.measure.solution import PointNm
 from pertxogai.spelling.axes import rank
 from pertxogai.spelling.facts import Apart, Facts, Knot, Line, Off, RadiusOf, Sized
-from pertxogai.spelling.linear import Form, LinearSystem, Number
-
-PointNm = tuple[Number, Number]
-DIGITS = 10 ** 12
-NM_PER_UM = 1000
+from pertxogai.spelling.linear import Form, LinearSystem
 
 
 class Sizes:
@@ -50,21 +47,16 @@ class Sizes:
     def _distance_nm(self, fact: Apart | Off) -> Fraction:
         """How far a point is placed from another, or from a line."""
         if isinstance(fact, Apart):
-            return _length(between(self._spots[fact.first], self._spots[fact.second]))
+            return root(square(between(self._spots[fact.first], self._spots[fact.second])))
         start, way = self._line(fact.line)
         step = between(start, self._spots[fact.point])
         if not any(way):
-            return _length(step)
-        return abs(Fraction(way[0] * step[1] - way[1] * step[0])) / _length(way)
+            return root(square(step))
+        return abs(Fraction(cross(way, step))) / root(square(way))
 
-    def _line(self, line: Line) -> tuple[PointNm, PointNm]:
+    def _line(self, line: Line) -> tuple[PointNm, Vector]:
         """A placed point of a line, and the way from there to another."""
         if line in (X_AXIS, Y_AXIS):
             return (0, 0), ((1, 0) if line == X_AXIS else (0, 1))
         first, second = (self._spots[knot] for knot in self._facts.own[line])
         return first, between(first, second)
-
-
-def _length(way: PointNm) -> Fraction:
-    square = Fraction(way[0]) ** 2 + Fraction(way[1]) ** 2
-    return Fraction(isqrt(int(square * DIGITS ** 2)), DIGITS)

@@ -10,16 +10,13 @@ from collections.abc import Collection, Hashable, Iterator, Mapping
 from dataclasses import dataclass
 from fractions import Fraction
 from itertools import chain, combinations
-from math import cos, isqrt, sin
+from math import cos, sin
 
-from pertxogai.exact import between, square
+from pertxogai.exact import Vector, between, dot, root, square
 from pertxogai.spelling.axes import Axes, Coordinate
 from pertxogai.spelling.facts import DATUM, Knot
 from pertxogai.spelling.lean import Lean
 from pertxogai.spelling.linear import Form, Number
-
-PointNm = tuple[Number, Number]
-DIGITS = 10 ** 12
 
 
 @dataclass(frozen=True)
@@ -31,10 +28,10 @@ class Told:
     second: Knot
     along: Number | None = None
     across: Number | None = None
-    direction: PointNm | None = None
+    direction: Vector | None = None
 
 
-def axis_of(axes: Axes, spots: Mapping[Knot, PointNm]) -> PointNm | None:
+def axis_of(axes: Axes, spots: Mapping[Knot, Vector]) -> Vector | None:
     """The direction of the datum's x axis among the printed places, by the longest way that tells
     it; None where none does, so that the drawing may turn as a whole. Its length is any."""
     for told in sorted(_ways(axes, spots), key=lambda each: -square(_way(spots, each))):
@@ -44,7 +41,7 @@ def axis_of(axes: Axes, spots: Mapping[Knot, PointNm]) -> PointNm | None:
     return None
 
 
-def drawn_axis(axes: Axes, spots: Mapping[Knot, PointNm]) -> PointNm | None:
+def drawn_axis(axes: Axes, spots: Mapping[Knot, Vector]) -> Vector | None:
     """The direction of the datum's x axis where nothing tells it: the first segment runs as it is
     drawn; of points alone the way between the first two. None where all lie on one place."""
     for first, second in chain(axes.facts.own.values(), combinations(spots, 2)):
@@ -86,7 +83,7 @@ def known_sum(axes: Axes, upwards: bool, knots: Collection[Knot]) -> KnownSum | 
     return told[0] if told else None
 
 
-def _ways(axes: Axes, spots: Mapping[Knot, PointNm]) -> Iterator[Told]:
+def _ways(axes: Axes, spots: Mapping[Knot, Vector]) -> Iterator[Told]:
     """What is told of the ways between placed points."""
     for line in axes.lines.all():
         if axes.frame(line).number == DATUM:
@@ -102,7 +99,7 @@ def _ways(axes: Axes, spots: Mapping[Knot, PointNm]) -> Iterator[Told]:
 
 
 def _known(axes: Axes, upwards: bool,
-           spots: Mapping[Knot, PointNm]) -> dict[Hashable, list[tuple[Knot, Number]]]:
+           spots: Mapping[Knot, Vector]) -> dict[Hashable, list[tuple[Knot, Number]]]:
     """The placed points of which a coordinate is known against each other's, and these."""
     found: dict[Hashable, list[tuple[Knot, Number]]] = defaultdict(list)
     for knot in spots:
@@ -111,7 +108,7 @@ def _known(axes: Axes, upwards: bool,
     return found
 
 
-def _direction(lean: Lean) -> PointNm:
+def _direction(lean: Lean) -> Vector:
     """The direction of a line that leans so against the x axis."""
     way = lean.way()
     if way is not None:
@@ -119,32 +116,31 @@ def _direction(lean: Lean) -> PointNm:
     return Fraction(cos(lean.radians())), Fraction(sin(lean.radians()))
 
 
-def _way(spots: Mapping[Knot, PointNm], told: Told) -> PointNm:
+def _way(spots: Mapping[Knot, Vector], told: Told) -> Vector:
     return between(spots[told.first], spots[told.second])
 
 
-def _wanted(axes: Axes, told: Told, way: PointNm) -> PointNm | None:
+def _wanted(axes: Axes, told: Told, way: Vector) -> Vector | None:
     """The way between the two points along the datum's axes, by its direction: on the side on
     which it is drawn where what is told leaves two; None where it is too short for what is told."""
     if not any(way):
         return None
-    (x, y), (u, v) = axes.facts.drawn[told.first], axes.facts.drawn[told.second]
-    drawn = u - x, v - y
+    drawn = between(axes.facts.drawn[told.first], axes.facts.drawn[told.second])
     if told.direction is not None:
         a, b = told.direction
-        return (a, b) if a * drawn[0] + b * drawn[1] >= 0 else (-a, -b)
+        return (a, b) if dot((a, b), drawn) >= 0 else (-a, -b)
     run = told.across if told.along is None else told.along
     assert run is not None
     rest = square(way) - run * run
     if rest < 0:
         return None
-    other = Fraction(isqrt(int(rest * DIGITS ** 2)), DIGITS)
+    other = root(rest)
     if told.along is None:
         return (other if drawn[0] >= 0 else -other), run
     return run, (other if drawn[1] >= 0 else -other)
 
 
-def _turned_back(way: PointNm, wanted: PointNm) -> PointNm:
+def _turned_back(way: Vector, wanted: Vector) -> Vector:
     """The direction from which a way is reached by the turn of another: the way times that other's
     mirror image."""
     (x, y), (a, b) = way, wanted

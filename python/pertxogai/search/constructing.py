@@ -13,7 +13,7 @@ from dataclasses import dataclass, replace
 from pertxogai.drawing import (
     Collinear, Constraint, Drawing, Equal, Length, Midpoint, Parallel, ParallelDistance, PointOn,
     Symmetric, Tangent)
-from pertxogai.drawing.mentions import joins_points
+from pertxogai.drawing.meetings import joins_points
 from pertxogai.judging.judgement import Judgement, judge_at_once
 from pertxogai.judging.limits import DrawingRefused
 from pertxogai.language import NotHeld, Refusal

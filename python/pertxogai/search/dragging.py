@@ -9,7 +9,8 @@ from math import hypot
 import numpy as np
 
 from pertxogai.drawing import Drawing, PointRef, Which, points_of
-from pertxogai.drawing.mentions import joins_points, named
+from pertxogai.drawing.meetings import joins_points
+from pertxogai.drawing.mentions import named
 from pertxogai.drawing.named_shapes import spot_of
 from pertxogai.judging.measure import Solution, Unit, greatest, measure
 from pertxogai.search.arrays import Array, Indices

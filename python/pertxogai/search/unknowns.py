@@ -4,15 +4,16 @@ Points that are told to be one are one point here. The origin and the points of 
 given. Lengths are in nanometres, and not whole."""
 from __future__ import annotations
 
-from collections.abc import Iterable, Iterator, Sequence
+from collections.abc import Iterator, Sequence
 from dataclasses import dataclass
 from enum import Enum
 
 import numpy as np
 
+from pertxogai.classes import Classes
 from pertxogai.drawing import (
-    ORIGIN, Arc, Axis, Circle, Coincident, Concentric, Constraint, Drawing, Pair, Perpendicular,
-    Place, PointOn, PointRef, ShapeRef, Tangent, Which)
+    ORIGIN, Arc, Axis, Circle, Drawing, Pair, Place, PointOn, PointRef, ShapeRef, Which)
+from pertxogai.drawing.meetings import JOINING_ALONE, pair_of
 from pertxogai.search.arrays import Array
 from pertxogai.search.combination import Combination
 
@@ -61,7 +62,7 @@ class Unknowns:
         self.drawing = drawing
         self.given = dict(_given(drawing))
         self.apart: list[Meeting] = []
-        self._leader: dict[PointRef, PointRef] = {}
+        self._classes: Classes[PointRef] = Classes()
         self._rank = {ref: place for place, ref in enumerate([ORIGIN, *drawing.points()])}
         for meeting in _meetings(drawing):
             self._join(meeting)
@@ -78,12 +79,7 @@ class Unknowns:
 
     def leader(self, ref: PointRef) -> PointRef:
         """The point that stands for this one: a given one, else the first that is drawn."""
-        first = ref
-        while first in self._leader:
-            first = self._leader[first]
-        if first != ref:
-            self._leader[ref] = first
-        return first
+        return self._classes.leader(ref)
 
     def _join(self, meeting: Meeting) -> None:
         first, second = sorted(map(self.leader, (meeting.pair.first, meeting.pair.second)),
@@ -93,7 +89,7 @@ class Unknowns:
         elif second in self.given:
             self.apart.append(meeting)
         else:
-            self._leader[second] = first
+            self._classes.join(first, second)
 
     def held(self) -> Iterator[FloatPointNm]:
         """The given places that are points of shapes which aren't outer."""
@@ -170,19 +166,7 @@ def _meetings(drawing: Drawing) -> Iterator[Meeting]:
     for pair in drawing.shared():
         yield Meeting(Source(By.SHAPE, place_of[pair.first.shape]), pair, False)
     for number, constraint in enumerate(drawing.constraints, start=1):
-        for pair, is_whole in _pairs(constraint):
-            yield Meeting(Source(By.CONSTRAINT, number), pair, is_whole)
-
-
-def _pairs(constraint: Constraint) -> Iterable[tuple[Pair, bool]]:
-    """The points that a constraint tells to be one, and whether it says nothing else."""
-    match constraint:
-        case Coincident(first, second):
-            return [(Pair(first, second), True)]
-        case Concentric(one, other):
-            centres = (PointRef(each.name, Which.CENTRE) for each in (one, other))
-            return [(Pair(*centres), True)]
-        case Tangent(at=Pair() as at) | Perpendicular(at=Pair() as at):
-            return [(at, False)]
-        case _:
-            return []
+        joined = pair_of(constraint)
+        if joined is not None:
+            is_whole = isinstance(constraint, JOINING_ALONE)
+            yield Meeting(Source(By.CONSTRAINT, number), joined, is_whole)

@@ -5,8 +5,8 @@ from __future__ import annotations
 from collections.abc import Iterator
 
 from pertxogai.classes import Classes
-from pertxogai.drawing import (
-    ORIGIN, Coincident, Concentric, Drawing, Pair, Perpendicular, PointRef, Tangent, Which)
+from pertxogai.drawing import ORIGIN, Drawing, Pair, PointRef
+from pertxogai.drawing.meetings import JOINING_ALONE, pair_of
 from pertxogai.spelling.facts import ORIGIN_KNOT, Knot, Owner
 
 
@@ -30,11 +30,6 @@ def _pairs_that_are_one(drawing: Drawing) -> Iterator[tuple[Pair, Owner | None]]
     """Each two points that a constraint says to be one, with its owner where it says nothing
     else."""
     for number, constraint in enumerate(drawing.constraints, 1):
-        match constraint:
-            case Coincident(first, second):
-                yield Pair(first, second), Owner(number)
-            case Concentric(one, other):
-                centres = (PointRef(each.name, Which.CENTRE) for each in (one, other))
-                yield Pair(*centres), Owner(number)
-            case Tangent(at=Pair() as pair) | Perpendicular(at=Pair() as pair):
-                yield pair, None
+        pair = pair_of(constraint)
+        if pair is not None:
+            yield pair, Owner(number) if isinstance(constraint, JOINING_ALONE) else None
