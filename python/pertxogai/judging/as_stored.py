@@ -144,7 +144,8 @@ def _words(owners: Iterable[Owner]) -> list[Owner]:
     return [each for each in owners if each.number]
 
 
-def _whole(owners: Sequence[Collection[Owner]], lines: Iterable[int]) -> tuple[int, ...]:
+def _lines_of_whole_words(owners: Sequence[Collection[Owner]],
+                          lines: Iterable[int]) -> tuple[int, ...]:
     """Those of these lines of which each word has all its lines among them: a word of which a part
     isn't measured counts as measured nowhere."""
     left = set(lines)
@@ -177,7 +178,7 @@ class _Stored:
             each.name: at for each in spelled.sketch.elements
             if (at := self._place(each)) is not None}
         exact = not (judged.frozen or judged.grown)
-        self.lines = _whole(spelled.owners, self._measurable()) if exact else ()
+        self.lines = _lines_of_whole_words(spelled.owners, self._measurable()) if exact else ()
 
     def _measurable(self) -> Iterator[int]:
         """The constraints that are said just so, between placed elements, but for those of words of

@@ -97,7 +97,7 @@ def change(sketch: Sketch, step: Step, named: Callable[[str], str | None]) -> st
     """What turning a step's choice over means for the drawing, by the names that its elements have
     there; None of what only helps."""
     points = [each.name for each in sketch.elements if isinstance(each, (Point, Circle))]
-    kept = sorted(_kept(step), key=lambda name: points.index(name) if name in points else -1)
+    kept = sorted(_base_of(step), key=lambda name: points.index(name) if name in points else -1)
     ends = [name for name in (_built(step), *kept) if name in points]
     lines = [named(name) for name in step.at if name not in points]
     names = [named(name) for name in ends]
@@ -114,7 +114,7 @@ def _built(step: Step) -> str:
     return step.at[(step.joins.index(step.keeps) + 1) % 3]
 
 
-def _kept(step: Step) -> tuple[str, ...]:
+def _base_of(step: Step) -> tuple[str, ...]:
     """The two elements that lie where they are."""
     return tuple(name for name in step.at if name != _built(step))
 

@@ -30,7 +30,7 @@ class NotAccepted(Exception):
 
 def claim_of(good: GoodJudgement | GoodSketch, program: Solver) -> Claim:
     """The claim of what is good, which the program accepts. Raises NotAccepted and ProgramError."""
-    claim = _claimed(*_sketch_and_places(good), program)
+    claim = _claim_of(*_sketch_and_places(good), program)
     verified = program.ask(("verify",), claim.text())
     if verified.status is not Status.DONE:
         raise NotAccepted(f"the program doesn't accept the claim: {verified.text.strip()}")
@@ -51,7 +51,7 @@ def _sketch_and_places(good: GoodJudgement | GoodSketch) -> tuple[Sketch, Solved
     return asked.spelled.sketch, asked.solved
 
 
-def _claimed(sketch: Sketch, solved: Solved, program: Solver) -> Claim:
+def _claim_of(sketch: Sketch, solved: Solved, program: Solver) -> Claim:
     answer = program.ask(("plan",), sketch.text())
     if answer.status is not Status.DONE:
         raise NotAccepted("the program has no plan of what it places")
@@ -96,7 +96,7 @@ def _folder(program: Program) -> Path:
 
 
 def _run_in_python(source: Path, claim: str, limits: Limits) -> Checked:
-    return _answered(source.name, [sys.executable, "-I", str(_there(source))], claim, limits)
+    return _answer_of(source.name, [sys.executable, "-I", str(_there(source))], claim, limits)
 
 
 def _run_in_c(source: Path, claim: str, limits: Limits) -> Checked:
@@ -106,7 +106,7 @@ def _run_in_c(source: Path, claim: str, limits: Limits) -> Checked:
         ended = run_process(words, b"", limits)
         if ended.code:
             raise MissingProgram(f"it can't be built: cc {ended.how()}")
-        return _answered(source.name, [built], claim, limits)
+        return _answer_of(source.name, [built], claim, limits)
 
 
 def _there(source: Path) -> Path:
@@ -116,6 +116,6 @@ def _there(source: Path) -> Path:
     return source
 
 
-def _answered(name: str, words: Sequence[str], claim: str, limits: Limits) -> Checked:
+def _answer_of(name: str, words: Sequence[str], claim: str, limits: Limits) -> Checked:
     ended: Ended = run_process(words, claim.encode("ascii"), limits)
     return Checked(name, ended.code, ended.written.decode("ascii", "replace").strip())

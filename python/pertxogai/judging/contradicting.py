@@ -8,7 +8,7 @@ from fractions import Fraction
 from pertxogai.drawing import Drawing
 from pertxogai.drawing.places import NM_PER_UM
 from pertxogai.judging.freedoms import freedoms
-from pertxogai.judging.from_parts import distance, measured
+from pertxogai.judging.from_parts import distance, forms_of_parts
 from pertxogai.judging.measure.limit import Limit
 from pertxogai.judging.printed import PrintedPlaces
 from pertxogai.program.reports import PartsReport, Solved
@@ -23,7 +23,7 @@ def contradictions(rails: Rails, spelled: Spelled, report: PartsReport,
     limit repeats the others."""
     repeats_um = Fraction(limit.amount, NM_PER_UM)
     known = LinearSystem()
-    for number, form in enumerate(measured(rails, spelled, report)):
+    for number, form in enumerate(forms_of_parts(rails, spelled, report)):
         known.add(form, number)
     said = spelled.left_out.union(*spelled.owners)
     found = []

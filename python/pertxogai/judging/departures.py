@@ -55,12 +55,12 @@ def warnings(drawing: Drawing, solution: Solution, free: bool = False) -> tuple[
     rims = [Rim.of(drawing, solution, shape) for shape in drawing.geometry
             if isinstance(shape, Circle | Arc) and not shape.construction
             and shape.name in solution.radii]
-    return (*_turned(found, free), *_corners(edges, outline), *_crossings(edges, outline),
+    return (*_reversals(found, free), *_corners(edges, outline), *_crossings(edges, outline),
             *_cut_rims(outline, rims),
             *(Departure(DepartureKind.LEAVES, each) for each in leavers(edges, outline, rims)))
 
 
-def _turned(edges: Sequence[Edge], free: bool) -> Iterator[Departure]:
+def _reversals(edges: Sequence[Edge], free: bool) -> Iterator[Departure]:
     """The edges that run against their drawn way, once that is turned by the turn of all."""
     turn = _turn(edges) if free else (1, 0)
     for edge in edges:

@@ -177,13 +177,13 @@ class Plane(Generic[N]):
             case PointOn() | Midpoint() | Symmetric():
                 return self._of_points(constraint)
             case Horizontal() | Vertical() | XDistance() | YDistance():
-                return [self._run(constraint)]
+                return [self._off_run(constraint)]
             case Parallel() | Perpendicular() | AngleBetween() | Collinear():
                 return self._of_lines(constraint)
             case Tangent():
                 return self._tangent(constraint)
             case Fixed(what):
-                return list(self._fixed(what))
+                return list(self._off_place(what))
             case _:
                 return [self._size(constraint)]
 
@@ -191,7 +191,7 @@ class Plane(Generic[N]):
         """That two points are one."""
         return list(between(self.spot(first), self.spot(second)))
 
-    def _met(self, at: Pair | None) -> list[Jet[N]]:
+    def _off_meeting(self, at: Pair | None) -> list[Jet[N]]:
         """That two ends are one; nothing where they are by how they are drawn."""
         if at is None:
             return []
@@ -221,7 +221,7 @@ class Plane(Generic[N]):
         half = self.numbers.of(Fraction(1, 2))
         return (first[0] + second[0]).times(half), (first[1] + second[1]).times(half)
 
-    def _run(self, constraint: Horizontal | Vertical | XDistance | YDistance) -> Jet[N]:
+    def _off_run(self, constraint: Horizontal | Vertical | XDistance | YDistance) -> Jet[N]:
         """How far two points are apart along an axis, less what is asked."""
         upwards = isinstance(constraint, (Horizontal, YDistance))
         match constraint:
@@ -240,15 +240,16 @@ class Plane(Generic[N]):
             case Parallel():
                 return [cross(one, other) / (self.size(one) * self.size(other))]
             case Perpendicular(at=pair):
-                return self._met(pair) + [dot(one, other) / (self.size(one) * self.size(other))]
+                aside = dot(one, other) / (self.size(one) * self.size(other))
+                return self._off_meeting(pair) + [aside]
             case AngleBetween():
-                return [self._turned(one, constraint, other)]
+                return [self._off_turn(one, constraint, other)]
             case Collinear(first, second):
                 first, second = (second, first) if second in (X_AXIS, Y_AXIS) else (first, second)
                 return [self.aside(end, first) for end in self.ends(second)]
         raise AssertionError(constraint)
 
-    def _turned(self, first: Way[N], angle: AngleBetween, second: Way[N]) -> Jet[N]:
+    def _off_turn(self, first: Way[N], angle: AngleBetween, second: Way[N]) -> Jet[N]:
         """By how much the second way isn't the first, turned."""
         ahead, left = (self.number(each) for each in way_of(turn(self.drawing, angle)))
         wanted = (first[0] * ahead - first[1] * left, first[0] * left + first[1] * ahead)
@@ -262,7 +263,8 @@ class Plane(Generic[N]):
             return self._of_lines(Collinear(first, second))
         if contact is not None:
             one, other = (self._normal(first, contact.first), self._normal(second, contact.second))
-            return self._met(tangent.at) + [cross(one, other) / (self.size(one) * self.size(other))]
+            aside = cross(one, other) / (self.size(one) * self.size(other))
+            return self._off_meeting(tangent.at) + [aside]
         if any(lines):
             line, rim = (first, second) if lines[0] else (second, first)
             return [abs(self.aside(self.centre(rim), line)) - self.radius(rim)]
@@ -300,7 +302,7 @@ class Plane(Generic[N]):
                 return self.radius(one) - self.radius(other)
         raise AssertionError(constraint)
 
-    def _fixed(self, what: PointRef | ShapeRef) -> Iterator[Jet[N]]:
+    def _off_place(self, what: PointRef | ShapeRef) -> Iterator[Jet[N]]:
         if isinstance(what, PointRef):
             yield from self._stays_at(what)
             return
@@ -316,15 +318,15 @@ class Plane(Generic[N]):
         if isinstance(shape, Arc):
             arc = ShapeRef(shape.name)
             way = between(self.centre(arc), self.ends(arc)[1])
-            wanted = between(*(self._drawn(ref) for ref in (refs[0], refs[2])))
+            wanted = between(*(self._drawn_way(ref) for ref in (refs[0], refs[2])))
             yield cross(wanted, way) / (self.size(wanted) * self.size(way))
         if isinstance(shape, Circle):
             yield self.radius(ShapeRef(shape.name)) - self.mm(shape.radius_um)
 
     def _stays_at(self, ref: PointRef) -> list[Jet[N]]:
-        return list(between(self._drawn(ref), self.spot(ref)))
+        return list(between(self._drawn_way(ref), self.spot(ref)))
 
-    def _drawn(self, ref: PointRef) -> Way[N]:
+    def _drawn_way(self, ref: PointRef) -> Way[N]:
         place = self.drawing.drawn(ref)
         return self.mm(place.x_um), self.mm(place.y_um)
 

@@ -137,16 +137,16 @@ def _left_out(parts: Iterable[OverPart]) -> list[Excessive]:
 def _over_parts(sketch: language.Sketch, limit: int, program: Solver) -> tuple[OverPart, ...]:
     """The parts that are over, as the program places the rest of each by boxes, or by points where
     it has no places so; by this limit of what is a repeat."""
-    by_boxes = _asked(sketch, limit, program, PlaceBy.BOXES)
+    by_boxes = _ask(sketch, limit, program, PlaceBy.BOXES)
     if all(part.fault is None for part in by_boxes):
         return by_boxes
-    by_points = {each.part.number: each for each in _asked(sketch, limit, program, PlaceBy.POINTS)}
+    by_points = {each.part.number: each for each in _ask(sketch, limit, program, PlaceBy.POINTS)}
     return tuple(by_points.get(each.part.number, each) if each.fault else each
                  for each in by_boxes)
 
 
-def _asked(sketch: language.Sketch, limit: int, program: Solver,
-           place: PlaceBy) -> tuple[OverPart, ...]:
+def _ask(sketch: language.Sketch, limit: int, program: Solver,
+         place: PlaceBy) -> tuple[OverPart, ...]:
     keys = f"within={limit}", f"place={place.value}"
     return read_excess(written_by(program, "excess", sketch.text(), *keys)).parts
 

@@ -159,13 +159,13 @@ def freedoms(drawing: Drawing) -> Freedoms | None:
     steps = Steps()
     try:
         with localcontext(EXACT):
-            found = (_counted(plane, steps) for plane in like_places(drawing, steps))
+            found = (_count(plane, steps) for plane in like_places(drawing, steps))
             return next(filter(None, found), None)
     except TooMany:
         return None
 
 
-def _counted(plane: Plane[Decimal], steps: Steps) -> Freedoms | None:
+def _count(plane: Plane[Decimal], steps: Steps) -> Freedoms | None:
     """The freedoms at a place; None where what is left of an equation is next to nothing. Raises
     TooMany."""
     try:
@@ -183,7 +183,7 @@ def _counted(plane: Plane[Decimal], steps: Steps) -> Freedoms | None:
         if left <= NONE:
             circuits.append({-1 - key: value for key, value in rest.items()
                              if key < 0 and abs(value) > SOME})
-    whole = _whole(plane, slopes)
+    whole = _whole_of(plane, slopes)
     lacks = plane.unknowns.size - len(rows) - whole.ways
     return Freedoms(lacks, whole, tuple(_loose(plane, slopes)),
                     tuple(owner for owner, _ in asked), tuple(circuits), plane)
@@ -278,7 +278,7 @@ def _by_points(slope: Row, leaders: Mapping[int, PointRef]) -> Mapping[PointRef,
 # -- the whole
 
 
-def _whole(plane: Plane[Decimal], slopes: Sequence[Row]) -> Whole:
+def _whole_of(plane: Plane[Decimal], slopes: Sequence[Row]) -> Whole:
     """How the whole may be moved: by which motions no equation changes. Where a point of a shape is
     the origin, it may turn about that alone; a motion that moves no point is none, as the turn of a
     single point about itself."""

@@ -31,7 +31,7 @@ def growths(axes: Axes, rails: Rails, spelled: Spelled, report: PartsReport) -> 
     """Each thing that becomes a value by the placed parts. Where several facts say as much of one
     thing, each is read as the one that tells it, in turn."""
     known = LinearSystem()
-    for number, form in enumerate(measured(rails, spelled, report)):
+    for number, form in enumerate(forms_of_parts(rails, spelled, report)):
         known.add(form, number)
     for pending in rails.pending:
         rest = known.reduced(pending.form)
@@ -56,7 +56,7 @@ def _fixes_one(form: Form) -> bool:
     return len(keys) == len(rails) == 2 and len(axes) == 1 and not sum(form.terms.values())
 
 
-def measured(rails: Rails, spelled: Spelled, report: PartsReport) -> Iterator[Form]:
+def forms_of_parts(rails: Rails, spelled: Spelled, report: PartsReport) -> Iterator[Form]:
     """What the placed parts tell of rails and untold distances, as forms that are 0."""
     for part in report.parts:
         if isinstance(part.shape, Solved) and len(part.part.elements) > 1:
@@ -95,11 +95,11 @@ def _axis_by_points(rails: Rails, spelled: Spelled, plate: PrintedPlaces,
             way = between(spots[one], spots[other])
             if any(way):
                 drawn = between(axes.facts.drawn[first], axes.facts.drawn[second])
-                return _turned_back(way, axes, line, drawn)
+                return _first_axis(way, axes, line, drawn)
     return None
 
 
-def _turned_back(way: Vector, axes: Axes, line: Line, drawn: Vector) -> Vector:
+def _first_axis(way: Vector, axes: Axes, line: Line, drawn: Vector) -> Vector:
     """The first axis of a line's frame where a way along the line runs so, which is drawn in
     another direction."""
     a, b = axes.frame(line).way

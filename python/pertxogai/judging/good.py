@@ -180,11 +180,11 @@ def _json(reason: Reason) -> ReasonJson:
 def _against(judged: JudgedDrawing) -> Iterator[Reason]:
     """Why the judgement on a drawing isn't good. What no constraint tells is looked at where
     nothing else is against it."""
-    found = [*_seen(judged)]
-    yield from found or _untold(judged)
+    found = [*_plain_reasons(judged)]
+    yield from found or _missing_or_mirrored(judged)
 
 
-def _untold(judged: JudgedDrawing) -> Iterator[Reason]:
+def _missing_or_mirrored(judged: JudgedDrawing) -> Iterator[Reason]:
     """What a measure of the constraints doesn't see: that dimensions are missing, by rank, and that
     something lies mirrored."""
     free = judged.judgement.free
@@ -198,7 +198,7 @@ def _untold(judged: JudgedDrawing) -> Iterator[Reason]:
                      "corner turns to the other side than it is drawn")
 
 
-def _seen(judged: JudgedDrawing) -> Iterator[Reason]:
+def _plain_reasons(judged: JudgedDrawing) -> Iterator[Reason]:
     """What the program, the file and the measure say against it."""
     if not judged.drawing.geometry:
         yield Reason(Lack.EMPTY, "nothing is drawn in it that could be judged")
@@ -208,12 +208,12 @@ def _seen(judged: JudgedDrawing) -> Iterator[Reason]:
         yield Reason(Lack.NOT_PRINTED, "the judgement is of another drawing")
         return
     solved = judgement.asked.solved
-    yield from _unplaced(judgement.verdict, solved, judgement.solution is not None)
+    yield from _without_places(judgement.verdict, solved, judgement.solution is not None)
     for what in judged.not_drawn:
         yield Reason(Lack.LEFT_OUT, f"left out of the file: {what}")
     if judgement.solution is not None and isinstance(solved, Solved):
         yield from _not_printed(judged, judgement.solution, solved)
-        yield from _measured(judged, judgement.solution)
+        yield from _constraints_off(judged, judgement.solution)
 
 
 def _not_printed(judged: JudgedDrawing, solution: Solution, solved: Solved) -> Iterator[Reason]:
@@ -243,14 +243,14 @@ def _is_printed(asked: Trial, knot: Knot, printed: Collection[str]) -> bool:
     return knot == ORIGIN_KNOT and len(axes) == 2
 
 
-def _unplaced(verdict: Verdict, solved: object, placed: bool) -> Iterator[Reason]:
+def _without_places(verdict: Verdict, solved: object, placed: bool) -> Iterator[Reason]:
     if verdict is not Verdict.WELL:
         yield Reason(Lack.VERDICT, f"it is {verdict.value}")
     elif not isinstance(solved, Solved) or not placed:
         yield Reason(Lack.NO_PLACES, "it has no places")
 
 
-def _measured(judged: JudgedDrawing, solution: Solution) -> Iterator[Reason]:
+def _constraints_off(judged: JudgedDrawing, solution: Solution) -> Iterator[Reason]:
     """The constraints that don't hold on the places, lengths before directions, and those that are
     off most first. They are measured here, unless the judgement's measurement is of these very
     places: what one says was measured."""
@@ -273,7 +273,7 @@ def _order(off: Deviation) -> tuple[bool, int]:
 def _against_sketch(judged: JudgedSketch) -> Iterator[Reason]:
     """Why a judged sketch isn't good."""
     solved, most = judged.solved, judged.limit.amount
-    yield from _unplaced(judged.check.verdict, solved, solved is not None)
+    yield from _without_places(judged.check.verdict, solved, solved is not None)
     if not _is_of(judged.check, judged.sketch) or solved and not _places(solved, judged.sketch):
         yield Reason(Lack.NOT_PRINTED, "the program's answer is of another sketch")
     elif solved:

@@ -72,7 +72,7 @@ def judge_sketch(
     """Asks the program what there is to say of a sketch, or of a text. Raises TextRefused and
     ProgramError."""
     text = given if isinstance(given, str) else given.text()
-    check = read_check(_written(name, "check", text, asks))
+    check = read_check(_output_of(name, "check", text, asks))
     try:
         sketch = Sketch.parse(text)
     except Refusal as refusal:
@@ -80,32 +80,32 @@ def judge_sketch(
             f"the program reads what pertxogai doesn't ({refusal}): they are of different versions"
         ) from None
     if check.verdict is Verdict.WELL:
-        return _placed(name, sketch, check, text, asks, limit)
+        return _with_places(name, sketch, check, text, asks, limit)
     within = f"within={limit.amount}"
-    parts = read_parts(_written(name, "parts", text, asks, within))
+    parts = read_parts(_output_of(name, "parts", text, asks, within))
     if check.verdict is Verdict.OPEN:
         return JudgedSketch(name, sketch, check, parts=parts, limit=limit)
-    spare = read_spare(_written(name, "spare", text, asks))
-    excess = read_excess(_written(name, "excess", text, asks, within))
+    spare = read_spare(_output_of(name, "spare", text, asks))
+    excess = read_excess(_output_of(name, "excess", text, asks, within))
     why = None
     if work_of(check, any(part.stays_over() for part in excess.parts)) <= WORK:
-        why = read_why(_written(name, "why", text, asks))
+        why = read_why(_output_of(name, "why", text, asks))
     return JudgedSketch(name, sketch, check, None, None, None, spare, excess, parts, limit,
                         why=why)
 
 
-def _written(name: str, command: str, text: str, asks: Solver, *keys: str) -> str:
+def _output_of(name: str, command: str, text: str, asks: Solver, *keys: str) -> str:
     """What a command writes, where it does its work. Raises TextRefused and NotAReport."""
     return _done(name, asks.ask([command, *keys], text), text).text
 
 
-def _placed(
+def _with_places(
     name: str, sketch: Sketch, check: CheckReport, text: str, asks: Solver, limit: Limit
 ) -> JudgedSketch:
     within = f"within={limit.amount}"
     answer = asks.ask(["solve", within], text)
     if answer.status in (Status.FAULT, Status.TOLERANCE):
-        plan = read_plan(_written(name, "plan", text, asks))
+        plan = read_plan(_output_of(name, "plan", text, asks))
         fault = read_fault(answer.text)
         turned = tried(sketch, beneath(plan, fault), asks, [within])
         return JudgedSketch(name, sketch, check, None, fault, plan, limit=limit, tried=turned)
@@ -135,11 +135,13 @@ def concerned(judged: JudgedSketch) -> tuple[Constraint, ...]:
     if isinstance(fault, TurnedFault) and not fault.of.is_step:
         return (constraints[fault.of.number - 1],)
     if isinstance(fault, (NumberFault, RangeFault)):
-        return _joined(judged.plan, fault.at.step)
-    return _joined(judged.plan, fault.of.number) if isinstance(fault, TurnedFault) else ()
+        return _constraints_joined(judged.plan, fault.at.step)
+    if isinstance(fault, TurnedFault):
+        return _constraints_joined(judged.plan, fault.of.number)
+    return ()
 
 
-def _joined(plan: Plan | None, step: int) -> tuple[Constraint, ...]:
+def _constraints_joined(plan: Plan | None, step: int) -> tuple[Constraint, ...]:
     """The constraints of the clusters that a step joins, where these are its own leaves."""
     if plan is None:
         return ()

@@ -261,7 +261,7 @@ def judge_edited(edited: EditedDrawing, program: Solver, freeze: bool = False,
     names = Names(drawing, asked.spelled, asked.axes.facts.refs)
     judged = Judgement(asked.verdict, asked, names, limit=limit)
     if asked.check is None:
-        return _placed(judged, edited, program)
+        return _with_places(judged, edited, program)
     if asked.verdict is Verdict.OPEN:
         return replace(judged, missing=missing(names, asked.check))
     return replace(judged, surplus=tuple(Surplus(number, drawing.called(number), None)
@@ -297,17 +297,17 @@ def with_counts(judged: Judgement, program: Solver) -> CountedJudgement:
     return CountedJudgement(**_fields(judged, asked=counted(judged.asked, program)))
 
 
-def _placed(judged: Judgement, edited: EditedDrawing, program: Solver) -> Judgement:
+def _with_places(judged: Judgement, edited: EditedDrawing, program: Solver) -> Judgement:
     solved = judged.asked.solved
     if isinstance(solved, Solved):
-        judged = _measured(judged, edited)
+        judged = _with_measurement(judged, edited)
         if not any(each.amount > FINE_NM for each in judged.deviations):
             return judged
         asked = finer(Question(judged.names.drawing, program, judged.limit), judged.asked)
         if asked is judged.asked:
             return judged
-        fine = _measured(replace(judged, asked=asked,
-                                 names=replace(judged.names, spelled=asked.spelled)), edited)
+        names = replace(judged.names, spelled=asked.spelled)
+        fine = _with_measurement(replace(judged, asked=asked, names=names), edited)
         return min((judged, fine), key=_greatest)
     if solved is None:
         return judged
@@ -315,7 +315,7 @@ def _placed(judged: Judgement, edited: EditedDrawing, program: Solver) -> Judgem
     return replace(judged, failure=failure(judged.names, solved, plan))
 
 
-def _measured(judged: Judgement, edited: EditedDrawing) -> Judgement:
+def _with_measurement(judged: Judgement, edited: EditedDrawing) -> Judgement:
     """With the places in the datum's frame, and all that is measured on them."""
     if not isinstance(judged.asked.solved, Solved):
         return judged

@@ -118,7 +118,7 @@ class _Newton(Generic[N]):
     def held(self, plane: Plane[N], turns: int) -> Plane[N] | None:
         """The place that is reached from another in some turns; None where it isn't reached."""
         for _ in range(turns + 1):
-            asked = list(self._asked(plane))
+            asked = list(self._equations(plane))
             if all(abs(each.value) < self.most for each in asked):
                 return plane
             off = self._off(asked)
@@ -127,7 +127,7 @@ class _Newton(Generic[N]):
             plane = Plane(plane.unknowns, vector, plane.numbers)
         return None
 
-    def _asked(self, plane: Plane[N]) -> Iterator[Jet[N]]:
+    def _equations(self, plane: Plane[N]) -> Iterator[Jet[N]]:
         yield from (jet for _, jet in plane.of_shapes())
         for constraint in self.words:
             yield from plane.asked(constraint)

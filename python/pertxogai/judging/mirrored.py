@@ -93,7 +93,7 @@ def _pieces(edges: Edges) -> Iterator[list[Edge]]:
         beside = (edges.of_distance(each) for each in told)
         found += [each for each in beside if ended.isdisjoint(edges.leaders(each))]
         yield from _closed_or_chained(edges, found)
-    yield from _held(edges, shapes, [edges.of_distance(each) for each in told])
+    yield from _points_by_distances(edges, shapes, [edges.of_distance(each) for each in told])
 
 
 def _closed_or_chained(edges: Edges, found: Sequence[Edge]) -> Iterator[list[Edge]]:
@@ -119,8 +119,8 @@ def _hanging_together(places: Collection[int],
     return list({id(group): group for group in groups.values()}.values())
 
 
-def _held(edges: Edges, shapes: Sequence[Segment | Arc],
-          told: Sequence[Edge]) -> Iterator[list[Edge]]:
+def _points_by_distances(edges: Edges, shapes: Sequence[Segment | Arc],
+                         told: Sequence[Edge]) -> Iterator[list[Edge]]:
     """Each point in which no shape ends, with two distances from it, and the segment or distance
     between the two others."""
     drawn = [edges.of_shape(each) for each in shapes]

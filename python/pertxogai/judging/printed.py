@@ -29,7 +29,7 @@ class PrintedPlaces:
         """The places of a sketch that is so many times as large as the drawing."""
         per = 1000 * scale
         points: dict[str, PointUm] = {
-            each.name: (_divided(each.x_nm, per), _divided(each.y_nm, per))
+            each.name: (_quotient(each.x_nm, per), _quotient(each.y_nm, per))
             for each in places if isinstance(each, PlacedPoint)}
         lines = {each.name: _line(each, per) for each in places if isinstance(each, PlacedLine)}
         return PrintedPlaces(points, lines)
@@ -60,7 +60,7 @@ class PrintedPlaces:
         return a * c, b * c
 
 
-def _divided(value: int, by: int) -> Number:
+def _quotient(value: int, by: int) -> Number:
     """A quotient, whole where it can be."""
     whole, rest = divmod(value, by)
     return Fraction(value, by) if rest else whole
@@ -68,7 +68,7 @@ def _divided(value: int, by: int) -> Number:
 
 def _line(line: PlacedLine, per: int) -> tuple[Number, Number, Number]:
     a, b = _of_length_one(Fraction(line.a_ppb), Fraction(line.b_ppb))
-    return a, b, _divided(line.c_nm, per)
+    return a, b, _quotient(line.c_nm, per)
 
 
 def _of_length_one(a: Fraction, b: Fraction) -> Vector:

@@ -85,17 +85,17 @@ def what_may_go(question: Question, asked: Trial) -> tuple[Surplus, ...]:
     drawing = question.drawing
     free = freedoms(drawing)
     if free is None:
-        return _named(drawing, spare_at_once(drawing, asked, question.program))
+        return _untried(drawing, spare_at_once(drawing, asked, question.program))
     numbers = _spare_by_rank(drawing, free)
     trials = _Trials(question, free)
     with suppress(_Enough):
         trials.try_all(numbers)
     untried = [number for number in numbers if number not in trials.found]
-    found = [*trials.found.values(), *_named(drawing, untried)]
+    found = [*trials.found.values(), *_untried(drawing, untried)]
     return tuple(sorted(_consistent(found, free.excess), key=_order))
 
 
-def _named(drawing: Drawing, numbers: Iterable[int]) -> tuple[Surplus, ...]:
+def _untried(drawing: Drawing, numbers: Iterable[int]) -> tuple[Surplus, ...]:
     """Dimensions that weren't tried."""
     return tuple(Surplus(number, drawing.called(number), None) for number in numbers)
 
@@ -189,7 +189,7 @@ class _Trials:
         too many beside it; and then how far rounding moves what is off. Raises _Enough."""
         last = self._last(numbers)
         for number in numbers:
-            self.found[number] = self._tried(number, self._others(number, last))
+            self.found[number] = self._try(number, self._others(number, last))
         for number in numbers:
             gone = self._others(number, last) | {number}
             self.found[number] = self._with_rounding(self.found[number], gone)
@@ -212,7 +212,7 @@ class _Trials:
         stays = min(last.instead(number), key=lambda other: abs(other - number))
         return frozenset(last.numbers) - {stays, number}
 
-    def _tried(self, number: int, others: frozenset[int]) -> Surplus:
+    def _try(self, number: int, others: frozenset[int]) -> Surplus:
         """What is to be said of a constraint that goes beside others."""
         gone = others | {number}
         asked = self._without(gone)

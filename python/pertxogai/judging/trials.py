@@ -108,7 +108,7 @@ def first_good(question: Question, freeze: bool = False, quick: bool = False,
             best = asked
     assert best is not None
     if freeze and best.verdict is Verdict.OPEN:
-        return _frozen(question, best)
+        return _freeze(question, best)
     return best
 
 
@@ -181,14 +181,14 @@ def _ask(question: Question, rails: Rails, spelled: Spelled, care: Care) -> Tria
     """One spelling, and those in which more is told by what the program has placed."""
     asked = answered(rails, spelled, question.program)
     for _ in range(ROUNDS):
-        more = _grown(asked, question.program, care) if asked.verdict is Verdict.OPEN else None
+        more = _grow(asked, question.program, care) if asked.verdict is Verdict.OPEN else None
         if more is None:
             break
         asked = more
-    return _contradicted(question, asked, care)
+    return _contradict(question, asked, care)
 
 
-def _grown(asked: Trial, program: Solver, care: Care) -> Trial | None:
+def _grow(asked: Trial, program: Solver, care: Care) -> Trial | None:
     """The same with one more value that is read off placed parts: the first that leaves it not
     over, of a few; None where there is none."""
     text = asked.spelled.sketch.text()
@@ -205,7 +205,7 @@ def _grown(asked: Trial, program: Solver, care: Care) -> Trial | None:
     return found
 
 
-def _contradicted(question: Question, asked: Trial, care: Care) -> Trial:
+def _contradict(question: Question, asked: Trial, care: Care) -> Trial:
     """The same; where something couldn't be spelled, and contradicts what is placed, with that
     told so. Where nothing is said twice by rank, nothing contradicts: there is no such shape."""
     if not asked.spelled.left_out or asked.verdict is Verdict.OVER:
@@ -242,7 +242,7 @@ def written_by(program: Solver, command: str, text: str, *keys: str) -> str:
     return answer.text
 
 
-def _told(program: Solver, spelled: Spelled, place: PlaceBy) -> CheckReport | Solved | Fault:
+def _solve(program: Solver, spelled: Spelled, place: PlaceBy) -> CheckReport | Solved | Fault:
     """What `solve` says: the places of what is well, or its fault; of what isn't well, what
     `check` says of it. Raises Refusal where the program refuses the text, as one that is too
     large."""
@@ -262,7 +262,7 @@ def _told(program: Solver, spelled: Spelled, place: PlaceBy) -> CheckReport | So
 
 def answered(rails: Rails, spelled: Spelled, program: Solver) -> Trial:
     """One spelling, and what the program says of it: asked once, by boxes."""
-    told = _told(program, spelled, PlaceBy.BOXES)
+    told = _solve(program, spelled, PlaceBy.BOXES)
     if isinstance(told, CheckReport):
         return Trial(spelled, rails.axes, rails, told)
     return Trial(spelled, rails.axes, rails, solved=told)
@@ -272,7 +272,7 @@ def placed(asked: Trial, program: Solver) -> Trial:
     """The places of what is well: where there are none by boxes, by points."""
     if asked.solved is None or isinstance(asked.solved, Solved):
         return asked
-    told = _told(program, asked.spelled, PlaceBy.POINTS)
+    told = _solve(program, asked.spelled, PlaceBy.POINTS)
     if isinstance(told, CheckReport):
         raise NotAReport("the program faults by boxes what it doesn't call well by points")
     return replace(asked, place=PlaceBy.POINTS, solved=told)
@@ -295,7 +295,7 @@ def counted(asked: Trial, program: Solver) -> CountedTrial:
                         asked.off, asked.place, asked.solved)
 
 
-def _frozen(question: Question, asked: Trial) -> Trial:
+def _freeze(question: Question, asked: Trial) -> Trial:
     """What is open, with one length or radius after the other as drawn, while that leaves fewer
     parts."""
     for _ in range(FREEZES):

@@ -35,9 +35,9 @@ def axis_of(axes: Axes, spots: Mapping[Knot, Vector]) -> Vector | None:
     """The direction of the datum's x axis among the printed places, by the longest way that tells
     it; None where none does, so that the drawing may turn as a whole. Its length is any."""
     for told in sorted(_ways(axes, spots), key=lambda each: -square(_way(spots, each))):
-        wanted = _wanted(axes, told, _way(spots, told))
+        wanted = _wanted_way(axes, told, _way(spots, told))
         if wanted is not None:
-            return _turned_back(_way(spots, told), wanted)
+            return _turn_back(_way(spots, told), wanted)
     return None
 
 
@@ -49,7 +49,7 @@ def drawn_axis(axes: Axes, spots: Mapping[Knot, Vector]) -> Vector | None:
             way = between(spots[first], spots[second])
             drawn = between(axes.facts.drawn[first], axes.facts.drawn[second])
             if any(way) and any(drawn):
-                return _turned_back(way, drawn)
+                return _turn_back(way, drawn)
     return None
 
 
@@ -91,15 +91,15 @@ def _ways(axes: Axes, spots: Mapping[Knot, Vector]) -> Iterator[Told]:
             for first, second in combinations(knots, 2):
                 yield Told(first, second, direction=_direction(axes.lean(line)))
     for upwards in (False, True):
-        for members in _known(axes, upwards, spots).values():
+        for members in _points_by_unknown(axes, upwards, spots).values():
             (first, start), *others = members
             for second, end in others:
                 run = end - start
                 yield Told(first, second, None if upwards else run, run if upwards else None)
 
 
-def _known(axes: Axes, upwards: bool,
-           spots: Mapping[Knot, Vector]) -> dict[Hashable, list[tuple[Knot, Number]]]:
+def _points_by_unknown(axes: Axes, upwards: bool, spots: Mapping[Knot, Vector]
+                       ) -> dict[Hashable, list[tuple[Knot, Number]]]:
     """The placed points of which a coordinate is known against each other's, and these."""
     found: dict[Hashable, list[tuple[Knot, Number]]] = defaultdict(list)
     for knot in spots:
@@ -120,7 +120,7 @@ def _way(spots: Mapping[Knot, Vector], told: Told) -> Vector:
     return between(spots[told.first], spots[told.second])
 
 
-def _wanted(axes: Axes, told: Told, way: Vector) -> Vector | None:
+def _wanted_way(axes: Axes, told: Told, way: Vector) -> Vector | None:
     """The way between the two points along the datum's axes, by its direction: on the side on
     which it is drawn where what is told leaves two; None where it is too short for what is told."""
     if not any(way):
@@ -140,7 +140,7 @@ def _wanted(axes: Axes, told: Told, way: Vector) -> Vector | None:
     return run, (other if drawn[1] >= 0 else -other)
 
 
-def _turned_back(way: Vector, wanted: Vector) -> Vector:
+def _turn_back(way: Vector, wanted: Vector) -> Vector:
     """The direction from which a way is reached by the turn of another: the way times that other's
     mirror image."""
     (x, y), (a, b) = way, wanted

@@ -27,9 +27,9 @@ class Wider:
 
     def ask(self, words: Sequence[str], text: str) -> Answer:
         """Asks the program. Raises ProgramError."""
-        return self.program.ask([self._widened(word) for word in words], text)
+        return self.program.ask([self._widen(word) for word in words], text)
 
-    def _widened(self, word: str) -> str:
+    def _widen(self, word: str) -> str:
         if not word.startswith(KEY) or self.limit.amount <= DEFAULT:
             return word
         wider = int(word.removeprefix(KEY)) * self.limit.amount // DEFAULT

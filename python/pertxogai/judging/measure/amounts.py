@@ -32,7 +32,7 @@ def amounts(placed: Placed, constraint: Constraint) -> Amounts:
         case Length() | Distance() | PointLineDistance() | ParallelDistance():
             return _distance(placed, constraint), None
         case XDistance() | YDistance():
-            return _run(placed, constraint), None
+            return _off_along_axis(placed, constraint), None
         case Radius() | Diameter():
             return _size(placed, constraint), None
         case _:
@@ -54,13 +54,13 @@ def _of_points(placed: Placed, constraint: Coincident | PointOn | Midpoint | Sym
         case Symmetric(first, second, PointRef() as about):
             return apart(_middle(placed.spot(first), placed.spot(second)), placed.spot(about))
         case Symmetric(first, second, ShapeRef() as about):
-            return _mirrored(placed.spot(first), placed.spot(second), placed.line(about))
+            return _off_mirror_image(placed.spot(first), placed.spot(second), placed.line(about))
         case Equal():
             return _equal(placed, constraint)
         case Concentric(one, other):
             return apart(placed.centre(one), placed.centre(other))
         case Fixed(what):
-            return _fixed(placed, what)
+            return _off_place(placed, what)
     raise AssertionError(constraint)
 
 
@@ -68,7 +68,7 @@ def _middle(first: Vector, second: Vector) -> Vector:
     return Fraction(first[0] + second[0]) / 2, Fraction(first[1] + second[1]) / 2
 
 
-def _mirrored(first: Vector, second: Vector, line: Line) -> int:
+def _off_mirror_image(first: Vector, second: Vector, line: Line) -> int:
     """How far the second place is from the mirror image of the first in a line; in a line
     without a direction, from the first itself."""
     if square(line.way) == 0:
@@ -84,7 +84,7 @@ def _equal(placed: Placed, equal: Equal) -> int:
     return whole_up(placed.radius(equal.first) - placed.radius(equal.second))
 
 
-def _fixed(placed: Placed, what: PointRef | ShapeRef) -> int:
+def _off_place(placed: Placed, what: PointRef | ShapeRef) -> int:
     if isinstance(what, PointRef):
         return placed.off_drawn(what)
     shape = placed.drawing.shape(what.name)
@@ -127,7 +127,7 @@ def _parallel_distance(placed: Placed, first: Line, second: Line, wanted: Number
     return max(off(quotient(side * start, size), wanted), off(quotient(side * end, size), wanted))
 
 
-def _run(placed: Placed, run: XDistance | YDistance) -> int:
+def _off_along_axis(placed: Placed, run: XDistance | YDistance) -> int:
     way, right = between(placed.spot(run.first), placed.spot(run.second)), placed.right()
     along = dot(right, way) if isinstance(run, XDistance) else cross(right, way)
     wanted = nm(run_um(placed.drawing, run))
@@ -160,12 +160,12 @@ def _of_lines(placed: Placed,
             return _both(bend(first, second, turn(placed.drawing, constraint)), first, second)
         case Perpendicular(at=at):
             nanometres, ppb = _both(bend_of_lines(first, second, True), first, second)
-            return max(nanometres, _met(placed, at)), ppb
+            return max(nanometres, _off_meeting(placed, at)), ppb
         case Collinear():
             return _collinear(placed, first, second)
 
 
-def _met(placed: Placed, at: Pair | None) -> int:
+def _off_meeting(placed: Placed, at: Pair | None) -> int:
     return 0 if at is None else placed.apart(at.first, at.second)
 
 
@@ -200,7 +200,7 @@ def _touching_there(placed: Placed, tangent: Tangent, at: Pair) -> Amounts:
     first = _normal(placed, tangent.first, at.first)
     second = _normal(placed, tangent.second, at.second)
     nanometres, ppb = _both(bend_of_lines(first, second, False), first, second)
-    return max(nanometres, _met(placed, at)), ppb
+    return max(nanometres, _off_meeting(placed, at)), ppb
 
 
 def _normal(placed: Placed, shape: ShapeRef, end: PointRef) -> Line:

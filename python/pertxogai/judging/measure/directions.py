@@ -56,7 +56,7 @@ LOST = Bend(1, False)
 
 def bend(first: Line, second: Line, turn: Turn) -> Bend:
     """How far the second is off the first, turned by this; as one direction to another."""
-    wanted = _turned(turn)
+    wanted = _direction_of(turn)
     along, aside = dot(first.way, second.way), cross(first.way, second.way)
     squares = square(first.way) * square(second.way) * wanted.square
     if squares == 0:
@@ -75,7 +75,7 @@ class _Wanted:
     square: int
 
 
-def _turned(turn: Turn) -> _Wanted:
+def _direction_of(turn: Turn) -> _Wanted:
     """The direction of the x axis, turned. Whole multiples of 45 degrees, which alone have
     fractions for tangents, are exact."""
     if isinstance(turn, Slope):

@@ -21,7 +21,7 @@ def upright(solution: Solution) -> Solution:
     if right[1] == 0 and right[0] > 0:
         moved = {ref: _less(spot, frame.origin) for ref, spot in solution.points.items()}
         return Solution(moved, solution.radii)
-    return Solution(_turned(solution.points, frame.origin, right), solution.radii)
+    return Solution(_turn(solution.points, frame.origin, right), solution.radii)
 
 
 def _less(spot: PointNm, origin: PointNm) -> PointNm:
@@ -29,7 +29,7 @@ def _less(spot: PointNm, origin: PointNm) -> PointNm:
     return spot[0] - origin[0], spot[1] - origin[1]
 
 
-def _turned(points: Mapping[PointRef, PointNm], origin: PointNm, right: tuple[Fraction, Fraction]
+def _turn(points: Mapping[PointRef, PointNm], origin: PointNm, right: tuple[Fraction, Fraction]
             ) -> dict[PointRef, PointNm]:
     """Places told from the origin, along the x axis and across it."""
     square = right[0] ** 2 + right[1] ** 2
