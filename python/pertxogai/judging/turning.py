@@ -20,15 +20,26 @@ from pertxogai.spelling.linear import Form, Number
 
 
 @dataclass(frozen=True)
-class Told:
-    """A way between two points, as the drawing tells it along the datum's x axis and to its left:
-    both runs, one of them (the other is None), or the direction alone."""
+class KnownRun:
+    """How far the drawing says that a way between two points runs along the datum's x axis, or to
+    its left where `upwards`, in micrometres."""
 
     first: Knot
     second: Knot
-    along: Number | None = None
-    across: Number | None = None
-    direction: Vector | None = None
+    upwards: bool
+    run: Number
+
+
+@dataclass(frozen=True)
+class KnownDirection:
+    """How the drawing says that a way between two points lies to the datum's x axis."""
+
+    first: Knot
+    second: Knot
+    direction: Vector
+
+
+KnownWay = KnownRun | KnownDirection
 
 
 def axis_of(axes: Axes, spots: Mapping[Knot, Vector]) -> Vector | None:
@@ -83,19 +94,18 @@ def known_sum(axes: Axes, upwards: bool, knots: Collection[Knot]) -> KnownSum | 
     return told[0] if told else None
 
 
-def _ways(axes: Axes, spots: Mapping[Knot, Vector]) -> Iterator[Told]:
+def _ways(axes: Axes, spots: Mapping[Knot, Vector]) -> Iterator[KnownWay]:
     """What is told of the ways between placed points."""
     for line in axes.lines.all():
         if axes.frame(line).number == DATUM:
             knots = [each.knot for each in axes.lines.members(line) if each.knot in spots]
             for first, second in combinations(knots, 2):
-                yield Told(first, second, direction=_direction(axes.lean(line)))
+                yield KnownDirection(first, second, _direction(axes.lean(line)))
     for upwards in (False, True):
         for members in _points_by_unknown(axes, upwards, spots).values():
             (first, start), *others = members
             for second, end in others:
-                run = end - start
-                yield Told(first, second, None if upwards else run, run if upwards else None)
+                yield KnownRun(first, second, upwards, end - start)
 
 
 def _points_by_unknown(axes: Axes, upwards: bool, spots: Mapping[Knot, Vector]
@@ -116,28 +126,26 @@ def _direction(lean: Lean) -> Vector:
     return Fraction(cos(lean.radians())), Fraction(sin(lean.radians()))
 
 
-def _way(spots: Mapping[Knot, Vector], told: Told) -> Vector:
+def _way(spots: Mapping[Knot, Vector], told: KnownWay) -> Vector:
     return between(spots[told.first], spots[told.second])
 
 
-def _wanted_way(axes: Axes, told: Told, way: Vector) -> Vector | None:
+def _wanted_way(axes: Axes, told: KnownWay, way: Vector) -> Vector | None:
     """The way between the two points along the datum's axes, by its direction: on the side on
     which it is drawn where what is told leaves two; None where it is too short for what is told."""
     if not any(way):
         return None
     drawn = between(axes.facts.drawn[told.first], axes.facts.drawn[told.second])
-    if told.direction is not None:
-        a, b = told.direction
-        return (a, b) if dot((a, b), drawn) >= 0 else (-a, -b)
-    run = told.across if told.along is None else told.along
-    assert run is not None
-    rest = square(way) - run * run
-    if rest < 0:
-        return None
-    other = root(rest)
-    if told.along is None:
-        return (other if drawn[0] >= 0 else -other), run
-    return run, (other if drawn[1] >= 0 else -other)
+    match told:
+        case KnownDirection(direction=direction):
+            ahead = dot(direction, drawn) >= 0
+            return direction if ahead else (-direction[0], -direction[1])
+        case KnownRun(upwards=upwards, run=run):
+            rest = square(way) - run * run
+            if rest < 0:
+                return None
+            aside = root(rest) if drawn[0 if upwards else 1] >= 0 else -root(rest)
+            return (aside, run) if upwards else (run, aside)
 
 
 def _turn_back(way: Vector, wanted: Vector) -> Vector:
