@@ -19,7 +19,7 @@ from pertxogai.program import ProgramError
 from pertxogai.program.reports import Solved, Verdict
 
 MOST_PIECES, MOST_JOINTS = 40, 20
-"""So many of them at most are told."""
+"""The most pieces, and the most joints, that are told."""
 ROUNDING_UM = Fraction(2, 1000)
 """Within what a repeat is isn't told where it is no more: places are whole nanometres."""
 

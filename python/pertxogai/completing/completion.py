@@ -20,7 +20,7 @@ from pertxogai.program import Solver
 from pertxogai.program.reports import Verdict
 
 ROUNDS = 6
-"""So many dimensions at most are given up for others since they leave their values no room."""
+"""The most dimensions that are given up for others since they leave their values no room."""
 
 
 def completion_of(drawing: Drawing, program: Solver, limit: Limit) -> Completion | NoProposal:

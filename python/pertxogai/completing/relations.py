@@ -17,7 +17,7 @@ from pertxogai.drawing import (
 from pertxogai.drawing.places import UM_PER_MM
 
 NEAR_DEGREES = 1.0
-"""A direction within so much of level, upright, square or parallel is nearly so."""
+"""By how many degrees a direction that is nearly level, upright, square or parallel is off it."""
 NEAR_PART = 0.01
 """Lengths and radii that differ by no more than this part are nearly equal; rims that are off a
 touch by no more than this part of the radius nearly touch."""

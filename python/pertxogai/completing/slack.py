@@ -24,8 +24,9 @@ FIRM = 1e-3
 SEEN = 1e-6
 """What changes by less stays."""
 OFF_NM, OFF_SIZE = 2e4, 2e-4
-"""A constraint whose value was read off the places and rounded is off them by no more than so many
-nanometres and this part of the drawing's size; else it means another side than the one drawn."""
+"""The most by which a constraint is off the places that its value was read off and rounded:
+nanometres, and a part of the drawing's size. One that is off by more means another side than the
+one drawn."""
 
 
 @dataclass(frozen=True)
@@ -45,7 +46,7 @@ class Slack:
 
     @staticmethod
     def of(drawing: Drawing, seconds: float | None = None) -> Slack | None:
-        """That of a sound drawing, which is searched for so many seconds at most, or for as long as
+        """That of a sound drawing, which is searched for these seconds at most, else for as long as
         a search may take; None where no places are found, or too much is free."""
         search = searched(drawing) if seconds is None else Searched(drawing, seconds)
         equations, x, freedom = search.equations, search.found.x, search.freedom

@@ -26,9 +26,9 @@ MOST_ASKED, MOST_SECONDS = 400, 20.0
 """The most drawings of which the program is asked, and the seconds of a processor after which no
 more are: so a busy machine finds the same."""
 ROOM = (Fraction(101, 100), Fraction(99, 100))
-"""A value is tried so many times as large."""
+"""How many times as large a value is tried."""
 ROOM_DEGREES = (Fraction(1, 2), Fraction(-1, 2))
-"""An angle is tried so many degrees more."""
+"""How many degrees more an angle is tried."""
 Valued = (Length, Distance, XDistance, YDistance, PointLineDistance, Radius, Diameter)
 
 
@@ -63,7 +63,7 @@ class State:
 
 
 class Trials:
-    """Tries drawings by the program, so many and for so many seconds at most."""
+    """Tries drawings by the program, within a number of them and a time."""
 
     def __init__(self, program: Solver, limit: Limit) -> None:
         self._program, self._limit = Remembering(Wider(program, limit)), limit

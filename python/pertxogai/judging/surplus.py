@@ -33,7 +33,7 @@ ROUNDING_WORK = 20_000
 """The most constraints of the rests that are asked for with rounded values told otherwise; how far
 rounding moves what is left isn't known then."""
 WORK, TRIAL = 4000, 30
-"""The most constraints, over all drawings that are tried, each of which counts as so many more;
+"""The most constraints over all drawings that are tried, and how many more each drawing counts as;
 what is left is listed untried."""
 
 
@@ -159,7 +159,7 @@ class _Enough(Exception):
 
 
 class _Counted:
-    """A program that may be called so many times."""
+    """A program that may be called `CALLS` times."""
 
     def __init__(self, program: Solver) -> None:
         self._program = program

@@ -7,7 +7,7 @@ from pertxogai.completing import Completion, NoProposal, Proposal, WhyNot
 from pertxogai.judging.measure import Unit, amount_text, greatest
 
 MOST_FIXED = 4
-"""So many things at most are told that a line fixes."""
+"""The most things that are told of what a line fixes."""
 
 
 def completion_lines(name: str, found: Completion | NoProposal,

@@ -11,7 +11,7 @@ from pertxogai.judging.measure import amount_text
 from pertxogai.program.reports import Verdict
 
 MOST_MOVES = 8
-"""So many points that still move are told at most."""
+"""The most points that still move that are told."""
 
 
 def freedoms_text(finding: Finding) -> str:

@@ -151,7 +151,7 @@ def _with(drawing: Drawing, chosen: Sequence[Constraint],
 
 
 class _Trials:
-    """Asks the program, so many times and for so long at most."""
+    """Asks the program, within a number of times and a time."""
 
     def __init__(self, drawing: Drawing, program: Solver) -> None:
         self._drawing, self._program, self._left = drawing, program, MOST_ASKED

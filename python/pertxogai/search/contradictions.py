@@ -23,7 +23,7 @@ from pertxogai.search.unknowns import By, Unknowns
 Numbers = tuple[int, ...]
 """Constraints by their places, from 1, the latest first."""
 MOST_LEFT_OUT = 12
-"""So many constraints are left out, one after the other."""
+"""The most constraints that are left out, one after the other."""
 SHRUNK = 0.02
 """Next to nothing: this part of the size as it is drawn."""
 STEPS, SECONDS = 60, 0.6

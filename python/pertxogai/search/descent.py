@@ -22,7 +22,7 @@ FIRST_DAMPING, LEAST_DAMPING, MOST_DAMPING = 1e-3, 1e-14, 1e12
 REACH = 0.3
 """No step moves anything farther than this part of the drawing's size."""
 MOST_STALLS = 8
-"""So many steps in a row that gain next to nothing end a descent."""
+"""How many steps in a row that gain next to nothing end a descent."""
 STALL = 1e-6
 """Next to nothing: this part of the sum of squares."""
 EXACT_NM = 1e-4

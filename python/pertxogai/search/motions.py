@@ -17,7 +17,7 @@ from pertxogai.search.unknowns import Unknowns
 SEEN = 1e-6
 """Of motions of length 1, what moves by less stays."""
 MOST_HELD = 40
-"""So many segments at most are tried as the one that is held still."""
+"""The most segments that are tried as the one that is held still."""
 ALONG = ((1.0, 0.0), (0.0, 1.0))
 
 

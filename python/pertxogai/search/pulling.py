@@ -31,10 +31,10 @@ ENOUGH = 1e-5
 STRIDE = 0.1
 """No step is longer than this part of the drawing's size."""
 CHASE, LEAST_CHASE = 4.0, 0.02
-"""What is held goes at most so many times as far as the hand does, or this part of the drawing's
-size: so it glides where the hand had left it behind."""
+"""The farthest that what is held goes: this many times as far as the hand does, or this part of the
+drawing's size. So it glides where the hand had left it behind."""
 LEAP = 12.0
-"""Nothing moves more than so many times as far as what is held is pulled."""
+"""The farthest that anything moves: this many times as far as what is held is pulled."""
 ALONG = 0.9
 """A step runs along a tangent where this part of it does."""
 CLOSE = 0.3

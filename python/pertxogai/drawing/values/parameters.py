@@ -20,7 +20,7 @@ from pertxogai.drawing.values.reckoning import with_values
 
 
 PARTS = 10_000
-"""An angle by a ratio is told to so many parts of a degree."""
+"""How finely an angle by a ratio is told: to this part of a degree."""
 
 
 class Unit(Enum):

@@ -14,7 +14,7 @@ MOST_BITS = 1_000
 """No numerator and no denominator has more bits: a chain of products would take any time."""
 
 _ROOT = 10 ** 30
-"""What has a root in it that is no fraction is rounded to so many parts of one."""
+"""How finely what has a root in it that is no fraction is rounded: to this part of one."""
 
 _NOTHING = Fraction(1, 10 ** 15)
 """A sum with such a root that is a smaller part of what is added is 0: the rest is rounding."""

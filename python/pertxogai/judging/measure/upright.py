@@ -10,7 +10,7 @@ from pertxogai.drawing import PointRef
 from pertxogai.judging.measure.solution import PointNm, Solution
 
 _SCALE = 10 ** 12
-"""The direction of the x axis is taken to so many parts."""
+"""How finely the direction of the x axis is taken: to this part of its length."""
 
 
 def upright(solution: Solution) -> Solution:
