@@ -25,15 +25,18 @@ Definition = ast.ClassDef | ast.FunctionDef | ast.Assign | ast.AnnAssign
 
 @dataclass(frozen=True)
 class Entry:
-    """A public name, how it is called or what it is, what its docstring says, and those of its own that are public."""
+    """A public name, how it is called or what it is, what its docstring says, those of its own that are public, and the
+    classes that it extends."""
 
     head: str
     says: str
     parts: tuple[Entry, ...] = ()
+    bases: tuple[str, ...] = ()
 
     def lines(self, mark: str = "- ") -> Iterator[str]:
         """It as an item of a list of Markdown."""
-        yield f"{mark}`{self.head}`" + (f": {self.says}" if self.says else "")
+        bases = f", extends {' and '.join(f'`{it}`' for it in self.bases)}" if self.bases else ""
+        yield f"{mark}`{self.head}`{bases}" + (f": {self.says}" if self.says else "")
         for each in self.parts:
             yield from each.lines("  " + mark)
 
@@ -88,7 +91,8 @@ def of_class(node: ast.ClassDef) -> Entry:
     """A class: how it is made, and its public methods and properties; of an enum, its members."""
     if any(ast.unparse(it).endswith("Enum") for it in node.bases):
         return of_enum(node)
-    return Entry(f"{node.name}{made_of(node)}", joined(ast.get_docstring(node)), methods(node))
+    bases = tuple(ast.unparse(it) for it in node.bases if is_dataclass(node) and not isinstance(it, ast.Subscript))
+    return Entry(f"{node.name}{made_of(node)}", joined(ast.get_docstring(node)), methods(node), bases)
 
 
 def of_enum(node: ast.ClassDef) -> Entry:
@@ -101,9 +105,14 @@ def of_enum(node: ast.ClassDef) -> Entry:
     return Entry(node.name, f"{says} {', '.join(f'`{ast.unparse(it)}`' for it, _ in members)}.", methods(node))
 
 
+def is_dataclass(node: ast.ClassDef) -> bool:
+    """Whether a class is a dataclass."""
+    return any("dataclass" in ast.unparse(it) for it in node.decorator_list)
+
+
 def made_of(node: ast.ClassDef) -> str:
-    """What an object of a class is made of, in brackets; of a class that isn't made so, what it is a kind of."""
-    if any("dataclass" in ast.unparse(it) for it in node.decorator_list):
+    """What an object of a class is made of, in brackets; of a class that isn't made so, what it extends."""
+    if is_dataclass(node):
         fields = [it for it in node.body if isinstance(it, ast.AnnAssign) and target(it)[0] != "_"]
         return f"({', '.join(map(ast.unparse, fields))})"
     if node.bases:

@@ -3,7 +3,7 @@ from __future__ import annotations
 
 import json
 import os
-from collections.abc import Iterator
+from collections.abc import Callable, Iterator
 from contextlib import contextmanager
 from dataclasses import dataclass
 from pathlib import Path
@@ -44,6 +44,18 @@ class Page:
         """Waits until the verdict is of that kind."""
         self.wait(f"verdict {kind}", "return document.getElementById('verdict').dataset.verdict"
                                      f" === {json.dumps(kind)}")
+
+    def begin_to_scale(self, text: str) -> Callable[[tuple[float, float]], tuple[float, float]]:
+        """Begins a drawing, with a point at its right and one below it; gives where a place in
+        millimetres lies on the board, in pixels."""
+        self.type(text + "point Far 100 60\npoint Low 0 -20\n")
+        self.wait("a drawing", "return document.querySelector('[data-name=Low] .dothit')")
+        self.settled()
+        self.keys("0")
+        self.settled()
+        (x, y), (u, _) = self.at("Origin"), self.at("Far")
+        scale = (u - x) / 100
+        return lambda at: (x + at[0] * scale, y - at[1] * scale)
 
     def wait(self, what: str, script: str) -> object:
         """Waits until a script gives something true."""

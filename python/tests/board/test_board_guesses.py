@@ -27,16 +27,7 @@ LEANING = "segment E 0 0 80 30\n"
 @pytest.fixture
 def board_of(page: Page):
     """Begins a drawing; gives where a place in millimetres lies on the board, in pixels."""
-    def begin(text: str):
-        page.type(text + "point Far 100 60\npoint Low 0 -20\n")
-        page.wait("a drawing", "return document.querySelector('[data-name=Low] .dothit')")
-        page.settled()
-        page.keys("0")
-        page.settled()
-        (x, y), (u, _) = page.at("Origin"), page.at("Far")
-        scale = (u - x) / 100
-        return lambda at: (x + at[0] * scale, y - at[1] * scale)
-    return begin
+    return page.begin_to_scale
 
 
 def guesses(page: Page) -> set[str]:
