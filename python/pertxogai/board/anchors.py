@@ -1,14 +1,11 @@
 """Where a hand points on the board: a place of its own, or a point that stands."""
 from __future__ import annotations
 
-from dataclasses import fields, is_dataclass, replace
-from typing import TypeVar
+from dataclasses import replace
 
 from pertxogai.board.fields import Fields
 from pertxogai.drawing import Anchor, Drawing, NamedShapes, Place, PointRef, Shape, Which
 from pertxogai.drawing.cursor import Cursor
-
-Made = TypeVar("Made")
 
 FIELD_OF = {Which.AT: "at", Which.START: "start", Which.END: "end", Which.CENTRE: "centre"}
 """The field of a shape that has its point."""
@@ -40,26 +37,3 @@ def leader_of(drawing: Drawing, ref: PointRef) -> PointRef:
 def with_spot(shape: Shape, which: Which, spot: Anchor) -> Shape:
     """A shape with another spot for one of its points."""
     return replace(shape, **{FIELD_OF[which]: spot})
-
-
-def renamed(thing: Made, old: str, new: str) -> Made:
-    """A shape or a constraint in which a shape has another name, wherever it stands."""
-    if not is_dataclass(thing) or isinstance(thing, type):
-        return thing
-    changes: dict[str, object] = {}
-    for field in fields(thing):
-        value = getattr(thing, field.name)
-        if is_dataclass(value):
-            changes[field.name] = renamed(value, old, new)
-        elif value == old and _names_shape(thing, field.name):
-            changes[field.name] = new
-    return replace(thing, **changes) if changes else thing
-
-
-def _names_shape(thing: object, field: str) -> bool:
-    """Whether this field has the name of a shape; a constraint's own name is none."""
-    return field == "shape" or (field == "name" and not _is_constraint(thing))
-
-
-def _is_constraint(thing: object) -> bool:
-    return type(thing).__module__.endswith(".constraints")

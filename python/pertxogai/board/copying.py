@@ -3,8 +3,7 @@ said among them without a number."""
 from __future__ import annotations
 
 from collections.abc import Iterable, Iterator, Mapping as Names
-from dataclasses import dataclass, fields, is_dataclass, replace
-from typing import TypeVar
+from dataclasses import dataclass, replace
 
 from pertxogai.board.anchors import with_spot
 from pertxogai.board.mapping import Mapping, numbers
@@ -15,11 +14,10 @@ from pertxogai.drawing import (
     ShapeRef, Symmetric, Tangent, Vertical, Which, WordFault, X_AXIS, Y_AXIS, points_of, spot_of)
 from pertxogai.drawing.checks import standing
 from pertxogai.drawing.geometry import Point
-from pertxogai.drawing.mentions import named
+from pertxogai.drawing.mentions import named, with_refs
 
 NEAR_UM = 1.0
 """So near to where it goes a place stays where it is."""
-Thing = TypeVar("Thing")
 RELATIONS = (Tangent, Perpendicular, Parallel, Collinear, Equal, PointOn, Midpoint, Symmetric)
 """What is said without a number is as true of a copy that is turned or mirrored."""
 LEVELS = Horizontal, Vertical
@@ -92,7 +90,7 @@ class Copy:
             about -= DIRECTIONS if directed else frozenset()
             if not about or not about <= mine or isinstance(constraint, Fixed):
                 continue
-            copied = self.renamed(replace(constraint, name=None))
+            copied = with_refs(replace(constraint, name=None), self.of, self._of_shape)
             if copied != replace(constraint, name=None) and not self._has(copied):
                 yield _apart(copied)
 
@@ -122,16 +120,9 @@ class Copy:
             made.append(shape)
         return behind(drawing, made)
 
-    def renamed(self, thing: Thing) -> Thing:
-        """A constraint said of the copies."""
-        if isinstance(thing, PointRef):
-            return self.of(thing)  # type: ignore[return-value]
-        if isinstance(thing, ShapeRef):
-            return ShapeRef(self.names.get(thing.name, thing.name))  # type: ignore[return-value]
-        if not is_dataclass(thing) or isinstance(thing, type):
-            return thing
-        return replace(thing, **{each.name: self.renamed(getattr(thing, each.name))
-                                 for each in fields(thing)})
+    def _of_shape(self, ref: ShapeRef) -> ShapeRef:
+        """The shape of the copy that a shape goes to; another than those that are copied stays."""
+        return ShapeRef(self.names.get(ref.name, ref.name))
 
 
 def _apart(constraint: Constraint) -> Constraint:

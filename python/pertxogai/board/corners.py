@@ -4,13 +4,12 @@ from __future__ import annotations
 
 import math
 from collections.abc import Iterable, Iterator
-from dataclasses import dataclass, fields, is_dataclass, replace
+from dataclasses import dataclass, replace
 from enum import Enum
-from fractions import Fraction
-from typing import TypeVar
 
 from pertxogai.board.anchors import with_spot
 from pertxogai.board.line_reader import asked, asking
+from pertxogai.board.mapping import PointUm, numbers, rounded
 from pertxogai.board.new_names import Figure, free_name
 from pertxogai.board.typed import value_word
 from pertxogai.drawing import (
@@ -18,14 +17,12 @@ from pertxogai.drawing import (
     Place, PointRef, Segment, Shape, ShapeRef, Symmetric, Tangent, Which, WordFault, points_of)
 from pertxogai.drawing.checks import standing
 from pertxogai.drawing.geometry import Point
+from pertxogai.drawing.mentions import refs_of, with_refs
 
 FLATTEST = math.sin(math.radians(2))
 """The sine of the least angle between two segments whose corner is rounded or cut."""
 MOST_SHARE = 0.9
 """The share of the shorter segment at most that the drawn fillet or chamfer takes."""
-Thing = TypeVar("Thing")
-PointUm = tuple[float, float]
-"""A place or a direction, in micrometres, to draw by."""
 
 
 class CornerKind(Enum):
@@ -108,7 +105,7 @@ class _Cut:
         first, second = self.meeting.first, self.meeting.second
         runs_back = one[0] * other[1] - one[1] * other[0] > 0
         ends = (second, first) if runs_back else (first, second)
-        centre = _place(x + way[0] * share, y + way[1] * share)
+        centre = rounded(x + way[0] * share, y + way[1] * share)
         arc = Arc(name, centre, *ends, construction=self._is_help())
         asks = [["tangent", first.shape, name], ["tangent", name, second.shape],
                 ["radius", name, value_word(size)]]
@@ -148,9 +145,9 @@ class _Cut:
 
     def _most(self) -> float:
         """How far back from the corner it may be drawn, in micrometres."""
-        corner = _numbers(self.drawing.drawn(self.meeting.first))
+        corner = numbers(self.drawing.drawn(self.meeting.first))
         ends = (_far(self.meeting.first), _far(self.meeting.second))
-        return MOST_SHARE * min(math.dist(corner, _numbers(self.drawing.drawn(each)))
+        return MOST_SHARE * min(math.dist(corner, numbers(self.drawing.drawn(each)))
                                 for each in ends)
 
     def _point(self) -> str:
@@ -183,7 +180,7 @@ class _Cut:
         name = self._point()
         place = self.drawing.drawn(self.meeting.first)
         ways = {self.meeting.first: one, self.meeting.second: other}
-        opened = {ref: _place(x + way[0] * back, y + way[1] * back) for ref, way in ways.items()}
+        opened = {ref: rounded(x + way[0] * back, y + way[1] * back) for ref, way in ways.items()}
         shapes = [self._opened(shape, opened, name if keeps else None)
                   for shape in self.drawing.geometry]
         first = min(place for place, shape in enumerate(self.drawing.geometry)
@@ -223,7 +220,8 @@ class _Cut:
                 return Perpendicular(first, second, None, constraint.name)
             case Tangent(at=Pair() as pair) if _is_at(pair, self._at_corner()):
                 raise WordFault(str(pair), "touch in this corner: it can't be rounded or cut")
-        return _renamed(constraint, self._at_corner(), PointRef(name))
+        corner = self._at_corner()
+        return with_refs(constraint, lambda ref: PointRef(name) if ref in corner else ref)
 
     def _notes(self, first: int, keeps: bool, gone: list[int]) -> tuple[Note, ...]:
         """The notes, each with what it stands at; what comes behind all shapes stays there."""
@@ -245,20 +243,11 @@ def _in_order(end: PointRef, corner: PointRef) -> tuple[PointRef, PointRef]:
     return (_far(end), corner) if end.which is Which.END else (corner, _far(end))
 
 
-def _numbers(place: Place) -> PointUm:
-    return float(place.x_um), float(place.y_um)
-
-
 def _unit(start: Place, end: Place) -> PointUm:
     """The direction from one place to another."""
     dx, dy = float(end.x_um - start.x_um), float(end.y_um - start.y_um)
     length = math.hypot(dx, dy) or 1.0
     return dx / length, dy / length
-
-
-def _place(x_um: float, y_um: float) -> Place:
-    """A place, to the next micrometre."""
-    return Place(Fraction(round(x_um)), Fraction(round(y_um)))
 
 
 def _is_at(pair: Pair, refs: frozenset[PointRef]) -> bool:
@@ -270,23 +259,9 @@ def _mentions(constraint: Constraint, refs: frozenset[PointRef]) -> bool:
     """Whether a constraint speaks of one of some points."""
     if isinstance(constraint, Perpendicular):
         return False
-    found = [getattr(constraint, each.name) for each in fields(constraint)]
-    pairs = [each for each in found if isinstance(each, Pair)]
-    return (any(isinstance(each, PointRef) and each in refs for each in found)
-            or any(_is_at(each, refs) for each in pairs))
+    return any(each in refs for each in refs_of(constraint))
 
 
 def _is_of_length(constraint: Constraint, names: set[str]) -> bool:
     """Whether a constraint tells the length or the middle of one of some segments."""
     return isinstance(constraint, (Length, Midpoint)) and constraint.segment.name in names
-
-
-def _renamed(thing: Thing, refs: frozenset[PointRef], name: PointRef) -> Thing:
-    """A constraint in which some points are another."""
-    if isinstance(thing, PointRef):
-        return name if thing in refs else thing  # type: ignore[return-value]
-    if not is_dataclass(thing) or isinstance(thing, type):
-        return thing
-    changes = {each.name: _renamed(getattr(thing, each.name), refs, name)
-               for each in fields(thing) if is_dataclass(getattr(thing, each.name))}
-    return replace(thing, **changes) if changes else thing

@@ -7,7 +7,7 @@ from contextlib import contextmanager
 from dataclasses import dataclass, replace
 from fractions import Fraction
 
-from pertxogai.board.anchors import leader_of, renamed, with_spot
+from pertxogai.board.anchors import leader_of, with_spot
 from pertxogai.board.corners import Corner
 from pertxogai.board.figures import centre_rectangle, polygon, slot, tangent_arc
 from pertxogai.board.line_reader import asking, drawn, valued
@@ -19,8 +19,10 @@ from pertxogai.board.removal import without
 from pertxogai.board.trimming import Extend, Trim
 from pertxogai.board.typed import value_word
 from pertxogai.drawing import (
-    Anchor, Circle, Constraint, Drawing, DrawingUnsound, Place, PointRef, WordFault, points_of)
+    Anchor, Circle, Constraint, Drawing, DrawingUnsound, Place, PointRef, Shape, ShapeRef,
+    WordFault, points_of)
 from pertxogai.drawing.checks import standing
+from pertxogai.drawing.mentions import with_refs
 from pertxogai.drawing.numbers import mm_text
 from pertxogai.drawing.shorthands import Expansion
 
@@ -196,10 +198,18 @@ class Rename:
         """The drawing with that name."""
         standing(drawing.scene, self.old, self.old)
         return replace(
-            drawing,
-            geometry=tuple(renamed(each, self.old, self.new) for each in drawing.geometry),
-            constraints=tuple(renamed(each, self.old, self.new) for each in drawing.constraints),
-        )
+            drawing, geometry=tuple(map(self._shape, drawing.geometry)),
+            constraints=tuple(with_refs(each, self._point, lambda ref: ShapeRef(self._of(ref.name)))
+                              for each in drawing.constraints))
+
+    def _shape(self, shape: Shape) -> Shape:
+        return replace(with_refs(shape, self._point), name=self._of(shape.name))
+
+    def _point(self, ref: PointRef) -> PointRef:
+        return replace(ref, shape=self._of(ref.shape))
+
+    def _of(self, name: str) -> str:
+        return self.new if name == self.old else name
 
 
 @dataclass(frozen=True)
