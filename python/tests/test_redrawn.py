@@ -14,6 +14,7 @@ from pertxogai.drawing import (
     Circle, Drawing, DrawingUnsound, Place, PointRef, Which, checked, read_drawing, write_drawing)
 from pertxogai.judging import judge, judge_at_once, with_counts
 from pertxogai.judging.edited import EditedDrawing
+from pertxogai.judging.judgement import judge_edited
 from pertxogai.program import Answer, Solver, Status
 from pertxogai.program.reports import NotAReport, Verdict, read_check
 from pertxogai.spelling import Interpretation, Style, readings
@@ -175,6 +176,22 @@ def test_readings_that_are_read_again_are_the_same() -> None:
     assert [len(list(edited.readings())) for _ in range(3)] == [1, 1, 1]
     assert len(edited.analysis.interpretations) == 1
     assert spelled(edited) == spelled(edited)
+
+
+def test_a_chain_of_edits_is_judged_as_each_drawing_by_itself(program) -> None:
+    """The hole is dragged: each time the program's sketch, the places and what is measured there
+    are those of the drawing as its text reads."""
+    edited = EditedDrawing(read_drawing(PLATE))
+    for x_um in (41_000, 60_000, 20_000):
+        judge_edited(edited, program)
+        there = Place(Fraction(x_um), Fraction(31_000))
+        drawing = checked(Move(((PointRef("H", Which.CENTRE), there),)).on(edited.drawing))
+        edited = EditedDrawing(drawing, edited)
+        found = judge_edited(edited, program)
+        alone = judge_at_once(read_drawing(write_drawing(drawing)), program)
+        assert found.asked.spelled.sketch == alone.asked.spelled.sketch
+        assert (found.solution, found.deviations) == (alone.solution, alone.deviations)
+        assert found.verdict is alone.verdict is Verdict.WELL
 
 
 @dataclass
