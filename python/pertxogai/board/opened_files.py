@@ -12,7 +12,7 @@ from pertxogai.board.fields import FieldRefused
 from pertxogai.board.from_language import drawn_from
 from pertxogai.board.protocol import FileSketch, GalleryDrawing
 from pertxogai.files.kinds import DesignerDrawing, Input, InputRefused, SketchText, read_inputs
-from pertxogai.judging.judged_sketch import TextRefused
+from pertxogai.judging.limits import TextRefused
 from pertxogai.language import Refusal, Sketch
 
 _ROOM = "file"

@@ -10,8 +10,7 @@ from pathlib import Path
 from pertxogai.exits import CommandError, Exit, MissingLibrary
 from pertxogai.files.kinds import DesignerDrawing, Input, SketchText, kind_of, read_inputs
 from pertxogai.judging import (
-    CountedDrawing, CountedJudgement, DrawingRefused, GoodJudgement, JudgedDrawing, judge,
-    judge_sketch)
+    CountedDrawing, CountedJudgement, DrawingRefused, GoodJudgement, JudgedDrawing, judge)
 from pertxogai.judging.remembering import Remembering
 from pertxogai.language import NotHeld, Refusal
 from pertxogai.output.outcome import DrawingOutcome, Outcome, SketchOutcome
@@ -34,6 +33,8 @@ def outcome_of(found: Input, program: Solver, options: argparse.Namespace) -> Ou
         if options.as_stored:
             raise CommandError(f"{found.name}: --as-stored takes a drawing, or a file of FreeCAD,"
                                " SolveSpace or DXF: a sketch of the language stores no places")
+        from pertxogai.judging import judge_sketch
+
         return SketchOutcome(judge_sketch(found.name, found.text, program, options.within),
                              program)
     judged = CountedDrawing(found.name, found.drawing, _judgement(found, program, options),

@@ -13,11 +13,11 @@ if TYPE_CHECKING:
     from pertxogai.judging.good import (
         GoodJudgement, GoodSketch, NotGood, good_of, good_sketch_of, reasons_against)
     from pertxogai.judging.judged_drawing import CountedDrawing, JudgedDrawing
-    from pertxogai.judging.judged_sketch import JudgedSketch, TextRefused, concerned, judge_sketch
+    from pertxogai.judging.judged_sketch import JudgedSketch, concerned, judge_sketch
     from pertxogai.judging.judgement import (
         CountedJudgement, Judgement, LeftOut, WeighedJudgement, judge, judge_at_once, weighed,
         with_choices, with_counts)
-    from pertxogai.judging.limits import DrawingRefused
+    from pertxogai.judging.limits import DrawingRefused, TextRefused
     from pertxogai.judging.missing import Joint, Missing, Piece, Tie
     from pertxogai.judging.naming import Names
     from pertxogai.judging.surplus import Surplus, Then
@@ -31,10 +31,10 @@ else:
         ".faults": "Amount Failure",
         ".good": "GoodJudgement GoodSketch NotGood good_of good_sketch_of reasons_against",
         ".judged_drawing": "CountedDrawing JudgedDrawing",
-        ".judged_sketch": "JudgedSketch TextRefused concerned judge_sketch",
+        ".judged_sketch": "JudgedSketch concerned judge_sketch",
         ".judgement": "CountedJudgement Judgement LeftOut WeighedJudgement judge judge_at_once "
                       "weighed with_choices with_counts",
-        ".limits": "DrawingRefused",
+        ".limits": "DrawingRefused TextRefused",
         ".missing": "Joint Missing Piece Tie",
         ".naming": "Names",
         ".surplus": "Surplus Then",

@@ -10,16 +10,14 @@ from __future__ import annotations
 from collections.abc import Collection, Iterator
 from dataclasses import dataclass
 from enum import Enum
-from typing import TypedDict
+from typing import TYPE_CHECKING, TypedDict
 
 from pertxogai.drawing import ORIGIN, Drawing
 from pertxogai.judging.mirrored import mirrored
 from pertxogai.judging.judged_drawing import JudgedDrawing
-from pertxogai.judging.judged_sketch import JudgedSketch
 from pertxogai.judging.measure.deviation import Deviation, Unit
 from pertxogai.judging.measure.limit import amount_text, units_text
 from pertxogai.judging.measure.measuring import Measurement
-from pertxogai.judging.measure.sketches import sketch_tolerances
 from pertxogai.judging.measure.solution import MissingPlace, Solution
 from pertxogai.judging.settled import settled
 from pertxogai.judging.trials import Trial
@@ -28,6 +26,8 @@ from pertxogai.language import (
 from pertxogai.program.reports import CheckReport, Solved, Verdict
 from pertxogai.spelling.facts import ORIGIN_KNOT, Knot
 
+if TYPE_CHECKING:  # A drawing is good or not without what is told of sketches.
+    from pertxogai.judging.judged_sketch import JudgedSketch
 
 MOST_NAMED = 4
 """The most edges of what lies mirrored that are named."""
@@ -277,6 +277,8 @@ def _against_sketch(judged: JudgedSketch) -> Iterator[Reason]:
     if not _is_of(judged.check, judged.sketch) or solved and not _places(solved, judged.sketch):
         yield Reason(Lack.NOT_PRINTED, "the program's answer is of another sketch")
     elif solved:
+        from pertxogai.judging.measure.sketches import sketch_tolerances
+
         length, angle = sketch_tolerances(judged.sketch, solved.places)
         length = max(length, solved.length_tolerance_nm)
         angle = max(angle, solved.angle_tolerance_ppb)

@@ -3,9 +3,9 @@
 from __future__ import annotations
 
 from dataclasses import dataclass
+from typing import TYPE_CHECKING
 
 from pertxogai.drawing import Drawing
-from pertxogai.judging.as_stored import StoredOffs
 from pertxogai.judging.departures import Departure, warnings
 from pertxogai.judging.finding import Finding, Nearly, PlacesBy
 from pertxogai.judging.judgement import CountedJudgement, Judgement
@@ -13,6 +13,9 @@ from pertxogai.judging.measure.deviation import Deviation, Unit, greatest
 from pertxogai.judging.measure.limit import Limit
 from pertxogai.judging.measure.solution import Solution
 from pertxogai.judging.printed import is_tied
+
+if TYPE_CHECKING:  # It is imported where the stored places are measured.
+    from pertxogai.judging.as_stored import StoredOffs
 
 
 @dataclass(frozen=True)

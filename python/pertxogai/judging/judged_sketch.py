@@ -6,33 +6,16 @@ from typing import Any
 
 from pertxogai import _former
 from pertxogai.judging.choices import Tried, beneath, tried
+from pertxogai.judging.limits import TextRefused
 from pertxogai.judging.measure.limit import Limit
 from pertxogai.language import ClusterName, Constraint, Refusal, Sketch
 from pertxogai.program import Answer, Solver, Status
 from pertxogai.program.reports import (
     Cause, CheckReport, ConstraintFault, ExcessReport, Fault, FrameFault, NotAReport, NumberFault,
-    PartsReport, Plan, RangeFault, Refused, Solved, Spare, TurnedFault, Verdict, WhyReport,
+    PartsReport, Plan, RangeFault, Solved, Spare, TurnedFault, Verdict, WhyReport,
     read_answer, read_check, read_excess, read_fault, read_parts, read_plan, read_refusal,
     read_solve, read_spare, read_why)
 from pertxogai.program.reports.why import WORK, work_of
-
-
-class TextRefused(Exception):
-    """The program refuses a text. The message is one line: the name of the sketch, and `told`:
-    where, the code, the line itself, and what to do."""
-
-    def __init__(self, name: str, refused: Refused, text: str) -> None:
-        lines = text.split("\n")
-        shown = (
-            f": {lines[refused.line - 1].strip()[:60]!r}" if 0 < refused.line <= len(lines) else ""
-        )
-        self.told = (
-            f"refused line {refused.line} {refused.code.name}"
-            f" {refused.code.word}{shown}: {refused.code.advice}; see 'How a text is refused' in"
-            " docs/LANGUAGE.md"
-        )
-        super().__init__(f"{name}: {self.told}")
-        self.refused = refused
 
 
 @dataclass(frozen=True)

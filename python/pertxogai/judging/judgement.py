@@ -3,33 +3,35 @@ from __future__ import annotations
 
 from dataclasses import dataclass, field, fields, replace
 from functools import cached_property
-from typing import Any
+from typing import TYPE_CHECKING, Any
 
 from pertxogai.drawing import Circle, Drawing
-from pertxogai.judging.choices import Tried, beneath, tried
 from pertxogai.judging.departures import Departure, warnings
 from pertxogai.judging.edited import EditedDrawing
-from pertxogai.judging.faults import Failure, failure
 from pertxogai.judging.freedoms import Freedoms, Twice, Whole, freedoms
-from pertxogai.judging.groups import groups_of
 from pertxogai.judging.limits import check_fits
-from pertxogai.judging.measure.deviation import Deviation, Unit
+from pertxogai.judging.measure.deviation import Deviation, Unit, worst
 from pertxogai.judging.measure.limit import Limit
 from pertxogai.judging.measure.measuring import Measurement, measure
 from pertxogai.judging.measure.solution import Solution
-from pertxogai.judging.missing import Missing, loose, missing, too_many, unmet
 from pertxogai.judging.naming import Names
 from pertxogai.judging.printed import is_tied
 from pertxogai.judging.remembering import Remembering
 from pertxogai.judging.settled import settled, solution_of
-from pertxogai.judging.surplus import Surplus, spare_at_once, what_may_go, worst
 from pertxogai.judging.trials import (
     CountedTrial, PlaceBy, Question, Trial, counted, finer, first_good, written_by)
 from pertxogai.judging.within import Wider, within
 from pertxogai.program import Solver
-from pertxogai.program.reports import Shape, Solved, Verdict, read_plan
+from pertxogai.program.reports import Shape, Solved, Verdict
 from pertxogai.spelling.facts import Owner, RadiusOf
 from pertxogai.spelling.style import Style
+
+if TYPE_CHECKING:  # What isn't well, or isn't met, imports what is told of it alone.
+    from pertxogai.judging.choices import Tried
+    from pertxogai.judging.faults import Failure
+    from pertxogai.judging.missing import Missing
+    from pertxogai.judging.surplus import Surplus
+    from pertxogai.program.reports import Plan
 
 FINE_NM = 2
 """What is off by more is asked for again with finer angles."""
@@ -181,7 +183,10 @@ class Judgement:
         if self.verdict is Verdict.OVER or self.free is None:
             return ()
         held = {each.owner for each in self.left_out_measured if each.repeats()}
-        return too_many(self.names, self.free, self._spelled_repeats() | held)
+        repeats = {owner.number for owner in self._spelled_repeats() | held if not owner.shape}
+        groups = (self.names.owners(owner for owner in each if not owner.shape)
+                  for each in self.free.too_many(repeats))
+        return tuple(filter(None, groups))
 
     @property
     def held(self) -> tuple[str, ...]:
@@ -263,9 +268,13 @@ def judge_edited(edited: EditedDrawing, program: Solver, freeze: bool = False,
     if asked.check is None:
         return _with_places(judged, edited, program)
     if asked.verdict is Verdict.OPEN:
+        from pertxogai.judging.missing import missing
+
         return replace(judged, missing=missing(names, asked.check))
-    return replace(judged, surplus=tuple(Surplus(number, drawing.called(number), None)
-                                         for number in spare_at_once(drawing, asked, program)))
+    from pertxogai.judging.surplus import spare_at_once, untried_surplus
+
+    numbers = spare_at_once(drawing, asked, program)
+    return replace(judged, surplus=untried_surplus(drawing, numbers))
 
 
 def with_choices(judged: WeighedJudgement, program: Solver) -> WeighedJudgement:
@@ -275,13 +284,21 @@ def with_choices(judged: WeighedJudgement, program: Solver) -> WeighedJudgement:
         return judged
     if judged.solution is not None and not any(judged.limit.beyond(judged.deviations)):
         return judged
-    text = judged.asked.spelled.sketch.text()
-    plan = read_plan(written_by(program, "plan", text))
+    from pertxogai.judging.choices import beneath, tried
+
+    plan = _plan_of(judged, program)
     steps = plan.steps if judged.failure is None else beneath(plan, judged.failure.fault)
     keys = [f"place={judged.place.value}", within(judged.asked.spelled)]
     found = tried(judged.asked.spelled.sketch, steps, program, keys,
                   lambda shape: _is_met(judged, shape))
     return replace(judged, tried=replace(found, scale=judged.asked.spelled.scale))
+
+
+def _plan_of(judged: Judgement, program: Solver) -> Plan:
+    """How what is well is constructed."""
+    from pertxogai.program.reports import read_plan
+
+    return read_plan(written_by(program, "plan", judged.asked.spelled.sketch.text()))
 
 
 def _is_met(judged: Judgement, shape: Shape) -> bool:
@@ -311,8 +328,9 @@ def _with_places(judged: Judgement, edited: EditedDrawing, program: Solver) -> J
         return min((judged, fine), key=_greatest)
     if solved is None:
         return judged
-    plan = read_plan(written_by(program, "plan", judged.asked.spelled.sketch.text()))
-    return replace(judged, failure=failure(judged.names, solved, plan))
+    from pertxogai.judging.faults import failure
+
+    return replace(judged, failure=failure(judged.names, solved, _plan_of(judged, program)))
 
 
 def _with_measurement(judged: Judgement, edited: EditedDrawing) -> Judgement:
@@ -332,12 +350,17 @@ def _greatest(judged: Judgement) -> int:
 def weighed(judged: Judgement, program: Solver) -> WeighedJudgement:
     """The judgement with each dimension that may go tried, and measured on the rest; of what isn't
     over and has no shape, with what isn't met. Raises as `judge_at_once`."""
+    if judged.solution is not None:
+        return WeighedJudgement(**_fields(judged))
+    from pertxogai.judging.missing import loose, unmet
+
     drawing = judged.names.drawing
     if judged.verdict is not Verdict.OVER:
-        without = unmet(drawing) if judged.solution is None else None
-        return WeighedJudgement(**_fields(judged, unmet=without))
-    question = Question(drawing, program, judged.limit)
-    surplus = what_may_go(question, judged.asked)
+        return WeighedJudgement(**_fields(judged, unmet=unmet(drawing)))
+    from pertxogai.judging.groups import groups_of
+    from pertxogai.judging.surplus import what_may_go
+
+    surplus = what_may_go(Question(drawing, program, judged.limit), judged.asked)
     if judged.asked.check is not None:
         numbers = [each.number for each in surplus]
         groups = groups_of(judged.names, program, numbers, judged.asked.check)
@@ -345,5 +368,5 @@ def weighed(judged: Judgement, program: Solver) -> WeighedJudgement:
     return WeighedJudgement(**_fields(judged, surplus=surplus, loose=loose(judged.names)))
 
 
-__all__ = ["CountedJudgement", "Judgement", "Surplus", "WeighedJudgement", "judge",
-           "judge_at_once", "judge_edited", "weighed", "with_choices", "with_counts"]
+__all__ = ["CountedJudgement", "Judgement", "WeighedJudgement", "judge", "judge_at_once",
+           "judge_edited", "weighed", "with_choices", "with_counts"]

@@ -1,13 +1,36 @@
 """Drawings that are refused before they are spelled, since the program takes no sketch so large,
-or since no sketch can say them."""
+or since no sketch can say them; and texts that the program refuses."""
 from __future__ import annotations
+
+from typing import TYPE_CHECKING
 
 from pertxogai.drawing import Drawing, ends_made_one
 from pertxogai.language.declared import MOST_CONSTRAINTS, MOST_ELEMENTS
 
+if TYPE_CHECKING:
+    from pertxogai.program.reports import Refused
+
 
 class DrawingRefused(Exception):
     """A drawing that no sketch can be made of. The message is one line, and says what to do."""
+
+
+class TextRefused(Exception):
+    """The program refuses a text. The message is one line: the name of the sketch, and `told`:
+    where, the code, the line itself, and what to do."""
+
+    def __init__(self, name: str, refused: Refused, text: str) -> None:
+        lines = text.split("\n")
+        shown = (
+            f": {lines[refused.line - 1].strip()[:60]!r}" if 0 < refused.line <= len(lines) else ""
+        )
+        self.told = (
+            f"refused line {refused.line} {refused.code.name}"
+            f" {refused.code.word}{shown}: {refused.code.advice}; see 'How a text is refused' in"
+            " docs/LANGUAGE.md"
+        )
+        super().__init__(f"{name}: {self.told}")
+        self.refused = refused
 
 
 def check_fits(drawing: Drawing) -> None:

@@ -2,7 +2,7 @@
 pieces."""
 from __future__ import annotations
 
-from collections.abc import Collection, Sequence
+from collections.abc import Sequence
 from dataclasses import dataclass
 from enum import Enum
 from fractions import Fraction
@@ -14,7 +14,6 @@ from pertxogai.judging.jets import Steps, TooMany
 from pertxogai.judging.like_places import has_shape
 from pertxogai.judging.naming import Names
 from pertxogai.program.reports import CheckReport, Part
-from pertxogai.spelling.facts import Owner
 
 
 class Tie(Enum):
@@ -74,16 +73,6 @@ def missing(names: Names, check: CheckReport) -> Missing:
     if free is None:
         return Missing(0, shown_pieces, joints)
     return Missing(free.lacks, shown_pieces, _lacking(names, check.parts, joints, free), free.whole)
-
-
-def too_many(names: Names, free: Freedoms,
-             repeats: Collection[Owner]) -> tuple[tuple[str, ...], ...]:
-    """The groups of constraints of each of which one is too many, by rank: it says what the others
-    say, or contradicts it. repeats: what is told to repeat others already."""
-    numbers = {owner.number for owner in repeats if not owner.shape}
-    groups = (names.owners(owner for owner in each if not owner.shape)
-              for each in free.too_many(numbers))
-    return tuple(filter(None, groups))
 
 
 def _lacking(names: Names, parts: Sequence[Part], joints: Sequence[Joint],

@@ -13,7 +13,7 @@ from pertxogai.drawing import ORIGIN, Coincident, Drawing
 from pertxogai.drawing.places import NM_PER_UM
 from pertxogai.exact import whole_up
 from pertxogai.judging.freedoms import Freedoms, Gone, freedoms
-from pertxogai.judging.measure.deviation import Deviation, Unit, greatest
+from pertxogai.judging.measure.deviation import Deviation, Unit, worst
 from pertxogai.judging.measure.limit import Limit
 from pertxogai.judging.measure.measuring import measure
 from pertxogai.judging.pieces_measured import off_in_pieces
@@ -85,17 +85,17 @@ def what_may_go(question: Question, asked: Trial) -> tuple[Surplus, ...]:
     drawing = question.drawing
     free = freedoms(drawing)
     if free is None:
-        return _untried(drawing, spare_at_once(drawing, asked, question.program))
+        return untried_surplus(drawing, spare_at_once(drawing, asked, question.program))
     numbers = _spare_by_rank(drawing, free)
     trials = _Trials(question, free)
     with suppress(_Enough):
         trials.try_all(numbers)
     untried = [number for number in numbers if number not in trials.found]
-    found = [*trials.found.values(), *_untried(drawing, untried)]
+    found = [*trials.found.values(), *untried_surplus(drawing, untried)]
     return tuple(sorted(_consistent(found, free.excess), key=_order))
 
 
-def _untried(drawing: Drawing, numbers: Iterable[int]) -> tuple[Surplus, ...]:
+def untried_surplus(drawing: Drawing, numbers: Iterable[int]) -> tuple[Surplus, ...]:
     """Dimensions that weren't tried."""
     return tuple(Surplus(number, drawing.called(number), None) for number in numbers)
 
@@ -294,10 +294,3 @@ def without(drawing: Drawing, gone: Collection[int]) -> Drawing:
     """The drawing without the constraints of these places, from 1."""
     return Drawing(drawing.geometry, tuple(
         each for number, each in enumerate(drawing.constraints, 1) if number not in gone))
-
-
-def worst(deviations: Iterable[Deviation], number: int) -> Deviation | None:
-    """The deviation of a constraint that counts: in nanometres, before that of an angle."""
-    mine = [each for each in deviations if each.number == number]
-    lengths = [each for each in mine if each.unit is Unit.NM]
-    return greatest(lengths, Unit.NM) or greatest(mine, Unit.PPB)

@@ -11,10 +11,7 @@ from functools import partial
 from itertools import islice
 
 from pertxogai.drawing import Drawing
-from pertxogai.judging.as_drawn import frozen_choices
-from pertxogai.judging.contradicting import contradictions, too_many
 from pertxogai.judging.freedoms import freedoms
-from pertxogai.judging.from_parts import growths
 from pertxogai.judging.measure.limit import Limit
 from pertxogai.judging.within import within
 from pertxogai.language import Refusal
@@ -191,6 +188,8 @@ def _ask(question: Question, rails: Rails, spelled: Spelled, care: Care) -> Tria
 def _grow(asked: Trial, program: Solver, care: Care) -> Trial | None:
     """The same with one more value that is read off placed parts: the first that leaves it not
     over, of a few; None where there is none."""
+    from pertxogai.judging.from_parts import growths
+
     text = asked.spelled.sketch.text()
     parts = read_parts(written_by(program, "parts", text, within(asked.spelled)))
     found: Trial | None = None
@@ -221,6 +220,8 @@ def _contradict(question: Question, asked: Trial, care: Care) -> Trial:
 def _off(question: Question, asked: Trial) -> tuple[Contradiction, ...]:
     """What couldn't be spelled and contradicts what is placed, by boxes or by points. Where what is
     well has no places, what of it is too many by rank."""
+    from pertxogai.judging.contradicting import contradictions, too_many
+
     for place in PlaceBy:
         keys = f"place={place.value}", within(asked.spelled)
         text = asked.spelled.sketch.text()
@@ -298,6 +299,8 @@ def counted(asked: Trial, program: Solver) -> CountedTrial:
 def _freeze(question: Question, asked: Trial) -> Trial:
     """What is open, with one length or radius after the other as drawn, while that leaves fewer
     parts."""
+    from pertxogai.judging.as_drawn import frozen_choices
+
     for _ in range(FREEZES):
         best = asked
         for choice in frozen_choices(asked.axes, asked.rails):

@@ -4,21 +4,22 @@ from __future__ import annotations
 
 from collections.abc import Iterator, Sequence
 from dataclasses import asdict
-from typing import TypedDict
+from typing import TYPE_CHECKING, TypedDict
 
 from pertxogai.drawing import Circle, Drawing, PointRef
 from pertxogai.drawing.geometry import Arc
-from pertxogai.judging import CountedJudgement, Judgement, Surplus, Then
-from pertxogai.judging.choices import tried_json, tried_lines
 from pertxogai.judging.good import Lack, reasons_against, reasons_json
 from pertxogai.judging.judged_drawing import CountedDrawing, JudgedDrawing
 from pertxogai.judging.measure import Deviation, Solution, Unit, amount_text
 from pertxogai.judging.measure.limit import units_text
 from pertxogai.judging.measure.upright import upright
 from pertxogai.output.finding_text import finding_json, finding_lines, freedoms_text
-from pertxogai.output.stored_text import stored_json, stored_lines
 from pertxogai.output.values_text import values_json, values_lines
 from pertxogai.program.reports import Part, Solved
+
+if TYPE_CHECKING:  # What isn't well, or isn't met, imports what is told of it alone.
+    from pertxogai.judging.judgement import CountedJudgement, Judgement
+    from pertxogai.judging.surplus import Surplus
 
 __all__ = ["JudgedDrawing", "drawing_json", "drawing_lines", "spare_json", "spelled_json",
            "within_json"]
@@ -51,8 +52,17 @@ def drawing_json(judged: CountedDrawing) -> dict[str, object]:
         **_placed_json(judged),
         "by_numbers": {"unmet": None if judgement.unmet is None else list(judgement.unmet)},
         "warnings": [each.text() for each in judged.warnings()],
-        **({"as_stored": stored_json(judged.stored, judged.drawing)} if judged.stored else {}),
+        **_stored_json(judged),
     }
+
+
+def _stored_json(judged: CountedDrawing) -> dict[str, object]:
+    """How far off the stored places are, where that was asked for."""
+    if judged.stored is None:
+        return {}
+    from pertxogai.output.stored_text import stored_json
+
+    return {"as_stored": stored_json(judged.stored, judged.drawing)}
 
 
 def _by_rank(judgement: CountedJudgement) -> dict[str, object]:
@@ -94,9 +104,17 @@ def _placed_json(judged: CountedDrawing) -> dict[str, object]:
         "places": _places(judged.drawing, places) if places else None,
         **within_json(judged),
         "fault": None if placed else _fault(judgement),
-        "other_choice": tried_json(judgement.asked.spelled.sketch, judgement.tried,
-                                   judgement.names.element),
+        "other_choice": _other_choice(judgement),
     }
+
+
+def _other_choice(judgement: CountedJudgement) -> dict[str, object] | None:
+    """What came of other choices of its steps, where they were tried."""
+    if judgement.tried is None:
+        return None
+    from pertxogai.judging.choices import tried_json
+
+    return tried_json(judgement.asked.spelled.sketch, judgement.tried, judgement.names.element)
 
 
 def within_json(judged: JudgedDrawing) -> dict[str, object]:
@@ -145,12 +163,16 @@ def drawing_lines(judged: CountedDrawing) -> Iterator[str]:
     yield from (f"  look: {warning.text()}" for warning in judged.warnings())
     yield from _nearly_lines(judged)
     if judged.stored is not None:
+        from pertxogai.output.stored_text import stored_lines
+
         yield from stored_lines(judged.stored, judged.drawing)
 
 
 def _tried_lines(judgement: CountedJudgement) -> Iterator[str]:
     """What came of other choices, where the drawing is placed and a constraint isn't met."""
-    if judgement.solution is not None:
+    if judgement.solution is not None and judgement.tried is not None:
+        from pertxogai.judging.choices import tried_lines
+
         sketch, named = judgement.asked.spelled.sketch, judgement.names.element
         yield from (f"  {line}" for line in tried_lines(
             sketch, judgement.tried, named, "no other choice of its steps meets all of it"))
@@ -186,6 +208,8 @@ def _failure_lines(judgement: CountedJudgement) -> Iterator[str]:
     failure = judgement.failure
     if failure is None:
         return
+    from pertxogai.judging.choices import tried_lines
+
     yield f"  no places: {failure.text.strip()}"
     if failure.at:
         at = ", ".join(failure.at)
@@ -276,11 +300,15 @@ def _off_text(each: Surplus) -> str:
 
 def _advice_on(surplus: Sequence[Surplus]) -> Iterator[str]:
     """What to do with what may go."""
-    if surplus and all(each.then is Then.OVER for each in surplus):
+    if not surplus:
+        return
+    from pertxogai.judging.surplus import Then
+
+    if all(each.then is Then.OVER for each in surplus):
         yield "  what to do: none of these is enough by itself; take one away, and ask again"
     elif any(each.then is None for each in surplus):
         yield "  what to do: take one of these away, and ask again (by rank; the first were tried)"
-    elif surplus:
+    else:
         yield "  what to do: take one of these away, and ask again (by rank; each was tried)"
 
 

@@ -9,14 +9,13 @@ from typing import TYPE_CHECKING, Protocol
 from pertxogai.judging.good import (
     GoodJudgement, GoodSketch, NotGood, Reason, good_of, good_sketch_of, reasons_against)
 from pertxogai.judging.judged_drawing import CountedDrawing
-from pertxogai.judging.judged_sketch import JudgedSketch
 from pertxogai.output.drawing_text import drawing_json, drawing_lines
 from pertxogai.output.release import Release
-from pertxogai.output.sketch_text import sketch_json, sketch_lines
 from pertxogai.program import Solver
 from pertxogai.program.reports import Verdict
 
 if TYPE_CHECKING:
+    from pertxogai.judging.judged_sketch import JudgedSketch
     from pertxogai.output.picture.svg import Picture
 
 
@@ -90,9 +89,13 @@ class SketchOutcome:
         return reasons_against(self.judged)
 
     def lines(self) -> Iterator[str]:
+        from pertxogai.output.sketch_text import sketch_lines
+
         return sketch_lines(self.judged)
 
     def json(self) -> dict[str, object]:
+        from pertxogai.output.sketch_text import sketch_json
+
         return sketch_json(self.judged)
 
     def sheet(self, as_drawn: bool) -> Sheet:

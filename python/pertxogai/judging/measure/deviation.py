@@ -61,3 +61,9 @@ def greatest(deviations: Iterable[Deviation], unit: Unit) -> Deviation | None:
     """The first of the greatest deviations in this unit; None where there is none at all."""
     of_unit = [each for each in deviations if each.unit is unit]
     return max(of_unit, key=lambda each: each.amount) if of_unit else None
+
+
+def worst(deviations: Iterable[Deviation], number: int) -> Deviation | None:
+    """The deviation of a constraint that counts: in nanometres, before that of an angle."""
+    mine = [each for each in deviations if each.number == number]
+    return greatest(mine, Unit.NM) or greatest(mine, Unit.PPB)
