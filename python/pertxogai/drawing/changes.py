@@ -36,8 +36,8 @@ def moved(drawing: Drawing, before: Drawing) -> frozenset[str] | None:
 
 @dataclass(frozen=True)
 class Redrawing:
-    """A drawing `new` in which the same points are one as in a drawing `old`, and what of it is
-    drawn elsewhere, as `moved` tells it. Its constraints may be others."""
+    """A drawing `new` in which the same points are one as in a drawing `old`, and the shapes that
+    are drawn elsewhere in it, as `moved` tells them. The constraints may differ."""
 
     old: Drawing
     new: Drawing
@@ -45,8 +45,8 @@ class Redrawing:
 
     @staticmethod
     def of(old: Drawing, new: Drawing) -> Redrawing | None:
-        """From one drawing to another, which is made with what is known of the first one's points;
-        None where its shapes are others, or where other points are told to be one."""
+        """From one drawing to another, which takes over which points are one; None where the shapes
+        differ, or where other points are told to be one."""
         elsewhere = moved(new, old)
         return None if elsewhere is None else Redrawing(old, new.meeting_as(old), elsewhere)
 

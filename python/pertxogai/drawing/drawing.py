@@ -58,7 +58,8 @@ class Drawing:
         return Meetings(self)
 
     def meeting_as(self, other: Drawing) -> Drawing:
-        """The same drawing, made with which points are one in another in which the same are."""
+        """The same drawing. Which of its points are one is taken over from another, in which the
+        same points are one."""
         found = copy(self)
         vars(found)["meetings"] = other.meetings.redrawn(found)
         return found

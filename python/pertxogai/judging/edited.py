@@ -18,8 +18,8 @@ from pertxogai.spelling.reading import interpretations
 @dataclass
 class Analysis:
     """What was worked out of a drawing so far: its facts, how its readings are spelled, and how far
-    its constraints are off where it was placed last. Which of its points are one, the drawing
-    itself has."""
+    its constraints are off where it was placed last. The drawing itself knows which of its points
+    are one."""
 
     drawing: Drawing
     facts: Facts | None = None
@@ -28,9 +28,9 @@ class Analysis:
 
 
 class EditedDrawing:
-    """A drawing, and the one that an edit has made it of, if it was. What the edit has left as it
-    was is taken over from that one's analysis, and isn't worked out again. What was before that one
-    isn't kept."""
+    """A drawing, and the one that an edit made it from, if there is one. What the edit left as it
+    was is taken over from the analysis of that one, and isn't worked out again. Nothing older is
+    kept."""
 
     def __init__(self, drawing: Drawing, previous: EditedDrawing | None = None) -> None:
         self._known: Analysis = Analysis(Drawing()) if previous is None else previous.analysis
