@@ -18,7 +18,8 @@ from pertxogai.judging.good import (
     GoodJudgement, GoodSketch, Lack, NotGood, good_of, good_sketch_of, reasons_against)
 from pertxogai.judging.judged_drawing import JudgedDrawing
 from pertxogai.judging.judged_sketch import JudgedSketch, judge_sketch
-from pertxogai.judging.measure import Deviation, Limit, Solution, Unit, amount_text
+from pertxogai.judging.measure import (
+    Deviation, Limit, Measurement, Solution, Unit, amount_text)
 from pertxogai.judging.measure.limit import is_direction
 from pertxogai.output.drawing_sheet import DrawingSheet, NoPlaces
 from pertxogai.output.drawing_text import drawing_json, drawing_lines
@@ -44,8 +45,13 @@ def moved(judged: JudgedDrawing, point: PointRef, x_nm: int) -> JudgedDrawing:
     solution = judged.judgement.solution
     x, y = solution.points[point]
     points = {**solution.points, point: (x + x_nm, y)}
-    other = replace(judged.judgement, solution=Solution(points, solution.radii))
-    return replace(judged, judgement=other)
+    return elsewhere(judged, Solution(points, solution.radii))
+
+
+def elsewhere(judged: JudgedDrawing, solution: Solution) -> JudgedDrawing:
+    """The same on other places."""
+    state = replace(judged.judgement.state, measurement=Measurement(judged.drawing, solution))
+    return replace(judged, judgement=replace(judged.judgement, state=state))
 
 
 def lacks(judged) -> list[Lack]:
@@ -91,16 +97,14 @@ def test_what_the_file_has_beside_the_drawing_is_lacking(program):
 
 def test_the_places_are_measured_and_not_believed(program):
     """A judgement whose places were changed behind its back: not even a nanometre is taken, and
-    1,001 nm are beyond the limit too; a wrong list of deviations doesn't matter."""
+    1,001 nm are beyond the limit too."""
     found = judged(PLATE, program)
     hole = PointRef("Hole", Which.CENTRE)
     assert lacks(moved(found, hole, 1)) == lacks(moved(found, hole, 1000)) == [Lack.NOT_PRINTED]
-    silent = replace(found, judgement=replace(found.judgement, measurement=None))
-    for each in (found, silent):
-        _, why = reasons_against(moved(each, hole, 1001))
-        assert (why.lack, why.constraint, why.off.amount) == (Lack.OFF, 8, 1001)
-        assert why.text == "constraint 8 (x Hole.centre 30) is off by 0.001001 mm"
-    lost = replace(found, judgement=replace(found.judgement, solution=Solution({}, {})))
+    _, why = reasons_against(moved(found, hole, 1001))
+    assert (why.lack, why.constraint, why.off.amount) == (Lack.OFF, 8, 1001)
+    assert why.text == "constraint 8 (x Hole.centre 30) is off by 0.001001 mm"
+    lost = elsewhere(found, Solution({}, {}))
     assert lacks(lost) == [Lack.NOT_PRINTED, Lack.UNMEASURED]
 
 
@@ -112,7 +116,8 @@ def test_drawing_judgement_and_sizes_are_of_one(program):
     claimed = replace(over.judgement, verdict=Verdict.WELL)
     assert lacks(replace(over, judgement=claimed)) == [Lack.NOT_PRINTED]
     sizeless = judged(PLATE.replace("radius Hole 5\n", ""), program)
-    claimed = replace(sizeless.judgement, unsized=())
+    state = replace(sizeless.judgement.state, unsized=())
+    claimed = replace(sizeless.judgement, state=state)
     assert lacks(replace(sizeless, judgement=claimed)) == [Lack.NO_SIZE]
 
 

@@ -1,7 +1,7 @@
 """What the program answers on a document: the judgement, its plan, its other shapes, its claim."""
 from __future__ import annotations
 
-from dataclasses import dataclass, replace
+from dataclasses import dataclass
 from functools import cached_property
 
 from pertxogai.board.construction import Construction
@@ -28,6 +28,9 @@ from pertxogai.program import ProgramError, Solver, Status
 from pertxogai.program.reports import (
     ClaimFails, Flipped, Plan, Refused, Shape, Solved, Verdict, Verified, read_answer, read_flips,
     read_plan, read_verify)
+
+
+NOT_PLACED = "the drawing isn't well and placed, so there is nothing to show of it"
 
 
 class NotPlaced(Exception):
@@ -115,11 +118,17 @@ class BoardDrawing:
             return before.told["placed"]
         return None if solution is None else places_shown(DrawnPlaces(self.drawing, solution))
 
+    def solution(self) -> Solution:
+        """Where it is placed. Raises NotPlaced."""
+        if self.judgement.solution is None:
+            raise NotPlaced(NOT_PLACED)
+        return self.judgement.solution
+
     def solved(self) -> Solved:
-        """The places. Raises NotPlaced."""
+        """The places, as the program has printed them. Raises NotPlaced."""
         solved = self.judgement.asked.solved
         if not isinstance(solved, Solved) or self.judgement.solution is None:
-            raise NotPlaced("the drawing isn't well and placed, so there is nothing to show of it")
+            raise NotPlaced(NOT_PLACED)
         return solved
 
     @cached_property
@@ -145,10 +154,10 @@ class BoardDrawing:
         return Construction(self.judgement, self.plan,
                             elements_placed(self.judgement, self.solved()))
 
-    def flipped(self, steps: tuple[int, ...]) -> Judgement | Flipped:
-        """The judgement with the places of the other shape, in which the choices of these steps
-        are turned over; else what the program answers instead. Raises NotPlaced, Refusal."""
-        solved = self.solved()
+    def flipped(self, steps: tuple[int, ...]) -> Solution | Flipped:
+        """Where the other shape lies, in which the choices of these steps are turned over; else
+        what the program answers instead. Raises NotPlaced, Refusal."""
+        self.solution()
         text = Flips(self.judgement.asked.spelled.sketch, (Flip(steps),)).text()
         report = self.program.ask(["flips", f"place={self.judgement.place.value}"], text)
         if report.status is not Status.DONE:
@@ -157,10 +166,7 @@ class BoardDrawing:
         (answer,) = read_flips(report.text)
         if not isinstance(answer.answer, Shape):
             return answer
-        other = Solved(answer.answer.places, answer.answer.tolerances, solved.steps, solved.bits)
-        asked = replace(self.judgement.asked, solved=other)
-        return replace(self.judgement, asked=asked,
-                       solution=solution_of(self.drawing, asked, other))
+        return solution_of(self.drawing, self.judgement.asked, answer.answer)
 
     def claim(self) -> Claim:
         """What is shown, as a claim. Raises NotPlaced."""

@@ -208,9 +208,8 @@ def _flips(desk: Desk, given: Fields) -> OtherShape | Answer:
         return trouble("flip", "this step has no choice that could be turned over"
                        if isinstance(found.answer, NoChoice) else
                        "turned over, this choice leaves the part no places with these dimensions")
-    here = judged.judgement.solution
-    assert here is not None
-    return {"placed": places_shown(DrawnPlaces(judged.drawing, laid_over(found, here)))}
+    shape = laid_over(found, judged.solution(), judged.judgement.asked)
+    return {"placed": places_shown(DrawnPlaces(judged.drawing, shape))}
 
 
 def _redraw(desk: Desk, given: Fields) -> Edited | Answer:
@@ -218,13 +217,11 @@ def _redraw(desk: Desk, given: Fields) -> Edited | Answer:
     shape: `steps` are turned over."""
     judged = desk.judged(given.text("text"))
     steps = _steps(given)
-    judged.solved()
-    found = judged.flipped(steps) if steps else judged.judgement
-    if isinstance(found, Flipped) or found.solution is None:
+    found = judged.flipped(steps) if steps else judged.solution()
+    if isinstance(found, Flipped):
         return trouble("flip", "the other shape has no places, so nothing is drawn so")
-    solution = found.solution
-    moves = tuple((ref, _place(solution.spot(ref))) for ref in judged.drawing.points())
-    radii = tuple((name, Fraction(solution.radius(name)) / 1000) for name in solution.radii)
+    moves = tuple((ref, _place(found.spot(ref))) for ref in judged.drawing.points())
+    radii = tuple((name, Fraction(found.radius(name)) / 1000) for name in found.radii)
     return desk.edited(Move(moves, radii).on(judged.drawing), judged, given)
 
 

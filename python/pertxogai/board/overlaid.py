@@ -5,7 +5,7 @@ from dataclasses import replace
 from fractions import Fraction
 
 from pertxogai.drawing import PointRef
-from pertxogai.judging import Judgement
+from pertxogai.judging import Trial
 from pertxogai.judging.measure import Frame, Solution
 from pertxogai.judging.printed import is_tied
 from pertxogai.output.picture.fitting import Motion, Pair, fitted
@@ -13,16 +13,16 @@ from pertxogai.output.picture.marks import PointMm
 from pertxogai.spelling.facts import ORIGIN_KNOT
 
 
-def laid_over(other: Judgement, here: Solution) -> Solution:
-    """The places of another shape, seen from where it lies nearest to those that are shown: turned
-    as a whole, about the origin where that is a point of it, if nothing ties it to the axes."""
-    solution, spelled = other.solution, other.asked.spelled
-    assert solution is not None
-    if is_tied(other.asked.axes, spelled):
-        return solution
+def laid_over(other: Solution, here: Solution, asked: Trial) -> Solution:
+    """The places of another shape of what was asked, seen from where it lies nearest to those that
+    are shown: turned as a whole, about the origin where that is a point of it, if nothing ties it
+    to the axes."""
+    if is_tied(asked.axes, asked.spelled):
+        return other
     origin: Pair = (0.0, 0.0), (0.0, 0.0)
-    pairs = [(_mm(solution, ref), _mm(here, ref)) for ref in solution.points]
-    return _moved(solution, fitted(pairs, about=origin if ORIGIN_KNOT in spelled.points else None))
+    pairs = [(_mm(other, ref), _mm(here, ref)) for ref in other.points]
+    about = origin if ORIGIN_KNOT in asked.spelled.points else None
+    return _moved(other, fitted(pairs, about=about))
 
 
 def _mm(solution: Solution, ref: PointRef) -> PointMm:

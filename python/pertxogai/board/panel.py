@@ -4,19 +4,19 @@ from __future__ import annotations
 from collections.abc import Iterator, Sequence
 from dataclasses import dataclass
 from fractions import Fraction
-from typing import cast
+from typing import assert_never, cast
 
 from pertxogai.board.faulted import fault_told
 from pertxogai.board.protocol import Line as LineJson
 from pertxogai.drawing.numbers import mm_text
-from pertxogai.judging import Excess, Judgement, Surplus, TooMuch, WeighedJudgement
+from pertxogai.judging import Excess, Judgement, Missing, Surplus, TooMuch, WeighedJudgement
 from pertxogai.judging.choices import change
 from pertxogai.judging.faults import Failure
 from pertxogai.judging.good import Lack, reasons_against
 from pertxogai.judging.judged_drawing import JudgedDrawing
 from pertxogai.judging.measure import Unit, amount_text, units_text
+from pertxogai.judging.states import InPieces, WithFault, WithPlaces, WithSurplus
 from pertxogai.program import ProgramError
-from pertxogai.program.reports import Solved, Verdict
 
 MOST_PIECES, MOST_JOINTS = 40, 20
 """The most pieces, and the most joints, that are told."""
@@ -72,26 +72,28 @@ def lines_shown(judged: JudgedDrawing, asides: Asides = Asides()) -> list[LineJs
 
 def _told(judged: JudgedDrawing, asides: Asides) -> Iterator[Line]:
     judgement = judged.judgement
-    if judgement.failure is not None:
-        return _fault(judgement, judgement.failure, asides.short)
-    if judgement.verdict is Verdict.WELL:
-        return _well(judged)
-    if judgement.verdict is Verdict.OPEN:
-        return _open(judgement)
-    return _over(judgement, asides.left, asides.unweighed)
+    match judgement.state:
+        case WithPlaces() as placed:
+            return _well(judged, placed)
+        case WithFault(failure):
+            return _fault(judgement, failure, asides.short)
+        case InPieces(missing):
+            return _open(judgement, missing)
+        case WithSurplus():
+            return _over(judgement, asides.left, asides.unweighed)
+        case other:
+            assert_never(other)
 
 
-def _well(judged: JudgedDrawing) -> Iterator[Line]:
+def _well(judged: JudgedDrawing, placed: WithPlaces) -> Iterator[Line]:
     """Why it isn't good, if it isn't; and how exactly it is placed."""
-    solved, length_nm = judged.judgement.asked.solved, judged.judgement.length_tolerance_nm
-    assert isinstance(solved, Solved) and length_nm is not None
     unmet = [each for each in reasons_against(judged) if each.lack is not Lack.LEFT_OUT]
     if unmet:
         yield Line("The count is right, and it is placed, but not all is met or told:")
     for reason in unmet:
         yield Line(reason.text, list="what isn’t met", constraint=reason.constraint)
     yield from _choices(judged.judgement)
-    within = (units_text(length_nm, Unit.NM), units_text(solved.angle_tolerance_ppb, Unit.PPB))
+    within = (units_text(placed.length_nm, Unit.NM), units_text(placed.angle_ppb, Unit.PPB))
     is_just = not unmet and not judged.judgement.too_many
     count = "Just as many dimensions as fix it. " if is_just else ""
     yield Line(f"{count}Placed within {within[0]} and {within[1]}.")
@@ -113,10 +115,8 @@ def _left_out(judged: JudgedDrawing) -> Iterator[Line]:
         yield Line(what, list="left out of the file", forgets=what)
 
 
-def _open(judgement: Judgement) -> Iterator[Line]:
+def _open(judgement: Judgement, found: Missing) -> Iterator[Line]:
     """What is missing, its pieces, and what ties them."""
-    found = judgement.missing
-    assert found is not None
     is_tied = found.whole is None or not found.whole.ways
     if found.count:
         plural = "s" if found.count > 1 else ""

@@ -180,19 +180,20 @@ def _json(reason: Reason) -> ReasonJson:
 def _against(judged: JudgedDrawing) -> Iterator[Reason]:
     """Why the judgement on a drawing isn't good. What no constraint tells is looked at where
     nothing else is against it."""
-    found = [*_plain_reasons(judged)]
-    yield from found or _missing_or_mirrored(judged)
+    found, solution = [*_plain_reasons(judged)], judged.judgement.solution
+    yield from found
+    if not found and solution is not None:
+        yield from _missing_or_mirrored(judged, solution)
 
 
-def _missing_or_mirrored(judged: JudgedDrawing) -> Iterator[Reason]:
+def _missing_or_mirrored(judged: JudgedDrawing, solution: Solution) -> Iterator[Reason]:
     """What a measure of the constraints doesn't see: that dimensions are missing, by rank, and that
     something lies mirrored."""
     free = judged.judgement.free
     if free is not None and free.lacks:
         plural = "dimension is" if free.lacks == 1 else "dimensions are"
         yield Reason(Lack.MISSING, f"{free.lacks} {plural} missing at least, by rank")
-    assert judged.judgement.solution is not None
-    for names in mirrored(judged.drawing, judged.judgement.solution):
+    for names in mirrored(judged.drawing, solution):
         more = f" and {len(names) - MOST_NAMED} more" if len(names) > MOST_NAMED else ""
         yield Reason(Lack.MIRRORED, f"{', '.join(names[:MOST_NAMED])}{more} lie mirrored: each "
                      "corner turns to the other side than it is drawn")

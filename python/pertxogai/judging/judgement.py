@@ -1,9 +1,9 @@
 """What becomes of a drawing: the program's verdict with its reasons, in the designer's words."""
 from __future__ import annotations
 
-from dataclasses import dataclass, field, fields, replace
+from dataclasses import dataclass, field, replace
 from functools import cached_property
-from typing import TYPE_CHECKING, Any
+from typing import TYPE_CHECKING
 
 from pertxogai.drawing import Circle, Drawing
 from pertxogai.judging.departures import Departure, warnings
@@ -18,6 +18,7 @@ from pertxogai.judging.naming import Names
 from pertxogai.judging.printed import is_tied
 from pertxogai.judging.remembering import Remembering
 from pertxogai.judging.settled import settled, solution_of
+from pertxogai.judging.states import InPieces, State, WithFault, WithPlaces, WithSurplus
 from pertxogai.judging.trials import (
     CountedTrial, PlaceBy, Question, Trial, counted, finer, first_good, written_by)
 from pertxogai.judging.within import Wider, within
@@ -63,31 +64,61 @@ class LeftOut:
 class Judgement:
     """The program's verdict on a drawing and all that goes with it, as `judge_at_once` asks it.
 
-    style: how it was spelled. pieces and missing: where it is open. surplus: where it is over,
-    each dimension that may go, untried. solution: where it is placed, in the datum's frame, in
-    whole nanometres; place: by boxes or by points. failure: why it isn't, though it is well.
-    measurement: of each constraint on those places. left_out: constraints that couldn't be spelled.
+    style: how it was spelled. state: what becomes of it by the verdict; of what is over what may
+    go, untried. place: by boxes or by points. left_out: constraints that couldn't be spelled.
     frozen: those left to their drawn values, to be measured. rounded: those of which the value had
     to be rounded. grown: those told by a value that was read off a placed part. repeats: those that
-    tell of one point that it is itself. unsized: where it is placed, the circles of which neither a
-    dimension nor the places tell the size. limit: within what each constraint has to hold."""
+    tell of one point that it is itself. limit: within what each constraint has to hold."""
 
     verdict: Verdict
     asked: Trial
     names: Names
-    missing: Missing | None = None
-    surplus: tuple[Surplus, ...] = ()
-    solution: Solution | None = None
-    failure: Failure | None = None
-    measurement: Measurement | None = None
-    warnings: tuple[Departure, ...] = ()
-    unsized: tuple[str, ...] = ()
+    state: State
     limit: Limit = Limit()
+
+    @property
+    def _placed(self) -> WithPlaces | None:
+        return self.state if isinstance(self.state, WithPlaces) else None
+
+    @property
+    def measurement(self) -> Measurement | None:
+        """Where it is placed, and how far each constraint is off there; None where it isn't."""
+        return self._placed.measurement if self._placed else None
+
+    @property
+    def solution(self) -> Solution | None:
+        """Where it is placed, in the datum's frame, in whole nanometres; None where it isn't."""
+        return self._placed.measurement.solution if self._placed else None
 
     @property
     def deviations(self) -> tuple[Deviation, ...]:
         """How far each constraint is off where it is placed."""
-        return () if self.measurement is None else self.measurement.all
+        return self._placed.measurement.all if self._placed else ()
+
+    @property
+    def warnings(self) -> tuple[Departure, ...]:
+        """What is placed otherwise than it is drawn."""
+        return self._placed.warnings if self._placed else ()
+
+    @property
+    def unsized(self) -> tuple[str, ...]:
+        """Where it is placed, the circles of which nothing tells the size."""
+        return self._placed.unsized if self._placed else ()
+
+    @property
+    def failure(self) -> Failure | None:
+        """Why it has no places, though it is well."""
+        return self.state.failure if isinstance(self.state, WithFault) else None
+
+    @property
+    def missing(self) -> Missing | None:
+        """Where it is open, what is missing, and its pieces."""
+        return self.state.missing if isinstance(self.state, InPieces) else None
+
+    @property
+    def surplus(self) -> tuple[Surplus, ...]:
+        """Where it is over, each dimension that may go."""
+        return self.state.surplus if isinstance(self.state, WithSurplus) else ()
 
     @property
     def style(self) -> Style:
@@ -101,12 +132,9 @@ class Judgement:
 
     @property
     def length_tolerance_nm(self) -> int | None:
-        """Within how many nanometres of the drawing the program places it: its sketch is so many
-        times as large."""
-        solved = self.asked.solved
-        if not isinstance(solved, Solved):
-            return None
-        return -(-solved.length_tolerance_nm // self.asked.spelled.scale)
+        """Within how many nanometres of the drawing the program places it; None where it
+        doesn't."""
+        return self._placed.length_nm if self._placed else None
 
     @cached_property
     def free(self) -> Freedoms | None:
@@ -231,11 +259,6 @@ class CountedJudgement(WeighedJudgement):
     asked: CountedTrial = field()
 
 
-def _fields(judged: Judgement, **changed: Any) -> dict[str, Any]:
-    """What a judgement has, as the words of one that has more, but for what is changed."""
-    return {each.name: getattr(judged, each.name) for each in fields(judged)} | changed
-
-
 def judge(drawing: Drawing, program: Solver, freeze: bool = False,
           limit: Limit = Limit()) -> CountedJudgement:
     """What the program says of a drawing, with the counts of what is well, how far each dimension
@@ -260,33 +283,61 @@ def judge_at_once(drawing: Drawing, program: Solver, freeze: bool = False,
 def judge_edited(edited: EditedDrawing, program: Solver, freeze: bool = False,
                  limit: Limit = Limit()) -> Judgement:
     """The same of a drawing that an edit has made. Raises as `judge_at_once`."""
-    drawing = edited.drawing
-    check_fits(drawing)
-    asked = first_good(Question(drawing, program, limit), freeze, spelled=edited.readings())
-    names = Names(drawing, asked.spelled, asked.axes.facts.refs)
-    judged = Judgement(asked.verdict, asked, names, limit=limit)
-    if asked.check is None:
-        return _with_places(judged, edited, program)
+    check_fits(edited.drawing)
+    question = Question(edited.drawing, program, limit)
+    asked = first_good(question, freeze, spelled=edited.readings())
+    judged = _judgement(edited, asked, question)
+    if not any(each.amount > FINE_NM for each in judged.deviations):
+        return judged
+    fine = finer(question, asked)
+    return judged if fine is asked else min((judged, _judgement(edited, fine, question)),
+                                            key=_greatest)
+
+
+def _judgement(edited: EditedDrawing, asked: Trial, question: Question) -> Judgement:
+    """What a trial tells of a drawing."""
+    names = Names(edited.drawing, asked.spelled, asked.axes.facts.refs)
+    state = _state(edited, names, asked, question.program)
+    return Judgement(asked.verdict, asked, names, state, question.limit)
+
+
+def _state(edited: EditedDrawing, names: Names, asked: Trial, program: Solver) -> State:
+    """What becomes of a drawing by what was asked of it."""
+    if isinstance(asked.solved, Solved):
+        return _with_places(edited, asked, asked.solved)
+    if asked.solved is not None:
+        from pertxogai.judging.faults import failure
+
+        return WithFault(failure(names, asked.solved, _plan_of(asked, program)))
     if asked.verdict is Verdict.OPEN:
         from pertxogai.judging.missing import missing
 
-        return replace(judged, missing=missing(names, asked.check))
+        return InPieces(missing(names, asked.parts))
     from pertxogai.judging.surplus import spare_at_once, untried_surplus
 
-    numbers = spare_at_once(drawing, asked, program)
-    return replace(judged, surplus=untried_surplus(drawing, numbers))
+    numbers = spare_at_once(edited.drawing, asked, program)
+    return WithSurplus(untried_surplus(edited.drawing, numbers))
+
+
+def _with_places(edited: EditedDrawing, asked: Trial, solved: Solved) -> WithPlaces:
+    """The places in the datum's frame, and all that is measured on them."""
+    found = settled(edited.drawing, asked, solved)
+    length_nm = -(-solved.length_tolerance_nm // asked.spelled.scale)
+    is_free = not is_tied(asked.axes, asked.spelled)
+    departures = warnings(edited.drawing, found.solution, is_free)
+    return WithPlaces(edited.measured(found.solution), length_nm, solved.angle_tolerance_ppb,
+                      departures, found.unsized)
 
 
 def with_choices(judged: WeighedJudgement, program: Solver) -> WeighedJudgement:
     """The judgement with what comes of other choices of its steps: of those beneath a step that
     fails, and of all where a constraint isn't met. Raises ProgramError."""
-    if judged.verdict is not Verdict.WELL or judged.asked.solved is None:
-        return judged
-    if judged.solution is not None and not any(judged.limit.beyond(judged.deviations)):
+    is_off = any(judged.limit.beyond(judged.deviations))
+    if judged.failure is None and not is_off:
         return judged
     from pertxogai.judging.choices import beneath, tried
 
-    plan = _plan_of(judged, program)
+    plan = _plan_of(judged.asked, program)
     steps = plan.steps if judged.failure is None else beneath(plan, judged.failure.fault)
     keys = [f"place={judged.place.value}", within(judged.asked.spelled)]
     found = tried(judged.asked.spelled.sketch, steps, program, keys,
@@ -294,11 +345,11 @@ def with_choices(judged: WeighedJudgement, program: Solver) -> WeighedJudgement:
     return replace(judged, tried=replace(found, scale=judged.asked.spelled.scale))
 
 
-def _plan_of(judged: Judgement, program: Solver) -> Plan:
+def _plan_of(asked: Trial, program: Solver) -> Plan:
     """How what is well is constructed."""
     from pertxogai.program.reports import read_plan
 
-    return read_plan(written_by(program, "plan", judged.asked.spelled.sketch.text()))
+    return read_plan(written_by(program, "plan", asked.spelled.sketch.text()))
 
 
 def _is_met(judged: Judgement, shape: Shape) -> bool:
@@ -311,36 +362,16 @@ def _is_met(judged: Judgement, shape: Shape) -> bool:
 def with_counts(judged: Judgement, program: Solver) -> CountedJudgement:
     """The judgement with the program's parts and counts also of what is well. Raises
     ProgramError."""
-    return CountedJudgement(**_fields(judged, asked=counted(judged.asked, program)))
+    known = judged if isinstance(judged, WeighedJudgement) else _weighed(judged, judged.state)
+    return CountedJudgement(known.verdict, counted(known.asked, program), known.names, known.state,
+                            known.limit, known.loose, known.unmet, known.tried)
 
 
-def _with_places(judged: Judgement, edited: EditedDrawing, program: Solver) -> Judgement:
-    solved = judged.asked.solved
-    if isinstance(solved, Solved):
-        judged = _with_measurement(judged, edited)
-        if not any(each.amount > FINE_NM for each in judged.deviations):
-            return judged
-        asked = finer(Question(judged.names.drawing, program, judged.limit), judged.asked)
-        if asked is judged.asked:
-            return judged
-        names = replace(judged.names, spelled=asked.spelled)
-        fine = _with_measurement(replace(judged, asked=asked, names=names), edited)
-        return min((judged, fine), key=_greatest)
-    if solved is None:
-        return judged
-    from pertxogai.judging.faults import failure
-
-    return replace(judged, failure=failure(judged.names, solved, _plan_of(judged, program)))
-
-
-def _with_measurement(judged: Judgement, edited: EditedDrawing) -> Judgement:
-    """With the places in the datum's frame, and all that is measured on them."""
-    if not isinstance(judged.asked.solved, Solved):
-        return judged
-    found = settled(edited.drawing, judged.asked, judged.asked.solved)
-    solution, is_free = found.solution, not is_tied(judged.asked.axes, judged.asked.spelled)
-    return replace(judged, solution=solution, measurement=edited.measured(solution),
-                   warnings=warnings(edited.drawing, solution, is_free), unsized=found.unsized)
+def _weighed(judged: Judgement, state: State, loose: tuple[str, ...] = (),
+             unmet: tuple[str, ...] | None = None) -> WeighedJudgement:
+    """A judgement with what its weighing told."""
+    return WeighedJudgement(judged.verdict, judged.asked, judged.names, state, judged.limit, loose,
+                            unmet)
 
 
 def _greatest(judged: Judgement) -> int:
@@ -350,13 +381,13 @@ def _greatest(judged: Judgement) -> int:
 def weighed(judged: Judgement, program: Solver) -> WeighedJudgement:
     """The judgement with each dimension that may go tried, and measured on the rest; of what isn't
     over and has no shape, with what isn't met. Raises as `judge_at_once`."""
-    if judged.solution is not None:
-        return WeighedJudgement(**_fields(judged))
+    if isinstance(judged.state, WithPlaces):
+        return _weighed(judged, judged.state)
     from pertxogai.judging.missing import loose, unmet
 
     drawing = judged.names.drawing
-    if judged.verdict is not Verdict.OVER:
-        return WeighedJudgement(**_fields(judged, unmet=unmet(drawing)))
+    if not isinstance(judged.state, WithSurplus):
+        return _weighed(judged, judged.state, unmet=unmet(drawing))
     from pertxogai.judging.groups import groups_of
     from pertxogai.judging.surplus import what_may_go
 
@@ -365,7 +396,7 @@ def weighed(judged: Judgement, program: Solver) -> WeighedJudgement:
         numbers = [each.number for each in surplus]
         groups = groups_of(judged.names, program, numbers, judged.asked.check)
         surplus = tuple(replace(each, others=groups.get(each.number, ())) for each in surplus)
-    return WeighedJudgement(**_fields(judged, surplus=surplus, loose=loose(judged.names)))
+    return _weighed(judged, WithSurplus(surplus), loose(judged.names))
 
 
 __all__ = ["CountedJudgement", "Judgement", "WeighedJudgement", "judge", "judge_at_once",

@@ -13,7 +13,7 @@ from pertxogai.judging.freedoms import Freedoms, Whole, freedoms, new_distances
 from pertxogai.judging.jets import Steps, TooMany
 from pertxogai.judging.like_places import has_shape
 from pertxogai.judging.naming import Names
-from pertxogai.program.reports import CheckReport, Part
+from pertxogai.program.reports import Part
 
 
 class Tie(Enum):
@@ -62,17 +62,17 @@ class Missing:
     whole: Whole | None = None
 
 
-def missing(names: Names, check: CheckReport) -> Missing:
+def missing(names: Names, parts: tuple[Part, ...]) -> Missing:
     """What is missing: how much, by the rank of what the drawing says; and between which of the
     program's parts."""
     free = freedoms(names.drawing)
-    pieces = tuple(Piece(part.number, names.elements(part.elements)) for part in check.parts)
+    pieces = tuple(Piece(part.number, names.elements(part.elements)) for part in parts)
     shown = [place for place, piece in enumerate(pieces) if piece.elements]
-    joints = tuple(_joint(names, check.parts, pieces, shown, place) for place in shown[1:])
+    joints = tuple(_joint(names, parts, pieces, shown, place) for place in shown[1:])
     shown_pieces = tuple(pieces[place] for place in shown)
     if free is None:
         return Missing(0, shown_pieces, joints)
-    return Missing(free.lacks, shown_pieces, _lacking(names, check.parts, joints, free), free.whole)
+    return Missing(free.lacks, shown_pieces, _lacking(names, parts, joints, free), free.whole)
 
 
 def _lacking(names: Names, parts: Sequence[Part], joints: Sequence[Joint],

@@ -5,6 +5,7 @@ from __future__ import annotations
 from collections.abc import Iterator
 from dataclasses import dataclass
 
+from pertxogai.judging.finding import Finding
 from pertxogai.judging.good import GoodJudgement, good_of
 from pertxogai.judging.judged_drawing import CountedDrawing
 from pertxogai.judging.parts import parts_of_shapes
@@ -62,17 +63,17 @@ class DrawingSheet:
             return scene_of_designed(judged.drawing, None, judged.name, marking)
         if isinstance(found, GoodJudgement):
             return scene_of_designed(judged.drawing, found.solution, judged.name, Marking())
-        if judgement.verdict is Verdict.OPEN and judged.places() is not None:
-            return scene_of_designed(judged.drawing, judged.places(), judged.name, self._open())
+        finding, is_open = judged.finding, judgement.verdict is Verdict.OPEN
+        if is_open and finding is not None and finding.solution is not None:
+            marking = self._open(finding)
+            return scene_of_designed(judged.drawing, finding.solution, judged.name, marking)
         spare = frozenset(each.number for each in judgement.surplus)
         marking = Marking(parts_of_shapes(judgement), spare, tuple(self._legend()))
         return scene_of_designed(judged.drawing, None, judged.name, marking)
 
-    def _open(self) -> Marking:
+    def _open(self, finding: Finding) -> Marking:
         """The marking of a drawing that is open and has places: the pieces in their colours, what
         is free lighter, and where to each point still moves."""
-        finding = self.judged.finding
-        assert finding is not None
         moves = ((each.point, (each.dx, each.dy)) for each in finding.moves)
         return Marking(parts_of_shapes(self.judged.judgement), legend=tuple(self._legend()),
                        free=frozenset(finding.free_shapes(self.judged.drawing)),

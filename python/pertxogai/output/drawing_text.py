@@ -13,9 +13,10 @@ from pertxogai.judging.judged_drawing import CountedDrawing, JudgedDrawing
 from pertxogai.judging.measure import Deviation, Solution, Unit, amount_text
 from pertxogai.judging.measure.limit import units_text
 from pertxogai.judging.measure.upright import upright
+from pertxogai.judging.states import WithPlaces
 from pertxogai.output.finding_text import finding_json, finding_lines, freedoms_text
 from pertxogai.output.values_text import values_json, values_lines
-from pertxogai.program.reports import Part, Solved
+from pertxogai.program.reports import Part
 
 if TYPE_CHECKING:  # What isn't well, or isn't met, imports what is told of it alone.
     from pertxogai.judging.judgement import CountedJudgement, Judgement
@@ -119,10 +120,11 @@ def _other_choice(judgement: CountedJudgement) -> dict[str, object] | None:
 
 def within_json(judged: JudgedDrawing) -> dict[str, object]:
     """Within what it is placed, and the greatest deviations, in nm and ppb."""
-    solved = judged.judgement.asked.solved if judged.judgement.solution is not None else None
+    state = judged.judgement.state
+    placed = state if isinstance(state, WithPlaces) else None
     return {
-        "length_tolerance_nm": judged.judgement.length_tolerance_nm if solved else None,
-        "angle_tolerance_ppb": solved.angle_tolerance_ppb if isinstance(solved, Solved) else None,
+        "length_tolerance_nm": placed.length_nm if placed else None,
+        "angle_tolerance_ppb": placed.angle_ppb if placed else None,
         "deviations": [_deviation(each, judged.drawing) for each in judged.worst()],
     }
 
@@ -189,13 +191,11 @@ def _left_out_lines(judgement: Judgement) -> Iterator[str]:
 
 def _placed_lines(judged: JudgedDrawing) -> Iterator[str]:
     """Within what it is placed, and what is off most."""
-    solved = judged.judgement.asked.solved
-    if judged.judgement.solution is None or not isinstance(solved, Solved):
+    placed = judged.judgement.state
+    if not isinstance(placed, WithPlaces):
         return
-    tolerance_nm = judged.judgement.length_tolerance_nm
-    assert tolerance_nm is not None
-    yield (f"  placed within {units_text(tolerance_nm, Unit.NM)} and "
-           f"{units_text(solved.angle_tolerance_ppb, Unit.PPB)}")
+    yield (f"  placed within {units_text(placed.length_nm, Unit.NM)} and "
+           f"{units_text(placed.angle_ppb, Unit.PPB)}")
     off = [each for each in judged.worst() if each.amount]
     for each in off:
         yield f"  measured: at most {amount_text(each)} off, {each.called(judged.drawing)}"
