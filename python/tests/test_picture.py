@@ -4,6 +4,7 @@ from __future__ import annotations
 import math
 import re
 import xml.etree.ElementTree as ElementTree
+from fractions import Fraction
 
 import pytest
 
@@ -306,3 +307,32 @@ def test_a_sketch_without_places_says_why_below_it(program) -> None:
     assert any(it.startswith("as drawn, has no places: fault s1 build height C gap") for it in told)
     assert "of distance A C 9" in told and any(it.startswith("what to do:") for it in told)
     assert "of distance A C 9" not in texts_of(picture_of_judged(judged, as_drawn=True).svg)
+
+
+def test_a_picture_to_scale_is_as_long_on_paper_as_its_scale_says() -> None:
+    """A plate 120 mm wide at 1:2 is 60 mm wide on paper; SVG has 96 pixels to 25.4 mm."""
+    plate = read_drawing("segment Edge 0 0 120 0\nlength Edge 120\n")
+    drawn = picture_of_designed(plate, None, "plate", Marking()).to_scale(Fraction(1, 2))
+    root = ElementTree.fromstring(drawn.svg)
+    width, view = root.get("width", ""), root.get("viewBox", "").split()
+    assert width.endswith("mm")
+    assert float(width[:-2]) == pytest.approx(float(view[2]) / 96 * 25.4, abs=1e-3)
+    (edge,) = [it for it in root.iter(f"{SVG}line") if "edge" in (it.get("class") or "")]
+    pixels = float(edge.get("x2", 0)) - float(edge.get("x1", 0))
+    assert pixels / 96 * 25.4 == pytest.approx(60, abs=0.05)
+
+
+@pytest.mark.parametrize("width_mm, scale, length", [
+    # The page is the drawing and 44 pixels at each side; a third of it holds the bar.
+    (120, Fraction(1, 1), 20),    # (120 + 2 * 11.64) / 3 = 47.8: 20, since 50 is too long
+    (120, Fraction(1, 2), 50),    # (60 + 23.3) / 3 = 27.8 on paper, 55.5 drawn
+    (3, Fraction(100, 1), 1),     # (300 + 23.3) / 3 = 107.8 on paper, 1.08 drawn
+    (1000, Fraction(1, 10), 200)])  # (100 + 23.3) / 3 = 41.1 on paper, 411 drawn
+def test_the_bar_is_round_and_takes_at_most_a_third(
+        width_mm: float, scale: Fraction, length: float) -> None:
+    scene = Scene("edge", (Stroke((0.0, 0.0), (width_mm, 0.0), "", Ink()),), (), ())
+    svg = picture_of(scene).to_scale(scale).svg
+    assert texts_of(svg)[-1] == f"{length} mm, scale {scale.numerator}:{scale.denominator}"
+    (bar,) = [it for it in ElementTree.fromstring(svg).iter(f"{SVG}polyline")]
+    spots = [float(it.split(",")[0]) for it in (bar.get("points") or "").split()]
+    assert (max(spots) - min(spots)) / 96 * 25.4 == pytest.approx(length * float(scale), abs=0.01)

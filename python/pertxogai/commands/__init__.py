@@ -7,6 +7,7 @@ import io
 import os
 import sys
 from collections.abc import Callable, Sequence
+from fractions import Fraction
 from pathlib import Path
 from typing import TypeAlias
 
@@ -39,6 +40,7 @@ NEARLY = "tell the relations that a drawing nearly has, as level edges and equal
 NO_SEARCH = "leave out what is found by numbers of what isn't well"
 OUTPUT = "OUT.svg or OUT.dxf"
 RELEASE = "the version of DXF (default: %(default)s)"
+SCALE = "draw the SVG in mm to print: 1:1 is life-size, 1:2 half of it"
 SKETCH = "which sketch of a file that has several"
 SECONDS = "how long a call may take (default: %(default)g)"
 WITHIN = "what is met within N nm, or an angle within N ppb, holds (default: %(default)s)"
@@ -108,6 +110,7 @@ def _add_draw(commands: Commands) -> None:
     draw.add_argument("file", type=Path, metavar="FILE", help=FILE)
     draw.add_argument("-o", "--output", type=Path, required=True, metavar="OUT", help=OUTPUT)
     draw.add_argument("--as-drawn", action="store_true", help="as drawn, and not as placed")
+    draw.add_argument("--scale", type=_scale_of, metavar="N:M", help=SCALE)
     draw.add_argument("--sketch", metavar="NAME", help=SKETCH)
     releases = [it.value for it in Release]
     draw.add_argument("--release", choices=releases, default=releases[-1], help=RELEASE)
@@ -147,6 +150,17 @@ def _command(commands: Commands, name: str, what: str) -> argparse.ArgumentParse
     parser.add_argument("--seconds", type=float, default=60.0, help=SECONDS)
     parser.set_defaults(as_stored=False, nearly=False)
     return parser
+
+
+def _scale_of(word: str) -> Fraction:
+    """The scale of a picture: millimetres of paper for one of the drawing, from 1:1000 to 1000:1."""
+    parts = word.split(":")
+    if len(parts) != 2 or not all(it.isascii() and it.isdigit() and len(it) < 5 for it in parts):
+        raise argparse.ArgumentTypeError(f"{word!r} is no scale as 1:2")
+    paper, drawn = map(int, parts)
+    if not (0 < paper <= 1000 and 0 < drawn <= 1000):
+        raise argparse.ArgumentTypeError(f"{word!r}: a scale is from 1:1000 to 1000:1")
+    return Fraction(paper, drawn)
 
 
 def _limit(word: str) -> Limit:

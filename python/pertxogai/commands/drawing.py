@@ -2,6 +2,7 @@
 from __future__ import annotations
 
 import argparse
+from fractions import Fraction
 
 from pertxogai.commands.judging import chosen, outcome_of, program_of
 from pertxogai.exits import CommandError, Exit
@@ -20,10 +21,18 @@ def draw(options: argparse.Namespace) -> Exit:
         raise CommandError(f"{options.output}: the output's name ends in .svg or .dxf")
     found = chosen(read_inputs(options.file), options.sketch)
     sheet = outcome_of(found, program_of(options), options).sheet(options.as_drawn)
-    text = sheet.picture().svg if suffix == ".svg" else _dxf(sheet, Release(options.release))
+    if suffix == ".dxf" and options.scale:
+        raise CommandError("a DXF has millimetres, and no scale: --scale is for .svg")
+    text = _svg(sheet, options.scale) if suffix == ".svg" else _dxf(sheet, Release(options.release))
     with written_whole(options.output, options.file) as file:
         file.write(text.encode("utf-8", "replace"))
     return Exit.GOOD if sheet.is_good() else Exit.NOT_GOOD
+
+
+def _svg(sheet: Sheet, scale: Fraction | None) -> str:
+    """The sheet as SVG, to that scale where one is asked for."""
+    picture = sheet.picture()
+    return picture.to_scale(scale).svg if scale else picture.svg
 
 
 def _dxf(sheet: Sheet, release: Release) -> str:

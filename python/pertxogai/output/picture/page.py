@@ -12,6 +12,8 @@ from pertxogai.output.picture.plane import sweep
 MARGIN = 44.0
 WIDTH, HEIGHT, MOST = 560.0, 330.0, 8000.0
 ROOM = 2600.0
+PIXELS = 96 / 25.4
+"""The pixels of a millimetre of paper, as SVG has them."""
 
 
 @dataclass(frozen=True)
@@ -35,16 +37,28 @@ class Page:
     def fitted(scene: Scene) -> Page:
         """The page that holds a scene: larger the more there is to name, and no higher than it
         need be."""
-        spots = [
-            spot for mark in (*scene.marks, *scene.dimensions) for spot in _corners(mark)
-        ] or [(0.0, 0.0)]
-        low = min(x for x, _ in spots), min(y for _, y in spots)
-        high = max(x for x, _ in spots), max(y for _, y in spots)
-        wide, tall = max(high[0] - low[0], 1e-3), max(high[1] - low[1], 1e-3)
+        wide, tall, middle = _box(scene)
         scale = _scale(wide, tall, len(scene.marks) + len(scene.dimensions))
         width = max(WIDTH, float(round(wide * scale + 2 * MARGIN)))
-        height = float(round(tall * scale + 2 * MARGIN))
-        return Page(width, height, scale, ((low[0] + high[0]) / 2, (low[1] + high[1]) / 2))
+        return Page(width, float(round(tall * scale + 2 * MARGIN)), scale, middle)
+
+    @staticmethod
+    def to_scale(scene: Scene, paper: float) -> Page:
+        """The page that holds a scene on which a millimetre is `paper` millimetres long."""
+        (wide, tall, middle), scale = _box(scene), paper * PIXELS
+        width, height = (math.ceil(it * scale + 2 * MARGIN) for it in (wide, tall))
+        return Page(float(width), float(height), scale, middle)
+
+
+def _box(scene: Scene) -> tuple[float, float, PointMm]:
+    """How wide and tall a scene is, in mm, and its middle."""
+    spots = [
+        spot for mark in (*scene.marks, *scene.dimensions) for spot in _corners(mark)
+    ] or [(0.0, 0.0)]
+    low = min(x for x, _ in spots), min(y for _, y in spots)
+    high = max(x for x, _ in spots), max(y for _, y in spots)
+    middle = (low[0] + high[0]) / 2, (low[1] + high[1]) / 2
+    return max(high[0] - low[0], 1e-3), max(high[1] - low[1], 1e-3), middle
 
 
 def _scale(wide: float, tall: float, count: int) -> float:

@@ -3,20 +3,23 @@ from __future__ import annotations
 
 import math
 from collections.abc import Iterator
-from dataclasses import dataclass
+from dataclasses import dataclass, field
+from fractions import Fraction
 from html import escape
 from pathlib import Path
 from textwrap import wrap
 
 from pertxogai.output.picture.marks import (
     Arrow, Bow, Dot, Ink, LengthBar, Manner, PointMm, Ring, Scene, Square, Tag)
-from pertxogai.output.picture.page import Figure, Page
+from pertxogai.output.picture.page import PIXELS, Figure, Page
 from pertxogai.output.picture.plane import sweep
 from pertxogai.output.picture.texts import Text, Texts
 
 COLOURS = ("#1d3b5a", "#a8410b", "#1a7048", "#7a2a8c", "#8a6a00", "#0b6a8a", "#a01f4b", "#4d4d4d")
 SPARE_COLOUR = "#c01a1a"
 LEGEND_LINE = 20
+SCALE_ROOM = 30
+"""The room of the bar that tells the scale, in pixels."""
 LEGEND_LETTER = 7.2
 STYLE = """
     .back { fill: #ffffff }
@@ -42,9 +45,10 @@ ARROW, BARB = 22, 5
 
 @dataclass(frozen=True)
 class Picture:
-    """A picture as SVG. Notebooks show it."""
+    """A picture of a scene as SVG. Notebooks show it."""
 
     svg: str
+    scene: Scene = field(repr=False, compare=False)
 
     def _repr_svg_(self) -> str:
         return self.svg
@@ -53,17 +57,23 @@ class Picture:
         """Writes it to a file. Raises OSError."""
         Path(path).write_text(self.svg, encoding="utf-8")
 
+    def to_scale(self, paper: Fraction) -> Picture:
+        """The same to be printed: a millimetre of the drawing is `paper` millimetres long, and a
+        bar tells how long it is."""
+        return Picture("\n".join([*_Drawer(self.scene, paper).lines(), ""]), self.scene)
+
 
 def picture_of(scene: Scene) -> Picture:
     """The picture of a scene."""
-    return Picture("\n".join([*_Drawer(scene).lines(), ""]))
+    return Picture("\n".join([*_Drawer(scene).lines(), ""]), scene)
 
 
 class _Drawer:
     """A scene on its page."""
 
-    def __init__(self, scene: Scene) -> None:
-        self.scene, self.page = scene, Page.fitted(scene)
+    def __init__(self, scene: Scene, paper: Fraction | None = None) -> None:
+        self.scene, self.paper = scene, paper
+        self.page = Page.fitted(scene) if paper is None else Page.to_scale(scene, float(paper))
         self.figures = [Figure.of(mark, self.page) for mark in scene.marks]
         self.legend = [
             (row, ink)
@@ -81,18 +91,21 @@ class _Drawer:
     def lines(self) -> Iterator[str]:
         """The lines of the SVG."""
         wide, tall = self.page.width, self.page.height + LEGEND_LINE * len(self.legend)
-        size = f'width="{wide:g}" height="{tall:g}" viewBox="0 0 {wide:g} {tall:g}"'
-        yield f'<svg xmlns="http://www.w3.org/2000/svg" {size}>'
+        bar = ScaleBar.of(self.page, self.paper, tall) if self.paper else None
+        tall += SCALE_ROOM if bar else 0
+        yield f'<svg xmlns="http://www.w3.org/2000/svg" {_size(wide, tall, bar is not None)}>'
         yield f"  <title>{escape(self.scene.title)}</title>"
         yield f"  <style>{STYLE}{self._free_style()}{''.join(self._part_styles())}  </style>"
         yield f'  <rect class="back" width="{wide:g}" height="{tall:g}"/>'
-        for start, end, bar in self.bars:
-            yield f"  <line {_class(bar.ink)} {_ends(start, end)}/>"
+        for start, end, length in self.bars:
+            yield f"  <line {_class(length.ink)} {_ends(start, end)}/>"
         yield from self._squares()
         yield from map(_svg_of, self.figures)
         yield from self._arrows()
         yield from map(_written, self._texts())
         yield from self._legend()
+        if bar:
+            yield from bar.lines()
         yield "</svg>"
 
     def _free_style(self) -> str:
@@ -144,6 +157,41 @@ class _Drawer:
             x, y = 14 if words == words.lstrip() else 28, self.page.height + LEGEND_LINE * row + 6
             place = f'x="{x}" y="{y:.1f}"'
             yield f'  <text class="legend" {_fill(ink)} {place}>{escape(words.strip())}</text>'
+
+
+def _size(wide: float, tall: float, is_to_scale: bool) -> str:
+    """The size of a picture in pixels; to scale, in millimetres of paper."""
+    if not is_to_scale:
+        return f'width="{wide:g}" height="{tall:g}" viewBox="0 0 {wide:g} {tall:g}"'
+    size = f'width="{wide / PIXELS:.4f}mm" height="{tall / PIXELS:.4f}mm"'
+    return f'{size} viewBox="0 0 {wide:g} {tall:g}"'
+
+
+@dataclass(frozen=True)
+class ScaleBar:
+    """A bar of a round length (mm of the drawing), `pixels` long, at the foot of a page, and what
+    is said of it."""
+
+    pixels: float
+    y: float
+    text: str
+
+    @staticmethod
+    def of(page: Page, paper: Fraction, y: float) -> ScaleBar:
+        """The longest of 1, 2, 5, 10, .. mm that takes at most a third of the page's width."""
+        most = page.width / 3 / page.scale
+        power = 10.0 ** math.floor(math.log10(most))
+        length = max(it * power for it in (1, 2, 5) if it * power <= most)
+        scale = f"{paper.numerator}:{paper.denominator}"
+        return ScaleBar(length * page.scale, y + SCALE_ROOM / 2, f"{length:g} mm, scale {scale}")
+
+    def lines(self) -> Iterator[str]:
+        """The lines of the SVG: the bar with a tick at each end, and its text."""
+        left, right, y = 14.0, 14.0 + self.pixels, self.y
+        points = f"{left:.3f},{y - 5} {left:.3f},{y} {right:.3f},{y} {right:.3f},{y - 5}"
+        yield f'  <polyline class="bar" points="{points}"/>'
+        place = f'x="{right + 8:.1f}" y="{y + 4:.1f}"'
+        yield f'  <text class="legend" fill="#5a6673" {place}>{self.text}</text>'
 
 
 def _arrow(at: PointMm, way: PointMm) -> list[PointMm]:
