@@ -195,6 +195,17 @@ def test_points_that_are_told_twice_to_be_one_repeat():
     assert found.repeats == (("Twice",),)
 
 
+@pytest.mark.parametrize("told, is_repeat", [
+    ("40", True), ("40.0000008", True), ("40.0000014", False)])
+def test_what_is_off_by_a_nanometre_at_most_repeats_and_does_not_contradict(told, is_repeat):
+    found = found_of("segment A Origin 40 0\non A.end XAxis\nOnce: length A 40\n"
+                     f"Twice: length A {told}\n")
+    group = (("Twice", "Once"),)
+    assert found.repeats == (group if is_repeat else ())
+    assert found.contradictions == (() if is_repeat else group)
+    assert (found.solution is None) is not is_repeat
+
+
 def test_a_line_that_goes_on_another_from_their_corner_is_no_repeat():
     # A is 40 long from the origin, level; B goes on from its end, 20 long. Nothing is free.
     text = ("segment A 0 0 40 0\nsegment B A.end 60 1\ncoincident A.start Origin\n"

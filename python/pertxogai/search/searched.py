@@ -15,7 +15,7 @@ from pertxogai.program.reports import Verdict
 from pertxogai.search.budget import MOST_SECONDS, Budget
 from pertxogai.search.constructing import construct
 from pertxogai.search.contradictions import Numbers, contradictions, has_shrunk, without
-from pertxogai.search.dependencies import Dependency
+from pertxogai.search.dependencies import REPEATS_NM, Dependency
 from pertxogai.search.equations import Equations
 from pertxogai.search.freedom import Freedom, freedom
 from pertxogai.search.rounding import solution_of
@@ -44,9 +44,16 @@ class Searched:
         """The freedoms where it was found."""
         return freedom(self.equations, self.found.x)
 
+    def is_met(self) -> bool:
+        """Whether all words are met where it was found, but for what is off by so little that it
+        repeats the others all the same."""
+        return self.found.is_solved() or (
+            self.found.end.worst_nm <= REPEATS_NM
+            and all(each.repeats() for each in self.freedom.dependencies))
+
     def finding(self) -> Finding:
         """All of it by the names of the drawing."""
-        if not self.found.is_solved():
+        if not self.is_met():
             return self._unsolved()
         motions = self.freedom.motions
         solution = solution_of(self.equations.unknowns, self.found.x)
