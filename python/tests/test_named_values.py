@@ -2,6 +2,7 @@
 and how they are refused."""
 from __future__ import annotations
 
+import re
 from dataclasses import replace
 from fractions import Fraction
 
@@ -312,6 +313,22 @@ def test_brackets_and_signs_have_a_limit():
     deep = "(" * 21 + "3" + ")" * 21
     assert "more than 20 brackets" in refusal(f"value A {deep}{SHAPES}")
     assert "more than 20 brackets" in refusal(f"value A {'-' * 22}3{SHAPES}")
+
+
+@pytest.mark.parametrize(("words", "um", "sense", "said"), [
+    ("Left", -5000, Sense.SIGNED, "'Left' has no sign in front, and the constraint's value tells"),
+    ("-Left", 5000, Sense.DRAWN, "'-Left' has a sign in front, and the constraint takes its side"),
+    ("+Left", -5000, Sense.SIGNED, None), ("-Left", 5000, Sense.SIGNED, None)])
+def test_the_sign_of_an_expression_is_that_of_the_constraint(words, um, sense, said):
+    drawing = read_drawing("value Left -5\npoint P -5 0\nx P +Left\n")
+    across, = drawing.constraints
+    other = replace(drawing, constraints=(
+        replace(across, value_um=Fraction(um), sense=sense, expression=read_expression(words)),))
+    if said is None:
+        assert read_drawing(write_drawing(checked(other))).constraints == other.constraints
+        return
+    with pytest.raises(DrawingUnsound, match=re.escape(said)):
+        checked(other)
 
 
 def test_a_drawing_made_otherwise_is_checked():

@@ -32,7 +32,8 @@ def check_constraint(scene: NamedShapes, constraint: Constraint) -> None:
 
 
 def check_expression(scene: NamedShapes, constraint: Constraint) -> None:
-    """Raises WordFault where the value of a constraint isn't what its expression comes to."""
+    """Raises WordFault where the value of a constraint isn't what its expression comes to, or
+    is read with another sense."""
     if not isinstance(constraint, VALUED) or constraint.expression is None:
         return
     found: Fraction | Degrees
@@ -44,6 +45,18 @@ def check_expression(scene: NamedShapes, constraint: Constraint) -> None:
     if found != told:
         raise WordFault(constraint.expression.text, "comes to another value than the constraint's: "
                         "take the expression away, or reckon it anew")
+    if isinstance(constraint, (XDistance, YDistance, AngleBetween)):
+        _check_sign(constraint.expression, constraint.sense)
+
+
+def _check_sign(expression: Expression, sense: Sense) -> None:
+    """Raises WordFault where an expression is read with another sense than a constraint has."""
+    if expression.has_sign and sense is Sense.DRAWN:
+        raise WordFault(expression.text, "has a sign in front, and the constraint takes its side "
+                        "from the drawing: take the sign away")
+    if not expression.has_sign and sense is Sense.SIGNED:
+        raise WordFault(expression.text, "has no sign in front, and the constraint's value tells "
+                        "its side: write one in front")
 
 
 def _of_expression(constraint: Valued, expression: Expression, fault: WordFault) -> WordFault:
