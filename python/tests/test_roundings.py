@@ -122,22 +122,45 @@ def test_what_is_off_by_more_than_a_thousandth_of_the_drawing_is_no_rounding():
 
 @pytest.mark.parametrize("amount, rounding, repeats, may_be_rounding", [
     (900, 0, True, False), (1000, 0, True, False), (1001, 0, False, False),
-    (1400, 399, False, False), (1400, 400, None, True), (1400, 9000, None, True)])
-def test_what_is_off_by_no_more_than_rounding_is_no_contradiction(
+    (1400, 399, False, False), (1400, 400, None, True), (1400, 9000, None, True),
+    # Within the limit, and as far as 1,000, 1,001 and more.
+    (900, 100, True, False), (900, 101, None, True), (0, 9000, None, True)])
+def test_what_rounding_moves_past_the_limit_is_neither_a_repeat_nor_a_contradiction(
         amount, rounding, repeats, may_be_rounding):
     surplus = Surplus(3, "it", deviation(amount), limit=Limit(1000), rounding=rounding)
     assert (surplus.repeats(), surplus.may_be_rounding()) == (repeats, may_be_rounding)
 
 
-def test_what_hangs_on_an_angle_that_is_no_ratio_is_rounded(program: Program) -> None:
-    """20,000 times the cosine of 88 degrees is 697.989934. The angle is told by 315/11, of which
+def test_what_hangs_on_an_angle_that_is_no_ratio_is_measured_finely(program: Program) -> None:
+    """20,000 times the cosine of 88 degrees is 697.98993405. The angle is told by 315/11, of which
     the cosine is 11 over the root of 99,346; that is 0.000000134 less, so 2.68 um less across."""
     judged = judge(read_drawing(LEANING.format("697.989934")), program)
     found = {each.name: each for each in judged.surplus}
     across = found["Across"]
-    assert across.off is not None and 2_660 <= across.off.amount <= 2_710
-    assert across.may_be_rounding() and across.repeats() is None
+    assert across.off is not None and across.off.amount <= 20 and across.repeats() is True
     assert found["Angle"].repeats() is found["Same"].repeats() is True
+
+
+def test_what_a_length_moves_past_the_limit_is_rounded(program: Program) -> None:
+    """The sketch is ten times as large, and 697.9899340 mm is told by 697.9899. By 34 nm less
+    across the edge is 34 over the cosine of 88 degrees shorter, 974 nm; 100 nm move it by 2,865."""
+    judged = judge(read_drawing(LEANING.format("697.989934")), program)
+    long, = [each for each in judged.surplus if each.name == "Long"]
+    assert long.off is not None and abs(long.off.amount - 974) < 20
+    assert abs(long.rounding - 2865) < 20
+    assert long.may_be_rounding() and long.repeats() is None
+
+
+def test_what_a_near_ratio_hides_contradicts(program: Program) -> None:
+    """20,000 times the cosine that 315/11 has is 697.987248, by which all would hold: across it is
+    2.684 um less than the exact angle gives. The edge is off by 76.9 um then, and the angle by
+    134 nm at the end of its metre."""
+    judged = judge(read_drawing(LEANING.format("697.98725")), program, limit=Limit(100))
+    found = {each.name: each for each in judged.surplus}
+    for name, nm in (("Across", 2684), ("Long", 76_907), ("Angle", 134)):
+        off = found[name].off
+        assert off is not None and abs(off.amount - nm) <= 20, name
+        assert found[name].repeats() is False
 
 
 def test_what_is_off_by_more_than_rounding_contradicts(program: Program) -> None:
@@ -159,12 +182,12 @@ def test_an_edge_that_takes_no_part_hides_no_contradiction(program: Program) -> 
     assert found["Across"].repeats() is found["Long"].repeats() is False
 
 
-@pytest.mark.parametrize("value, repeats", [("697.989934", None), ("698.02", False)])
+@pytest.mark.parametrize("value, repeats", [("697.989934", True), ("698.02", False)])
 @pytest.mark.parametrize("is_before", [False, True])
 def test_angles_that_take_no_part_change_nothing(
-        program: Program, value: str, repeats: bool | None, is_before: bool) -> None:
-    """Twenty edges from the origin beside it: 0.030 mm too much contradicts, and what follows is
-    rounded."""
+        program: Program, value: str, repeats: bool, is_before: bool) -> None:
+    """Twenty edges from the origin beside it: 0.030 mm too much contradicts, and what follows
+    repeats."""
     loose = "".join(f"segment B{i} Origin {10 * i} 5\nlength B{i} {10 * i + 10}\n"
                     f"angle XAxis B{i} {2 * i + 3}deg\n" for i in range(1, 21))
     text = LEANING.format(value)

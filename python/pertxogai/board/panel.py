@@ -221,10 +221,10 @@ def alone_of(judgement: Judgement, listed: Sequence[Excess]) -> Surplus | None:
 
 
 def rounded_of(judgement: Judgement, left: Excess) -> Surplus | None:
-    """A dimension that is left out as one that may go by itself, where it may be off by rounding
-    alone."""
-    return next((each for each in judgement.surplus
-                 if each.number == left.number and each.may_be_rounding()), None)
+    """A dimension that is left out as one that may go by itself, where rounding may be all by
+    which it is off, or is: the program is told a near ratio of an angle."""
+    return next((each for each in judgement.surplus if each.number == left.number
+                 and (each.may_be_rounding() or left.conflicts and each.repeats())), None)
 
 
 def excess_told(each: Excess, alone: Surplus | None = None) -> str:
@@ -237,7 +237,7 @@ def excess_told(each: Excess, alone: Surplus | None = None) -> str:
 def _excess(each: Excess, alone: Surplus | None) -> str:
     if each.conflicts is None:
         return "left out; not measured"
-    if each.conflicts and alone is not None and alone.may_be_rounding():
+    if alone is not None and alone.off is not None and alone.repeats() is not (not each.conflicts):
         return _surplus(alone)
     if not each.conflicts:
         return _repeat(each.off_um or Fraction(0))

@@ -21,7 +21,8 @@ from pertxogai.judging.remembering import Remembering
 from pertxogai.judging.roundings import (
     most_by_rounding, moved_by_rounding, rounded_lines)
 from pertxogai.judging.settled import solution_of
-from pertxogai.judging.trials import Question, Trial, first_good, told_by, written_by
+from pertxogai.judging.trials import (
+    Question, Trial, finer, first_good, told_by, written_by)
 from pertxogai.program import Answer, Solver
 from pertxogai.program.reports import Solved, Verdict, read_spare
 from pertxogai.spelling import Axes, Spelled, axes_said
@@ -51,9 +52,8 @@ class Then(Enum):
 class Surplus:
     """A dimension that may go, what the rest is then, and how far the dimension is off where the
     rest is placed: a repeat where `amount` is within the limit. off: None where the rest has no
-    places, or says less than with it. then: None where it wasn't tried. rounding: of what is off by
-    more than the limit, by how much that moves with the values of the rest that had to be rounded,
-    in the same unit."""
+    places, or says less than with it. then: None where it wasn't tried. rounding: by how much `off`
+    moves with the values of the rest that had to be rounded, in the same unit."""
 
     number: int
     name: str
@@ -72,10 +72,12 @@ class Surplus:
         return self.off.amount <= self.limit.amount
 
     def may_be_rounding(self) -> bool:
-        """Whether it is off by more than the limit, and that by no more than rounded values move
-        it, so that it may repeat the others all the same."""
-        return (self.off is not None
-                and self.limit.amount < self.off.amount <= self.limit.amount + self.rounding)
+        """Whether rounded values move it past the limit, so that it isn't known whether it repeats
+        the others."""
+        if self.off is None:
+            return False
+        least, most = self.off.amount - self.rounding, self.off.amount + self.rounding
+        return least <= self.limit.amount < most
 
 
 def what_may_go(question: Question, asked: Trial) -> tuple[Surplus, ...]:
@@ -244,19 +246,35 @@ class _Trials:
         return worst(measure(self.drawing, places), number)
 
     def _with_rounding(self, tried: Surplus, gone: frozenset[int]) -> Surplus:
-        """The same, and of what is off by more than the limit, but no more than rounding is looked
-        at for, by how much rounded values move that."""
-        off = tried.off
-        if off is None or not self.limit.amount < off.amount <= most_by_rounding(self.drawing, off):
+        """The same, of what is off by no more than rounding is looked at for, where the angles of
+        the rest are told as finely as can be; and by how much its other rounded values move
+        that."""
+        if tried.off is None or tried.off.amount > most_by_rounding(self.drawing, tried.off):
             return tried
-        asked = self._without(gone)
+        asked, off = self._measured_finely(tried.number, tried.off, gone)
         lines = self._rounded_lines(asked.spelled, gone)
-        self._rounding_work -= 2 * len(lines) * len(self.drawing.constraints)
-        if self._rounding_work < 0:
-            raise _Enough
-        return replace(tried, rounding=moved_by_rounding(
+        self._spend_on_rounding(2 * len(lines))
+        return replace(tried, off=off, rounding=moved_by_rounding(
             asked.spelled, lines, off, lambda spelled: self._off(
                 tried.number, gone, told_by(asked, spelled, self.program))))
+
+    def _measured_finely(self, number: int, off: Deviation,
+                         gone: frozenset[int]) -> tuple[Trial, Deviation]:
+        """What the program says of a rest with its angles told as finely as can be, and how far a
+        constraint is off there; as it was measured, where none of them takes part."""
+        asked = self._without(gone)
+        if set(asked.spelled.near).isdisjoint(self._rounded_lines(asked.spelled, gone)):
+            return asked, off
+        self._spend_on_rounding(1)
+        fine = finer(Question(without(self.drawing, gone), self.program, self.limit), asked)
+        there = self._off(number, gone, fine)
+        return (asked, off) if there is None else (fine, there)
+
+    def _spend_on_rounding(self, rests: int) -> None:
+        """Counts so many rests that are asked for. Raises _Enough."""
+        self._rounding_work -= rests * len(self.drawing.constraints)
+        if self._rounding_work < 0:
+            raise _Enough
 
     def _rounded_lines(self, spelled: Spelled, gone: frozenset[int]) -> list[int]:
         """The lines of a rest of which the value was rounded, and of whose words one by rank takes

@@ -529,15 +529,17 @@ def test_what_is_well_and_says_too_much_does_not_say_that_it_is_just_enough(prog
     assert more in lines and not any(str(each).startswith("Just") for each in lines)
 
 
-def test_what_may_be_rounding_is_no_contradiction_beside_others(program: Program) -> None:
-    """The cosine of 88 degrees, told by 315/11, is off by 0.000000134, which is 2.68 um of 20 m."""
+def test_what_a_near_ratio_makes_too_much_is_no_contradiction_beside_others(program: Program) -> None:
+    """The cosine of 88 degrees, told by 315/11, is off by 0.000000134, which is 2.68 um of 20 m. Finely
+    told it follows; how long the edge is isn't known, by 34 nm across that have to be rounded."""
     drawing = read_drawing(
         "segment S -100 0 -65 999\nsegment A 0 0 698 19988\non S.start XAxis\nx S.start -100\n"
         "length S 1000\nangle S 88deg\ncoincident A.start Origin\nparallel S A\n"
-        "length A 20000\nAcross: x A.end 697.989934\n")
-    across, = [each for each in judge(drawing, program).surplus if each.name == "Across"]
-    left = Excess(across.number, "Across", True, Fraction(3))
-    assert "contradiction" in excess_told(left)
-    rounded = rounded_of(judge(drawing, program), left)
-    assert excess_told(left, rounded).startswith("off by 0.0026")
-    assert "; rounding moves it by 0.00" in excess_told(left, rounded)
+        "Long: length A 20000\nAcross: x A.end 697.989934\n")
+    judged = judge(drawing, program)
+    across, long = (Excess(each.number, each.name, True, Fraction(3)) for name in ("Across", "Long")
+                    for each in judged.surplus if each.name == name)
+    assert "contradiction" in excess_told(across)
+    assert excess_told(across, rounded_of(judged, across)).startswith("a repeat")
+    assert excess_told(long, rounded_of(judged, long)).startswith("off by 0.0009")
+    assert "; rounding moves it by 0.00" in excess_told(long, rounded_of(judged, long))

@@ -47,10 +47,9 @@ export interface Line {
 
 /**
  * A dimension that may go, as JSON. off, unit: how far it is off without it; rest: what the
- * others are then; null where that isn't known. rounding: by how much what is off by more than the
- * limit moves with values that had to be rounded, in the same unit. follows_from: the names of the
- * others that it repeats or contradicts, by the program's `why`, of those that by rank take
- * part.
+ * others are then; null where that isn't known. rounding: by how much `off` moves with values that
+ * had to be rounded, in the same unit. follows_from: the names of the others that it repeats or
+ * contradicts, by the program's `why`, of those that by rank take part.
  */
 export interface SpareJson {
   number: number;
