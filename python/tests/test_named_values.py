@@ -331,6 +331,15 @@ def test_the_sign_of_an_expression_is_that_of_the_constraint(words, um, sense, s
         checked(other)
 
 
+def test_a_length_is_not_told_as_the_limit_that_it_misses():
+    # 1 mm less 0.999000001 mm is 999.999 nm.
+    below = refusal(f"value Scale -999000.001{SHAPES}length S 1mm + Scale/1000000")
+    assert "comes to 0.000999 mm, and that is a length below a micrometre" in below
+    # A thousandth of a nanometre too much.
+    above = refusal(f"value Long 1000000{SHAPES}length S Long + 0.000000001")
+    assert "comes to 1000000.000001 mm" in above
+
+
 def test_a_drawing_made_otherwise_is_checked():
     drawing = read_drawing(TEXT)
     half, = drawing.constraints

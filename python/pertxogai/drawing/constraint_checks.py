@@ -19,6 +19,7 @@ from pertxogai.drawing.numbers import (
 from pertxogai.drawing.references import DATUM_NAMES, Pair, PointRef, ShapeRef, Which
 from pertxogai.drawing.refusal import WordFault
 from pertxogai.drawing.values.expression import Expression
+from pertxogai.exact import whole_up
 
 
 def check_constraint(scene: NamedShapes, constraint: Constraint) -> None:
@@ -65,11 +66,17 @@ def _of_expression(constraint: Valued, expression: Expression, fault: WordFault)
         word = text = angle_text(constraint.value, constraint.sense is Sense.SIGNED)
     else:
         word = mm_text(constraint.value_um)
-        text = f"{mm_text(Fraction(round(constraint.value_um * 1000), 1000))} mm"
+        text = f"{mm_text(Fraction(_whole_nm(constraint.value_um), 1000))} mm"
     if fault.word != word:
         return fault
     what = fault.what.partition(":")[0]
     return WordFault(expression.text, f"comes to {text}, and that {what}: change a value in it")
+
+
+def _whole_nm(value_um: Fraction) -> int:
+    """A length as it is told, in nanometres: never rounded to a limit that it misses."""
+    nm = value_um * 1000
+    return int(nm) if abs(value_um) < 1 else whole_up(abs(nm)) * (1 if nm > 0 else -1)
 
 
 def _check(scene: NamedShapes, constraint: Constraint) -> None:
