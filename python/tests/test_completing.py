@@ -151,7 +151,10 @@ def test_a_third_of_the_dimensions_taken_away_comes_back_to_well(path, program):
     (PLATE + "length PlateBottom 80\nlength PlateRight 50\n", WhyNot.NOTHING),
     (PLATE + "length PlateBottom 80\nlength PlateTop 80\n", WhyNot.OVER),
     ("segment A 0 0 10 0\nsegment B A.end 15 8\nsegment C B.end A.start\n"
-     "length A 10\nlength B 10\nlength C 30\n", WhyNot.NO_PLACES)])
+     "length A 10\nlength B 10\nlength C 30\n", WhyNot.NO_PLACES),
+    # 400 loose circles have 1,200 freedoms, which are met as they are drawn.
+    ("".join(f"circle C{n} {n % 20 * 9} {n // 20 * 9} 2\n" for n in range(400)),
+     WhyNot.TOO_MUCH)])
 def test_why_nothing_is_proposed(text, why, program):
     found = complete(read_drawing(text), program)
     assert isinstance(found, NoProposal) and found.why is why

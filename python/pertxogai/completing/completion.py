@@ -19,6 +19,7 @@ from pertxogai.judging.measure import Limit
 from pertxogai.program import Solver
 from pertxogai.program.reports import Verdict
 
+from pertxogai.search.searched import searched
 ROUNDS = 6
 """The most dimensions that are given up for others since they leave their values no room."""
 
@@ -27,7 +28,7 @@ def completion_of(drawing: Drawing, program: Solver, limit: Limit) -> Completion
     """What completes a sound drawing. Raises ProgramError, DrawingRefused, Refusal, NotHeld."""
     trials = Trials(program, limit)
     state, slack = State.of(first_good(Question(drawing, program, limit))), Slack.of(drawing)
-    why = _why_not(state, slack)
+    why = _why_not(drawing, state, slack)
     if why is None:
         assert slack is not None
         found = _first_tied(_completion(drawing, choice, trials)
@@ -50,12 +51,13 @@ def _first_tied(found: Iterable[Completion | None]) -> Completion | None:
     return best
 
 
-def _why_not(state: State, slack: Slack | None) -> WhyNot | None:
+def _why_not(drawing: Drawing, state: State, slack: Slack | None) -> WhyNot | None:
     """Why nothing is to be proposed; None where something is free."""
     if state.verdict is Verdict.OVER:
         return WhyNot.OVER
     if slack is None:
-        return WhyNot.NO_PLACES
+        is_placed = searched(drawing).found.is_solved()
+        return WhyNot.TOO_MUCH if is_placed else WhyNot.NO_PLACES
     if slack.ways.shape[1]:
         return None
     return WhyNot.NOTHING if state.verdict is Verdict.WELL else WhyNot.RIGID

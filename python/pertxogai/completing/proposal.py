@@ -52,6 +52,7 @@ class WhyNot(Enum):
     NOTHING = "nothing is missing"
     OVER = "it is over-constrained: take away what may go first, as ./pertxogai judge tells"
     NO_PLACES = "no places are found that meet all of it"
+    TOO_MUCH = "too much of it is free: dimension a part of it first"
     RIGID = "nothing of it is free (by numbers), though the program doesn't find it rigid"
     STUCK = "no dimensions are found with which it is well, placed and good"
 
