@@ -35,6 +35,9 @@ DIMENSIONS = (Length, Distance, XDistance, YDistance, PointLineDistance, Radius,
 
 PLATE = "rectangle Plate 0 0 80 50\ncoincident PlateBottom.start Origin\n"
 LOOSE = "segment A 0 0 40 0.3\nsegment B A.end 40.2 30\n"
+WALL = "segment W 0 -20 100 -20\nfixed W\n"
+CRANK = "segment A 0 0 30 40\nlength A 50\n"
+SECOND = "segment B A.end 70 70\nlength B 50\n"
 
 
 # -- values
@@ -93,6 +96,18 @@ def test_relations_that_are_nearly_so(text, lines):
     # An edge of a given length that leans by 30 degrees: its direction, and the place of an end.
     ("segment A 2 1 19.32 11\nlength A 20\n", [],
      ["angle A +30deg", "x A.start 2", "y A.start 1"]),
+    # A crank of 50 about the origin: 40 high over 30, so it rises by 53.13 degrees.
+    (WALL + CRANK + "coincident A.start Origin\n", ["angle A +53.13deg"], []),
+    # Behind it a second one: its way is 30 high over 40, 36.87 degrees, 16.26 less.
+    (WALL + CRANK + SECOND + "coincident A.start Origin\n",
+     ["angle A +53.13deg", "angle A B 163.74deg"], []),
+    # Where nothing is tied, the corner of both, and apart the turn of the whole.
+    (CRANK + SECOND, ["angle A B 163.74deg"], ["angle A +53.13deg", "coincident A.start Origin"]),
+    # A door on the wall: its angle with that, and not with the x axis.
+    (WALL + "segment D W.start 60 60\nlength D 100\n", ["angle W D 53.13deg"], []),
+    # A bar beside the wall: the place of an end, and then its angle.
+    (WALL + "segment D 10 10 40 50\nlength D 50\n",
+     ["x D.start 10", "y D.start 10", "angle D +53.13deg"], []),
 ])
 def test_what_a_designer_would_give(text, own, datum):
     slack = Slack.of(read_drawing(text))

@@ -13,6 +13,7 @@ from pertxogai.completing.dimensions import (
 from pertxogai.completing.figure import Figure
 from pertxogai.completing.relations import NEAR_DEGREES, Relation, levels, relations
 from pertxogai.completing.slack import Demand, Slack, Remaining
+from pertxogai.completing.turns import Asked, Turns
 from pertxogai.drawing import (
     ORIGIN, Constraint, Drawing, Horizontal, PointRef, ShapeRef, Vertical)
 from pertxogai.drawing.mentions import refs_of
@@ -62,11 +63,13 @@ class Relate(Enum):
 
 @dataclass(frozen=True)
 class Taste:
-    """How to choose. order: of the kinds of dimensions. relate: which relations are taken. refused:
-    what isn't taken, whatever its value."""
+    """How to choose. order: of the kinds of dimensions. relate: which relations are taken. angles:
+    whether an edge of a given length that turns about an end is told by its angle. refused: what
+    isn't taken, whatever its value."""
 
     order: Sequence[Kind]
     relate: Relate = Relate.ALL
+    angles: bool = False
     refused: frozenset[Subject] = frozenset()
 
     def allows(self, constraint: Constraint) -> bool:
@@ -78,7 +81,8 @@ class Taste:
         return replace(self, refused=self.refused | {subject_of(constraint)})
 
 
-TASTES = (Taste(ORDERS[0]), *(Taste(order, Relate.LEVEL) for order in ORDERS),
+TASTES = (Taste(ORDERS[0], angles=True), Taste(ORDERS[0], Relate.LEVEL, angles=True),
+          *(Taste(order, Relate.LEVEL) for order in ORDERS[1:]),
           *(Taste(order, Relate.NONE) for order in ORDERS[:2]), Taste(ORDERS[0], Relate.ROUGH))
 """How it is chosen, one after the other."""
 
@@ -93,21 +97,46 @@ def with_more(drawing: Drawing, more: Iterable[Constraint]) -> Drawing:
     return replace(drawing, constraints=(*drawing.constraints, *more))
 
 
+class Left:
+    """What of a drawing's slack is left while some of it is taken."""
+
+    def __init__(self, remaining: Remaining) -> None:
+        self.remaining = remaining
+        self._asked: Remaining | None = None
+
+    def take(self, demand: Demand, firmness: float = 0.0) -> bool:
+        """Takes what a constraint fixes, where that is free and it fixes such a part of what moves
+        there; whether it did."""
+        more = self.remaining.after(demand, firmness)
+        self.remaining = more or self.remaining
+        return more is not None
+
+    def is_nothing(self) -> bool:
+        """Whether only the whole may still be moved."""
+        return self.remaining.count() == self.remaining.of_the_whole()
+
+    def changed(self) -> Remaining | None:
+        """What remains, where something was taken since this was last asked."""
+        if self.remaining is self._asked:
+            return None
+        self._asked = self.remaining
+        return self.remaining
+
+
 def choose(slack: Slack, taste: Taste) -> Choice | None:
     """What is to be added to a drawing by that taste; None where it leaves something free."""
     related = with_relations(slack, taste)
     own = [*related.drawing.constraints[len(slack.drawing.constraints):], *related.parallel]
-    remaining = Remaining.all(related)
+    left = Left(Remaining.all(related))
     for firmness in FIRMNESS:
-        for each, demand in candidates(related, taste):
-            if remaining.count() == remaining.of_the_whole():
+        for each, demand in candidates(related, taste, left):
+            if left.is_nothing():
                 break
-            more = remaining.after(demand, firmness)
-            if more is not None:
-                remaining, own = more, [*own, each]
-    if remaining.count() > remaining.of_the_whole():
+            if left.take(demand, firmness):
+                own.append(each)
+    if not left.is_nothing():
         return None
-    datum = tied(related, remaining)
+    datum = tied(related, left.remaining)
     return None if datum is None else Choice(tuple(own), datum)
 
 
@@ -144,15 +173,27 @@ def tied(slack: Slack, remaining: Remaining) -> tuple[Constraint, ...] | None:
     return None if remaining.count() else tuple(datum)
 
 
-def candidates(slack: Slack, taste: Taste) -> Iterator[tuple[Constraint, Demand]]:
+def candidates(slack: Slack, taste: Taste, left: Left) -> Iterator[Asked]:
     """The dimensions that may be taken, in their order, with the values that they have where a
-    drawing is placed."""
+    drawing is placed; behind the lengths the angle of each edge that turns, as soon as it does."""
     figure = Figure(slack.placed, slack.drawing)
-    if figure.points:
-        base = _base(slack, figure)
-        for kind in taste.order:
-            yield from _as_placed(slack, [each for each in dimensions(figure, kind, base)
-                                          if taste.allows(each)])
+    if not figure.points:
+        return
+    base = _base(slack, figure)
+    turns = Turns(slack, figure, base) if taste.angles else None
+    for kind in taste.order:
+        told = [each for each in dimensions(figure, kind, base) if taste.allows(each)]
+        for asked in _as_placed(slack, slack.demands(told)):
+            if turns is not None and kind not in (Kind.SIZE, Kind.LENGTH):
+                yield from _turned(slack, taste, turns, left)
+            yield asked
+
+
+def _turned(slack: Slack, taste: Taste, turns: Turns, left: Left) -> Iterator[Asked]:
+    """The angles of the edges that turn; nothing new where nothing was taken since it was asked."""
+    while (remaining := left.changed()) is not None:
+        told = [each for each in turns.of(remaining) if taste.allows(each[0])]
+        yield from _as_placed(slack, told)
 
 
 def _base(slack: Slack, figure: Figure) -> PointRef:
@@ -160,13 +201,11 @@ def _base(slack: Slack, figure: Figure) -> PointRef:
     return base_of(figure) if slack.whole.shape[1] else ORIGIN
 
 
-def _as_placed(slack: Slack,
-               constraints: Sequence[Constraint]) -> Iterator[tuple[Constraint, Demand]]:
+def _as_placed(slack: Slack, asked: Iterable[Asked]) -> Iterator[Asked]:
     """Those of some constraints that hold where a drawing is placed; what doesn't, since the
     drawing decides otherwise to which side it is meant, would turn something round."""
     most_nm = slack.most_off_nm()
-    demands = slack.demands(constraints)
-    return ((each, demand) for each, demand in demands if demand.off_nm <= most_nm)
+    return ((each, demand) for each, demand in asked if demand.off_nm <= most_nm)
 
 
 # -- relations

@@ -6,7 +6,7 @@ from collections.abc import Iterable, Iterator
 
 from pertxogai.completing.trials import Trials, State
 from pertxogai.completing.choosing import (
-    TASTES, Choice, Relate, Taste, candidates, choose, choose_places, tied, with_more,
+    TASTES, Choice, Left, Relate, Taste, candidates, choose, choose_places, tied, with_more,
     with_relations)
 from pertxogai.completing.figure import Figure
 from pertxogai.completing.fixes import proposals
@@ -119,18 +119,17 @@ def _one_by_one(slack: Slack, taste: Taste, state: State, trials: Trials) -> Ite
     and finds places for all that had some, also with a little more and a little less."""
     related = with_relations(slack, taste)
     chosen = list(related.drawing.constraints[len(slack.drawing.constraints):])
-    told, remaining = related.drawing, Remaining.all(related)
+    told, left = related.drawing, Left(Remaining.all(related))
     state = trials.state(told, by_parts=True) or state
-    for constraint, demand in candidates(related, taste):
-        more = remaining.after(demand)
-        if more is None or trials.is_over():
+    for constraint, demand in candidates(related, taste, left):
+        if left.remaining.after(demand) is None or trials.is_over():
             continue
         better = trials.better(told, constraint, state)
-        if better is not None:
-            told, state, remaining = with_more(told, [constraint]), better, more
+        if better is not None and left.take(demand):
+            told, state = with_more(told, [constraint]), better
             chosen.append(constraint)
-        if state.is_placed and remaining.count() == remaining.of_the_whole():
-            yield Choice(tuple(chosen), tied(related, remaining) or ())
+        if state.is_placed and left.is_nothing():
+            yield Choice(tuple(chosen), tied(related, left.remaining) or ())
             return
 
 

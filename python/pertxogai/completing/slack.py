@@ -145,7 +145,7 @@ class Remaining:
         """What remains once all that a constraint asks is fixed; None where some of it is fixed
         already, or moves the whole and may not (`ties_the_whole`). firmness: which part of what
         moves there it has to fix at least, from 0 to 1: less is nearly square to the motion."""
-        if not ties_the_whole and self._moves_with_the_whole(demand):
+        if not ties_the_whole and self.moves_with_the_whole(demand):
             return None
         without = self.without
         for row, there in zip(demand.by_way, demand.there):
@@ -157,7 +157,12 @@ class Remaining:
             without = np.vstack([without, rest / size])
         return Remaining(self.slack, without) if len(demand.by_way) else None
 
-    def _moves_with_the_whole(self, demand: Demand) -> bool:
+    def is_fixed(self, demand: Demand) -> bool:
+        """Whether some of what a constraint asks doesn't remain free."""
+        return self.after(demand, ties_the_whole=True) is None
+
+    def moves_with_the_whole(self, demand: Demand) -> bool:
+        """Whether what a constraint asks changes where the whole is moved."""
         return bool(np.abs(demand.by_way @ self._whole()).max(initial=0.0) > SEEN)
 
     def _whole(self) -> Array:
