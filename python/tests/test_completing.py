@@ -207,6 +207,22 @@ def test_a_value_that_leaves_no_room_is_given_up_for_another(program):
     assert "length C" not in " ".join(each.line() for each in found.all())
 
 
+def test_a_value_that_leaves_no_room_is_told_as_it_is_drawn(program):
+    # Two coins of radius 15 fill a ring of radius 30: the second has room only as drawn, 18 wide.
+    ring = (TESTS / "drawings/coins-in-a-ring.drawing").read_text()
+    found = complete(read_drawing(ring.replace("radius B 10\n", "")), program)
+    assert isinstance(found, Completion)
+    assert [each.line() for each in found.proposals] == ["diameter B 18"]
+
+
+def test_an_angle_with_a_sign_is_told_where_a_corner_is_drawn_the_other_way(program):
+    # Up is drawn falling and told to rise, so the corner turns over; Down is drawn 12 over 16.
+    text = (TESTS / "drawings/angle-signs.drawing").read_text()
+    found = complete(read_drawing(text.replace("angle Down -3/4\n", "")), program)
+    assert isinstance(found, Completion)
+    assert [each.line() for each in found.proposals] == ["angle Down +36.87deg"]
+
+
 def test_what_is_nearly_so_and_free_or_told_otherwise():
     # A leans by 0.43 degrees, and its ends are told so: nothing of it is free.
     text = "segment A 0 0 40 0.3\nfixed A\nsegment B 0 10 40 10.2\n"

@@ -6,8 +6,9 @@ from collections.abc import Iterable, Iterator
 
 from pertxogai.completing.trials import Trials, State
 from pertxogai.completing.choosing import (
-    TASTES, Choice, Left, Relate, Taste, candidates, choose, choose_places, tied, with_more,
-    with_relations)
+    SECONDS, TASTES, Choice, Left, Relate, Taste, candidates, choose, choose_places, tied,
+    with_more, with_relations)
+from pertxogai.completing.dimensions import as_drawn
 from pertxogai.completing.figure import Figure
 from pertxogai.completing.fixes import proposals
 from pertxogai.completing.proposal import Completion, NoProposal, WhyNot
@@ -18,8 +19,8 @@ from pertxogai.judging import Question, first_good
 from pertxogai.judging.measure import Limit
 from pertxogai.program import Solver
 from pertxogai.program.reports import Verdict
-
 from pertxogai.search.searched import searched
+
 ROUNDS = 6
 """The most dimensions that are given up for others since they leave their values no room."""
 
@@ -75,19 +76,29 @@ def _choices(slack: Slack, state: State, trials: Trials) -> Iterator[Choice]:
 
 
 def _by_rank(slack: Slack, taste: Taste, trials: Trials) -> Iterator[Choice]:
-    """What completes it by rank, once the program leaves each of its values some room."""
+    """What completes it by rank, once the program leaves each of its values some room. A value that
+    has none where the drawing is placed is tried once as it is drawn, and then given up."""
+    first, there = len(slack.drawing.constraints), slack
     for _ in range(ROUNDS):
-        choice = choose(slack, taste)
-        told = _placed(slack.drawing, choice, trials) if choice else None
+        choice = choose(there, taste)
+        told = _placed(there.drawing, choice, trials) if choice else None
         if choice is None or told is None:
             return
-        first = len(slack.drawing.constraints)
-        tight = trials.without_room(told, range(first, first + len(choice.own)))
+        own = (*there.drawing.constraints[first:], *choice.own)
+        tight = trials.without_room(told, range(first, first + len(own)))
         if tight is None:
-            yield choice
+            yield Choice(own, choice.datum)
         if tight is None or trials.is_over():
             return
-        taste = taste.without(tight)
+        drawn = _as_drawn(slack, tight) if there is slack else None
+        there, taste = (drawn, taste) if drawn is not None else (slack, taste.without(tight))
+
+
+def _as_drawn(slack: Slack, tight: Constraint) -> Slack | None:
+    """A drawing with a dimension that has the value as drawn; None where that is near the given
+    one, or no places are found."""
+    drawn = as_drawn(tight, Figure(slack.drawing))
+    return Slack.of(with_more(slack.drawing, [drawn]), SECONDS) if drawn is not None else None
 
 
 def _by_places(slack: Slack, trials: Trials) -> Iterator[Choice]:
