@@ -56,8 +56,8 @@ def checked_um(value: int | Fraction, least: int = -MOST_UM) -> int:
     if nearest != value:
         shown = f"{float(Fraction(value) / 1000):.10g} mm"
         raise NotHeld(
-            f"{shown} isn't held: the language takes whole micrometres from {mm_text(least)} to"
-            f" {mm_text(MOST_UM)} mm",
+            f"{shown} can't be represented: the language takes whole micrometres from"
+            f" {mm_text(least)} to {mm_text(MOST_UM)} mm",
             f"{mm_text(nearest)} mm",
         )
     _check_whole(value)
@@ -79,7 +79,8 @@ def checked_ratio(p: int, q: int) -> None:
         )
     if q < 0 or abs(p) > MOST_RATIO or q > MOST_RATIO:
         raise NotHeld(
-            f"the ratio {p}/{q} isn't held: its numbers go to {MOST_RATIO}, the second from 0",
+            f"the ratio {p}/{q} can't be represented: its numbers go to {MOST_RATIO},"
+            " the second from 0",
             "{}/{}".format(*nearest_ratio(p, q)),
         )
 
