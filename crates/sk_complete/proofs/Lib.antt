@@ -5,6 +5,7 @@ pub mod Extending
 pub mod Verdicts
 pub mod CountingOn
 pub mod Ringing
+pub mod SettledRings
 pub mod Circles
 pub mod Angles
 pub mod Reasons

@@ -36,7 +36,7 @@ pub record TellsOf (g : Graph) (front : List Part) (classes : List ℕ) : Type 0
   pub none : ¬ IsRing g front
 
 module _ (g : Graph) where
-  beside_on : (ps : List Part) (but : Part) (l m n : Elem) → AreTiedBeside g ps but l m → AreTiedBeside g ps but m n → AreTiedBeside g ps but l n
+  pub beside_on : (ps : List Part) (but : Part) (l m n : Elem) → AreTiedBeside g ps but l m → AreTiedBeside g ps but m n → AreTiedBeside g ps but l n
   beside_on ps but l m n same_line more = more
   beside_on ps but l m n (by_part {m = k} line p p_in differs l_in k_in rest) more = by_part line p p_in differs l_in k_in (beside_on ps but k m n rest more)
 
@@ -75,7 +75,7 @@ module _ (g : Graph) where
   }
 
   -- a chain beside p that may lead through x: it doesn't, or it leads to x and from it
-  passes : (front next : List Part) (x p : Part) → ((q : Part) → Contains next q → Contains front q ⊎ (x ≡ q)) → (l m : Elem) → IsLine g l → AreTiedBeside g next p l m
+  pub passes : (front next : List Part) (x p : Part) → ((q : Part) → Contains next q → Contains front q ⊎ (x ≡ q)) → (l m : Elem) → IsLine g l → AreTiedBeside g next p l m
       → AreTiedBeside g front p l m
       ⊎ ((c : Elem) × (d : Elem) × Contains x.elements c × Contains x.elements d × IsLine g c × IsLine g d × AreTiedBeside g front p l c × AreTiedBeside g front p d m)
   passes front next x p from l m line same_line = inl same_line
