@@ -119,3 +119,32 @@ def test_how_much_a_reader_of_the_headline_has_to_read() -> None:
     assert not [it for it in files if "/proofs/" in it or "sk_lang" in it]
     lines = sum(int(line.split()[0]) for line in listed[:-1])
     assert listed[-1].startswith(f"{len(files)} files of definitions, {lines} lines, ")
+
+
+LAW = re.compile(r"\[`(\w+)\(\)`\]\(\.\./(crates/\w+/src/\w+\.rt)\)((?:,? `\w+`)*)")
+"""In a page, a theorem, the file that it stands in, and which of its clauses are meant."""
+
+
+def clauses(path: Path, name: str) -> set[str]:
+    """The names of a public function's postconditions."""
+    found = re.search(rf"^pub fn {name}\b(.*?)^{{", path.read_text(), re.MULTILINE | re.DOTALL)
+    assert found is not None, f"{path} has no function {name}"
+    return set(re.findall(r"^    ensures (\w*)", found[1], re.MULTILINE))
+
+
+def test_each_claim_leads_to_its_clause() -> None:
+    """Every theorem that the page of claims names stands in the file that it leads to, with the
+    clauses that are named behind it; and so does what is said of the top call."""
+    text = (TOP / "docs/CLAIMS.md").read_text()
+    laws = LAW.findall(text)
+    assert len({name for name, _, _ in laws}) >= 17
+    for name, path, named in laws:
+        stand = clauses(TOP / path, name)
+        assert stand and set(re.findall(r"`(\w+)`", named)) <= stand, f"{name}: {named}"
+    bare = re.findall(r"(?<!\[)`(\w+)\(\)`", text)
+    assert not bare, f"{bare} have no link"
+    top = clauses(TOP / "crates/sk_cli/src/top.rt", "run")
+    assert set(re.findall(r"`(\w+)` of \[`run`\]", text)) <= top
+    table = text[text.index("## When each status comes"):text.index("## Which calls keep it")]
+    of_run = set(re.findall(r"`(untouched|sure_\w+|\w+_fault|live_taken)`", table))
+    assert of_run - {"step_fault"} <= top
