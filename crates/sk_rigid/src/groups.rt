@@ -4,18 +4,26 @@ use sk_base::{Elem, NoMemory};
 use sk_triangles::is_marked;
 use std::alloc::Global;
 
-/// Disjoint sets of elements: at the number of an element that of another one of its set, or its own number where it is the
-/// representative.
+/// Disjoint sets of elements, as trees: at the number of an element how it stands in that of its set. The smaller tree
+/// always went under the greater, so none is high.
 #[derive(Drop)]
 pub struct Groups {
-    next: Vec<u32>,
+    links: Vec<Link>,
+}
+
+#[derive(Clone, Copy)]
+enum Link {
+    /// Under the element of that number.
+    Under(u32),
+    /// The representative of so many elements.
+    Top(u32),
 }
 
 impl Groups {
     /// Each element by itself.
     pub fn none(alloc: Global) -> Groups {
         Groups {
-            next: Vec::new(alloc),
+            links: Vec::new(alloc),
         }
     }
 
@@ -36,9 +44,9 @@ impl Groups {
     /// The number of the representative of the element's group.
     pub fn first(&self, elem: Elem) -> u32 {
         let mut at = elem.0;
-        for _ in 0..=self.next.len() {
-            match self.next.get(at as usize) {
-                Some(next) if *next != at => at = *next,
+        for _ in 0..=self.links.len() {
+            match self.links.get(at as usize) {
+                Some(Link::Under(above)) => at = *above,
                 _ => return at,
             }
         }
@@ -82,10 +90,36 @@ impl Groups {
         if first == second {
             return Ok(true);
         }
-        while self.next.len() <= second as usize {
-            self.next.push(self.next.len() as u32)?;
+        let one = self.count(first);
+        let other = self.count(second);
+        let both = one.saturating_add(other);
+        if one < other {
+            self.put_under(first, second, both)?;
+        } else {
+            self.put_under(second, first, both)?;
         }
-        self.next[second as usize] = first;
         Ok(false)
+    }
+
+    /// How many elements it is the representative of.
+    fn count(&self, top: u32) -> u32 {
+        match self.links.get(top as usize) {
+            Some(Link::Top(count)) => *count,
+            _ => 1,
+        }
+    }
+
+    /// Puts the one representative under the other, which has so many elements then.
+    fn put_under(&mut self, low: u32, top: u32, count: u32) -> Result<(), NoMemory> {
+        self.set(low, Link::Under(top))?;
+        self.set(top, Link::Top(count))
+    }
+
+    fn set(&mut self, at: u32, link: Link) -> Result<(), NoMemory> {
+        while self.links.len() <= at as usize {
+            self.links.push(Link::Top(1))?;
+        }
+        self.links[at as usize] = link;
+        Ok(())
     }
 }
