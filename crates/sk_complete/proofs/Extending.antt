@@ -9,14 +9,14 @@ use Rattle.sk_base.specs.declared.Element.{Element}
 use Rattle.sk_base.specs.declared.Rule.{Rule}
 use Rattle.sk_base.specs.declared.Rule.TheVariants as rule
 use Rattle.sk_base.specs.declared.Sketch.{Sketch}
-use Rattle.sk_base.specs.SoundSketch.{IsSoundSketch, IsSoundRule}
+use Rattle.sk_base.specs.SoundSketch.{IsSoundSketch}
 use Rattle.sk_graph.specs.SketchGraph.{graph_of}
 use Rattle.sk_graph.proofs.Drawing.{rule_alike}
 use Rattle.sk_entry.proofs.Growing.{IsNewConstraint, with_constraint_sound}
 use Rattle.sk_plan.specs.Judged.{IsWell}
 use Rattle.sk_complete.specs.Weights.{rule_weight, constraint_weight, weight_together}
 use Rattle.sk_drawn.specs.DrawnValues.{IsDrawnValue}
-use Rattle.sk_complete.specs.Begun.{Extends, last_number}
+use Rattle.sk_complete.specs.Begun.{Extends, IsDrawnConstraint, last_number}
 use Rattle.sk_complete.specs.Completions.{Completes}
 use Rattle.sk_complete.proofs.CountingOn.{last_along, numbered_more}
 use Rattle.sk_complete.proofs.Weighing.{well_weighs}
@@ -26,7 +26,7 @@ extends_itself s sound = record {
   added = [];
   more = record { elements = refl; constraints = sym (append-nil s.constraints) };
   numbered = tt;
-  drawn = All-nil (λ (c : Constraint). IsDrawnValue s c.rule);
+  drawn = All-nil (IsDrawnConstraint s);
   sound = sound;
 }
 
@@ -40,12 +40,12 @@ drawn_weighs s (rule.Inside u v) drawn = refl
 drawn_weighs s (rule.Angle l m ratio) drawn = refl
 drawn_weighs s (rule.Block pins) drawn = absurd drawn
 
-all_weigh : (s : Sketch) (cs : List Constraint) → All (λ (c : Constraint). IsDrawnValue s c.rule) cs → weight_together cs ≡ length cs
+all_weigh : (s : Sketch) (cs : List Constraint) → All (IsDrawnConstraint s) cs → weight_together cs ≡ length cs
 all_weigh s [] drawn = refl
 all_weigh s (c ∷ cs) drawn =
     let more = sum_by-cons constraint_weight c cs in
-    let one = drawn_weighs s c.rule (All-head (λ (d : Constraint). IsDrawnValue s d.rule) c cs drawn) in
-    let rest = all_weigh s cs (All-tail (λ (d : Constraint). IsDrawnValue s d.rule) c cs drawn) in
+    let one = drawn_weighs s c.rule (All-head (IsDrawnConstraint s) c cs drawn).says.drawn in
+    let rest = all_weigh s cs (All-tail (IsDrawnConstraint s) c cs drawn) in
     omega arith
 
 pub some_elements : (s t : Sketch) → Extends s t → 0 < length s.elements → 0 < length t.elements
@@ -77,20 +77,20 @@ extends_same s t same sound = subst (λ (z : Sketch). Extends s z) (sym same) (e
 
 -- and what is drawn more is said behind it
 pub extends_more : (s t : Sketch) (c : Constraint) (cs : List Constraint) → Extends s t
-    → IsSoundRule s c.rule → IsDrawnValue s c.rule → c.number.0 ≡ last_number t.constraints + 1 → All (λ (x : Constraint). x.number.0 < c.number.0) t.constraints → length t.constraints < 4000
+    → IsDrawnConstraint s c → c.number.0 ≡ last_number t.constraints + 1 → All (λ (x : Constraint). x.number.0 < c.number.0) t.constraints → length t.constraints < 4000
     → cs ≡ t.constraints ++ c ∷ [] → Extends s (record { elements = t.elements; constraints = cs })
-extends_more s t c cs extends rule drawn next above room cs_is =
+extends_more s t c cs extends drawn next above room cs_is =
     let more = extends.more in
     let added = extends.added in
     let is_new : IsNewConstraint t c = record {
       above = above;
       room = room;
-      rule = rule_alike s t c.rule (λ u named. ap (λ (es : List Element). find (λ (x : Element). x.number.0 == u.0) es) more.elements) rule;
+      rule = rule_alike s t c.rule (λ u named. ap (λ (es : List Element). find (λ (x : Element). x.number.0 == u.0) es) more.elements) drawn.says.sound;
     } in
     subst (λ (ks : List Constraint). Extends s (record { elements = t.elements; constraints = ks })) (sym cs_is) (record {
       added = added ++ c ∷ [];
       more = record { elements = more.elements; constraints = ap (λ ks. ks ++ c ∷ []) more.constraints ∙ append_assoc s.constraints added (c ∷ []) };
       numbered = numbered_more (last_number s.constraints) added c extends.numbered (next ∙ ap (λ (xs : List Constraint). last_number xs + 1) more.constraints ∙ ap (λ (n : ℕ). n + 1) (last_along 0 s.constraints added));
-      drawn = All-push (λ (x : Constraint). IsDrawnValue s x.rule) added c extends.drawn drawn;
+      drawn = All-push (IsDrawnConstraint s) added c extends.drawn drawn;
       sound = with_constraint_sound t c extends.sound is_new;
     })

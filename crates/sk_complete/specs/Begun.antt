@@ -2,11 +2,12 @@
 use Rattle.std.specs.Prelude.{◌≡◌, ℕ, ◌+◌, ◌==◌, Bool, not, List, [], ◌∷◌, ◌++◌, All, Contains, filter, map}
 use Rattle.std.specs.List.{list_any}
 use Rattle.sk_base.specs.declared.ConId.{ConId}
+use Rattle.sk_base.specs.declared.Elem.{Elem}
 use Rattle.sk_base.specs.declared.Constraint.{Constraint}
 use Rattle.sk_base.specs.declared.Sketch.{Sketch}
 use Rattle.sk_base.specs.Rising.{IsRising}
 use Rattle.sk_base.specs.SoundSketch.{IsSoundSketch}
-use Rattle.sk_drawn.specs.DrawnValues.{IsDrawnValue}
+use Rattle.sk_drawn.specs.DrawnValues.{IsDrawnRule}
 
 -- t has the elements of s, and its constraints, with their numbers, among its own
 pub record HasAmong (s t : Sketch) : Type 0 where
@@ -44,10 +45,16 @@ abbrev pub AreNumberedBehind : ℕ → List Constraint → Type 0
 AreNumberedBehind n [] = Unit {0}
 AreNumberedBehind n (c ∷ cs) = (c.number.0 ≡ n + 1) × AreNumberedBehind (n + 1) cs
 
--- t is sound, and says besides what s says only what is drawn, with numbers that count on
+-- the constraint is the drawn value of two elements
+pub record IsDrawnConstraint (s : Sketch) (c : Constraint) : Type 0 where
+  pub one : Elem
+  pub other : Elem
+  pub says : IsDrawnRule s one other c.rule
+
+-- t is sound, and has besides the constraints of s only drawn values, with numbers that count on
 pub record Extends (s t : Sketch) : Type 0 where
   pub added : List Constraint
   pub more : HasMore s t added
   pub numbered : AreNumberedBehind (last_number s.constraints) added
-  pub drawn : All (λ (c : Constraint). IsDrawnValue s c.rule) added
+  pub drawn : All (IsDrawnConstraint s) added
   pub sound : IsSoundSketch t

@@ -16,17 +16,16 @@ use Rattle.sk_complete.specs.declared.completion.Completion.TheVariants.{Done, W
 use Rattle.sk_complete.specs.declared.completion.Reason.{Reason}
 use Rattle.sk_complete.specs.declared.completion.Reason.TheVariants as reason
 use Rattle.sk_complete.specs.Weights.{weight_together, due_for}
-use Rattle.sk_drawn.specs.DrawnValues.{IsDrawnValue}
 use Rattle.sk_complete.specs.Rings.{HasRing}
-use Rattle.sk_complete.specs.Begun.{HasMore, AreNumberedBehind, last_number}
+use Rattle.sk_complete.specs.Begun.{HasMore, AreNumberedBehind, IsDrawnConstraint, last_number}
 
--- t is sound and well, and says besides what s says just as much as is due, all of it as it is drawn, with numbers that
+-- t is sound and well, and has besides the constraints of s just as many drawn values as are missing, with numbers that
 -- count on
 pub record Completes (s t : Sketch) : Type 0 where
   pub added : List Constraint
   pub more : HasMore s t added
   pub numbered : AreNumberedBehind (last_number s.constraints) added
-  pub drawn : All (λ (c : Constraint). IsDrawnValue s c.rule) added
+  pub drawn : All (IsDrawnConstraint s) added
   pub sound : IsSoundSketch t
   pub well : IsWell (graph_of t)
   pub count : weight_together s.constraints + length added ≡ due_for s

@@ -13,7 +13,7 @@ next_number-requires c =
 pub returns : goal.returns
 returns c =
     extends_more c.args.s.now c.args.self.now.sketch (record { number = c.in-Some-next_number.number; rule = c.in-Some.rule }) c.push.new.self
-    c.requires.draft c.in-Some.ensures.some.sound c.in-Some.ensures.some.drawn
+    c.requires.draft (record { one = c.args.u; other = c.args.v; says = c.in-Some.ensures.some })
     (subst (λ (cs : List Constraint). c.in-Some-next_number.number.0 ≡ last_number cs + 1) c.as_slice.ensures c.in-Some-next_number.ensures.next)
     (subst (λ (cs : List Constraint). All (λ (x : Constraint). x.number.0 < c.in-Some-next_number.number.0) cs) c.as_slice.ensures c.in-Some-next_number.ensures.above)
     (subst (λ (cs : List Constraint). length cs < 4000) c.as_slice.ensures c.in-Some-next_number.ensures.room)
