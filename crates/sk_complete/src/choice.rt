@@ -1,4 +1,5 @@
-// The best element of the base for a constraint with one outside it.
+// The best element of the base for a constraint with one outside it. Those that came last are looked at first: mostly they
+// are near, and what is further needs no root.
 ghost use Rattle.std.specs.Prelude.{IfSome};
 ghost use Rattle.sk_base.specs.SoundSketch.{IsSoundSketch, IsSoundShape};
 
@@ -72,7 +73,7 @@ impl Choices {
         requires w { IsSoundShape w.now.shape }
         requires u { IsSoundShape u.now.shape }
     {
-        for elem in base {
+        for elem in base.iter().rev() {
             if !wide.tells(u.elem, *elem) {
                 if let Some(v) = Drawn::of(s, *elem) {
                     self.look_at(w, u, &v);
@@ -81,21 +82,25 @@ impl Choices {
         }
     }
 
-    /// Takes v where it is better than what was found so far.
+    /// Takes v where it is better than what was found so far. Beside a firm one, only a firm one is looked for.
     fn look_at(&mut self, w: &Drawn, u: &Drawn, v: &Drawn)
         requires w { IsSoundShape w.now.shape }
         requires u { IsSoundShape u.now.shape }
         requires v { IsSoundShape v.now.shape }
     {
+        let reach = reach_of(&u.shape, &v.shape);
+        if is_too_far(self.firm, reach) {
+            return;
+        }
         let firm = firm_between(&w.shape, &u.shape, &v.shape);
         let grade = firm.grade();
         let lack = 16u128.saturating_sub(grade);
         if grade > 0 {
-            self.firm = better(self.firm, lack, u, v);
+            self.firm = better(self.firm, lack, reach, u, v);
         } else if firm.is_flat() {
-            self.flat = better(self.flat, lack, u, v);
+            self.flat = better(self.flat, lack, reach, u, v);
         } else {
-            self.thin = better(self.thin, lack, u, v);
+            self.thin = better(self.thin, lack, reach, u, v);
         }
     }
 }
@@ -113,22 +118,23 @@ pub(crate) fn link_of(s: &Sketch, wide: &Rigid, u: Elem, base: &[Elem]) -> Optio
 {
     let outer = Drawn::of(s, u)?;
     let mut best = None;
-    for elem in base {
+    for elem in base.iter().rev() {
         if !wide.tells(u, *elem) {
             if let Some(v) = Drawn::of(s, *elem) {
-                best = better(best, 0, &outer, &v);
+                let reach = reach_of(&outer.shape, &v.shape);
+                best = better(best, 0, reach, &outer, &v);
             }
         }
     }
     best
 }
 
-/// The better one of the best so far and v, which lacks so much.
-fn better(best: Option<Choice>, lack: u128, u: &Drawn, v: &Drawn) -> Option<Choice>
+/// The better one of the best so far and v, which lacks so much, and whose square of the distance from u is this.
+fn better(best: Option<Choice>, lack: u128, reach: u128, u: &Drawn, v: &Drawn) -> Option<Choice>
     requires u { IsSoundShape u.now.shape }
     requires v { IsSoundShape v.now.shape }
 {
-    if is_beyond(best, lack, reach_of(&u.shape, &v.shape)) {
+    if is_beyond(best, lack, reach) {
         return best;
     }
     match drawn_size(u.shape, v.shape) {
@@ -144,17 +150,27 @@ fn better(best: Option<Choice>, lack: u128, u: &Drawn, v: &Drawn) -> Option<Choi
     }
 }
 
-/// Whether what lacks so much, or is drawn so far, is no better than the best so far. What is further than n and a half
-/// has a square above n(n + 1).
+/// Whether what lacks so much, or is drawn so far, is no better than the best so far.
 fn is_beyond(best: Option<Choice>, lack: u128, reach: u128) -> bool {
     match best {
-        Some(choice) => {
-            let size = u128::from(choice.size);
-            choice.lack < lack
-                || (choice.lack == lack && size.saturating_mul(size.saturating_add(1)) < reach)
-        }
+        Some(choice) => choice.lack < lack || (choice.lack == lack && is_further(choice, reach)),
         None => false,
     }
+}
+
+/// Whether what is drawn so far is no better than the best so far, whatever it lacks. Only an angle of two lines, which is
+/// never far, lacks less than 1.
+fn is_too_far(best: Option<Choice>, reach: u128) -> bool {
+    match best {
+        Some(choice) => choice.lack <= 1 && is_further(choice, reach),
+        None => false,
+    }
+}
+
+/// Whether what is drawn so far is further than the choice. What is further than n and a half has a square above n(n + 1).
+fn is_further(choice: Choice, reach: u128) -> bool {
+    let size = u128::from(choice.size);
+    size.saturating_mul(size.saturating_add(1)) < reach
 }
 
 /// The lesser one of the two.
