@@ -43,7 +43,7 @@ pub enum Completion {
 
 /// A completion of the sketch, which has an element: the sketch itself where its verdict is well. Else there is none for the
 /// first reason that holds: the verdict is over; more than two elements are lines alone; its parts tell an angle twice; the
-/// constraints weigh what is due. Where none of these holds the search decides.
+/// constraints weigh what is due or more. Where none of these holds the search decides.
 pub fn complete(alloc: Global, s: &Sketch) -> Result<Completion, NoMemory>
     requires sound { IsSoundSketch s.now }
     requires some { 0 < length s.now.elements }
@@ -79,9 +79,9 @@ fn completed(alloc: Global, s: &Sketch, judgement: &Judgement) -> Result<Complet
     let graph = reduce(alloc, s)?;
     let lines = lines_of(alloc, graph.nodes.as_slice())?;
     let parts = judgement.parts.as_slice();
-    let is_ring = has_ring(alloc, &graph, parts)?;
+    let is_told_twice = has_ring(alloc, &graph, parts)?;
     let missing = due_for(s).saturating_sub(weight_of(s.constraints.as_slice()));
-    if let Some(reason) = hindrance(s, is_ring, missing) {
+    if let Some(reason) = hindrance(s, is_told_twice, missing) {
         return Ok(Completion::Without(reason));
     }
     match first_completed(alloc, s, parts, lines.as_slice(), missing)? {

@@ -11,10 +11,10 @@ ghost use Rattle.sk_complete.specs.Rings.{HasRing};
 use crate::completion::Reason;
 use sk_base::{Constraint, Element, Rule, Sketch};
 
-/// Why no completion is sought, if there is a reason. The sketch isn't over, lacks so much weight, and its parts tell the
-/// angles of lines in a ring or not.
-pub(crate) fn hindrance(s: &Sketch, is_ring: bool, missing: usize) -> Option<Reason>
-    requires ring { IsTrue is_ring ↔ HasRing s.now }
+/// Why no completion is sought, if there is a reason. The sketch isn't over and lacks so much weight; its parts tell an
+/// angle twice, or they don't.
+pub(crate) fn hindrance(s: &Sketch, is_told_twice: bool, missing: usize) -> Option<Reason>
+    requires ring { IsTrue is_told_twice ↔ HasRing s.now }
     requires missing { missing ≡ due_for s.now - weight_together s.now.constraints }
     ensures not_over { result ≢ Some Reason.Over }
     ensures lines { (result ≡ Some Reason.Lines) ↔ HasLinesAlone s.now }
@@ -25,7 +25,7 @@ pub(crate) fn hindrance(s: &Sketch, is_ring: bool, missing: usize) -> Option<Rea
 {
     if has_lines_alone(s) {
         Some(Reason::Lines)
-    } else if is_ring {
+    } else if is_told_twice {
         Some(Reason::Angles)
     } else if missing == 0 {
         Some(Reason::Enough)

@@ -39,7 +39,7 @@ fn has_two_alike(classes: &[usize], elements: &[Elem]) -> bool
 fn has_alike(classes: &[usize], elements: &[Elem], elem: Elem) -> bool
     ensures { IsTrue result ↔ ((e : Element) × Contains elements.now e × (elem ≢ e) × (0 < class_in classes.now elem) × (class_in classes.now elem ≡ class_in classes.now e)) }
 {
-    elements.iter().any(|other| is_alike(classes, elem, *other))
+    class_of(classes, elem) > 0 && elements.iter().any(|other| is_alike(classes, elem, *other))
 }
 
 /// Whether the two are different lines of one class.

@@ -9,7 +9,7 @@ use Rattle.sk_complete.proofs.completion.completed.Goals as goal
 
 pub hindrance-requires-clause-ring : goal.hindrance-requires-clause-ring
 hindrance-requires-clause-ring c =
-    ring_told c.args.s.now c.args.judgement.now c.in_ok-graph.graph c.as_slice-parts.result.now c.in_ok-is_ring.is_ring c.requires.judged c.in_ok-graph.ensures.graph c.as_slice-parts.ensures c.in_ok-is_ring.ensures
+    ring_told c.args.s.now c.args.judgement.now c.in_ok-graph.graph c.as_slice-parts.result.now c.in_ok-is_told_twice.is_told_twice c.requires.judged c.in_ok-graph.ensures.graph c.as_slice-parts.ensures c.in_ok-is_told_twice.ensures
 
 pub returns-in-Some-clause-completes : goal.returns-in-Some-clause-completes
 returns-in-Some-clause-completes c =
