@@ -1,3 +1,4 @@
+// The statuses with which calls end.
 ghost use Rattle.std.specs.Prelude.{◌≡◌};
 
 use sk_base::NoMemory;

@@ -146,8 +146,8 @@ pub fn some_outcome()
 }
 
 /// Where `migrate` is done, what it writes reads as the very sketch that was read, so that the commands
-/// whose whole input is one sketch (`check`, `plan`, `solve`, `dxf`, `migrate`, `spare`, `derive`, `parts` and `excess`)
-/// answer both texts alike, whatever their keys.
+/// whose whole input is one sketch (`check`, `plan`, `solve`, `dxf`, `migrate`, `spare`, `derive`, `parts`, `excess`,
+/// `complete` and `why`) answer both texts alike, whatever their keys.
 pub fn migrated_reads_the_same()
     ensures reads { (bytes text : List ℕ) → IsMigrated bytes text → (s : Sketch) × Reads bytes s × Reads text s }
     ensures same { (bytes migrated : List ℕ) → IsMigrated bytes migrated → (words : List (List ℕ)) → AskOfOneSketch words
@@ -231,13 +231,14 @@ pub fn why_measure_ends()
     datum_sketch_is_sound();
 }
 
-/// Where each element has a place, `measure` tells by how much the places are off each constraint, in order, and the least tolerances
-/// with which all holds there, whatever its status (`offs`). Of one constraint where the elements lie so there is one such answer
-/// (`same`). Where the elements lie as in a claim that `verify` accepts, no constraint is off by more than the claim's tolerance, and
-/// no sign is turned over (`accepted`); and the least tolerances there are no greater than the claim's (`tolerances`). Where
-/// `excess` measures what is left out of an own sketch, the element lines of these places, with an `end` behind them, are measured
-/// there, so that by `same` each constraint that is left out is off by what `excess` told (`left`). With the element lines of `solve`, an `end` behind them and the same limit it is done, and tells the tolerances that `solve` told
-/// (`solved`).
+/// Where each element has a place, `measure` tells by how much the places are off each constraint, in order, and the least
+/// tolerances with which all holds there, whatever its status (`offs`). Of one constraint where the elements lie so there is
+/// one such answer (`same`). Where the elements lie as in a claim that `verify` accepts, no constraint is off by more than
+/// the claim's tolerance, and no sign is turned over (`accepted`); and the least tolerances there are no greater than the
+/// claim's (`tolerances`). Where `excess` measures what is left out of an own sketch, the element lines of these places,
+/// with an `end` behind them, are measured there, so that by `same` each constraint that is left out is off by what
+/// `excess` told (`left`). With the element lines of `solve`, an `end` behind them and the same limit it is done, and tells
+/// the tolerances that `solve` told (`solved`).
 pub fn given_places_are_measured()
     ensures offs { (words : List (List ℕ)) (bytes text : List ℕ) (status : Status) (request : Request) (f : Front) (c : Claim) → IsOutcome words bytes status text → Asks words request
         → request.command ≡ Command.Measure → HasPlaces bytes f c → AllTold c f.sketch.elements → (offs line : List ℕ) × TellsOffs f.sketch c.at offs × (text ≡ offs ++ line) }
