@@ -6,7 +6,7 @@ from collections import Counter
 
 import pytest
 
-from asked_plainly import differing
+from asked_plainly import ask, differing, with_lines
 from pertxogai.program import Program
 from plain_completions import completion, drawn_line, nearest_fraction, nearest_root
 from plain_groups import groups
@@ -53,6 +53,39 @@ def test_three_loose_points() -> None:
     lines = [it.line for it in whole.constraints]
     assert lines == ["distance A B 3", "distance A C 4", "distance B C 5"]
     assert verdict(whole) == "well"
+
+
+# Sketches, and what is added to them, worked out by hand. Each answer is another one where the base
+# is the first part and not the greatest; where the nearest element is chosen and not the one that
+# holds most firmly; where tied lines get an angle once more, or angles aren't followed.
+CHOSEN = [
+    (
+        "point A 10 0,point B 10 3,point C 0 0,point D 4 0,point E 0 3,"
+        "distance A B 3,distance C D 4,distance C E 3,distance D E 5",
+        "distance A D 6,distance A E 10.44,distance B D 6.708",
+    ),
+    (
+        "point A 0 0,point B 8 0.8,point C 7 7,point D 10 0,"
+        "distance A B 8.04,distance A C 9.899,distance B C 6.28,distance A D 10",
+        "distance C D 7.616",
+    ),
+    (
+        "point A 0 0,point B 4 0,line L 0 0 4 0,line N 0 3 4 3,line M 2 0 4 5,"
+        "on A L,on B L,distance A B 4,angle L N 1/1,angle N M 1/1",
+        "distance A M 1.857,distance A N 3",
+    ),
+]
+
+
+@pytest.mark.parametrize(("given", "added"), CHOSEN)
+def test_chosen_among_several(program: Program, given: str, added: str) -> None:
+    """The program adds these, and so does the plain writing."""
+    text = "\n".join(["sketch 1", *given.split(","), "end", ""])
+    answer = with_lines(text, added.split(","))
+    assert ask(program.path, "complete", text) == (0, answer)
+    whole = completion(read(text))
+    assert not isinstance(whole, str)
+    assert [it.line for it in whole.constraints] == [it.line for it in read(answer).constraints]
 
 
 def test_a_length_twice() -> None:
