@@ -249,7 +249,8 @@ def _missing_lines(judgement: Judgement) -> Iterator[str]:
         yield (f"  what to do: pieces {joint.first.number} and {joint.second.number}{shared} "
                f"{joint.tie.value}")
     if len(lacks.joints) > MOST_ADVICE:
-        yield f"  and {len(lacks.joints) - MOST_ADVICE} more pairs of pieces"
+        more = len(lacks.joints) - MOST_ADVICE
+        yield f"  and {more} more pair{'s' if more > 1 else ''} of pieces"
 
 
 def _proposed_lines(judged: JudgedDrawing) -> Iterator[str]:
