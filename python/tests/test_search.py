@@ -20,6 +20,7 @@ import pytest
 from pertxogai.drawing import Drawing, PointRef, Which, read_drawing, um_of_mm
 from pertxogai.judging.finding import Finding, PointMove
 from pertxogai.judging.measure import Unit, greatest
+from pertxogai.judging.measure.limit import Limit
 from pertxogai.search import search
 from pertxogai.search.contradictions import has_shrunk
 from pertxogai.search.equations import Equations
@@ -195,15 +196,19 @@ def test_points_that_are_told_twice_to_be_one_repeat():
     assert found.repeats == (("Twice",),)
 
 
-@pytest.mark.parametrize("told, is_repeat", [
-    ("40", True), ("40.0000008", True), ("40.0000014", False)])
-def test_what_is_off_by_a_nanometre_at_most_repeats_and_does_not_contradict(told, is_repeat):
-    found = found_of("segment A Origin 40 0\non A.end XAxis\nOnce: length A 40\n"
-                     f"Twice: length A {told}\n")
+@pytest.mark.parametrize("told, within, is_repeat, is_placed", [
+    ("40", 1000, True, True), ("40.0000008", 1000, True, True), ("40.0000014", 1000, True, False),
+    ("40.000999", 1000, True, False), ("40.001001", 1000, False, False),
+    ("40.000101", 100, False, False), ("40.000099", 100, True, False)])
+def test_what_is_off_within_the_limit_repeats_and_does_not_contradict(
+        told: str, within: int, is_repeat: bool, is_placed: bool) -> None:
+    drawing = read_drawing("segment A Origin 40 0\non A.end XAxis\nOnce: length A 40\n"
+                           f"Twice: length A {told}\n")
+    found = Searched(drawing).finding(Limit(within))
     group = (("Twice", "Once"),)
     assert found.repeats == (group if is_repeat else ())
     assert found.contradictions == (() if is_repeat else group)
-    assert (found.solution is None) is not is_repeat
+    assert (found.solution is not None) is is_placed
 
 
 def test_a_line_that_goes_on_another_from_their_corner_is_no_repeat():

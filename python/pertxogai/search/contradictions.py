@@ -30,19 +30,21 @@ STEPS, SECONDS = 60, 0.6
 """The most steps of each of these searches, and the seconds after which no more are begun."""
 
 
-def contradictions(equations: Equations, found: Found,
-                   free: Freedom | None) -> tuple[Numbers, ...]:
-    """Groups of constraints that can't all be met; none where the drawing is solved, or none is
-    found. free: None where the rank isn't asked."""
+def contradictions(equations: Equations, found: Found, free: Freedom | None,
+                   within_nm: float) -> tuple[Numbers, ...]:
+    """Groups of constraints that can't all be met within so many nanometres; none where the drawing
+    is solved, or none is found. free: None where the rank isn't asked."""
     if found.is_solved():
         return ()
     dependencies = free.dependencies if free is not None else ()
     by_rank = [tuple(source.number for source in each.sources if source.by is not By.SHAPE)
-               for each in dependencies if not each.repeats()]
-    if not by_rank:
-        sharp = _sharp(equations, _worst(equations, found))
-        return (sharp,) if sharp else ()
-    return tuple(_sharp(equations, numbers) or _latest_first(numbers) for numbers in by_rank)
+               for each in dependencies if not each.repeats(within_nm)]
+    if by_rank:
+        return tuple(_sharp(equations, numbers) or _latest_first(numbers) for numbers in by_rank)
+    if found.end.worst_nm <= within_nm:
+        return ()
+    sharp = _sharp(equations, _worst(equations, found))
+    return (sharp,) if sharp else ()
 
 
 def has_shrunk(equations: Equations, x: Array) -> bool:

@@ -14,8 +14,8 @@ from pertxogai.search.unknowns import By, Source
 
 SEEN = 1e-6
 """A factor below this part of the greatest is 0."""
-REPEATS_NM = 1.0
-"""Constraints that are off each other by no more say the same."""
+SAME_NM = 1.0
+"""Constraints that are off each other by no more say the same: places are whole nanometres."""
 
 
 @dataclass(frozen=True)
@@ -26,9 +26,9 @@ class Dependency:
     sources: tuple[Source, ...]
     off_nm: float
 
-    def repeats(self) -> bool:
-        """Whether the latest says what the others do."""
-        return self.off_nm <= REPEATS_NM
+    def repeats(self, within_nm: float = SAME_NM) -> bool:
+        """Whether the latest says what the others do, within so many nanometres."""
+        return self.off_nm <= within_nm
 
 
 def dependencies(rows: Sequence[Row], off: Array, dependent: Dependent) -> Iterator[Dependency]:

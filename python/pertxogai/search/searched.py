@@ -10,12 +10,13 @@ from pertxogai.drawing import Drawing, line_of
 from pertxogai.judging.finding import Finding, Group, PlacesBy
 from pertxogai.judging.judgement import Judgement
 from pertxogai.judging.measure import measure
+from pertxogai.judging.measure.limit import Limit
 from pertxogai.program import Solver
 from pertxogai.program.reports import Verdict
 from pertxogai.search.budget import MOST_SECONDS, Budget
 from pertxogai.search.constructing import construct
 from pertxogai.search.contradictions import Numbers, contradictions, has_shrunk, without
-from pertxogai.search.dependencies import REPEATS_NM, Dependency
+from pertxogai.search.dependencies import SAME_NM, Dependency
 from pertxogai.search.equations import Equations
 from pertxogai.search.freedom import Freedom, freedom
 from pertxogai.search.rounding import solution_of
@@ -48,13 +49,14 @@ class Searched:
         """Whether all words are met where it was found, but for what is off by so little that it
         repeats the others all the same."""
         return self.found.is_solved() or (
-            self.found.end.worst_nm <= REPEATS_NM
+            self.found.end.worst_nm <= SAME_NM
             and all(each.repeats() for each in self.freedom.dependencies))
 
-    def finding(self) -> Finding:
-        """All of it by the names of the drawing."""
+    def finding(self, limit: Limit = Limit()) -> Finding:
+        """All of it by the names of the drawing. What is off by no more than the limit isn't told
+        to contradict; there are places only where all is met."""
         if not self.is_met():
-            return self._unsolved()
+            return self._unsolved(limit)
         motions = self.freedom.motions
         solution = solution_of(self.equations.unknowns, self.found.x)
         return Finding(
@@ -65,7 +67,7 @@ class Searched:
     def finding_with(self, judgement: Judgement, program: Solver) -> Finding:
         """The same; of what is open and has places, those by the program, where it constructs them
         by found values so that each constraint is met."""
-        finding = self.finding()
+        finding = self.finding(judgement.limit)
         if judgement.verdict is not Verdict.OPEN or finding.solution is None:
             return finding
         construction = construct(self.drawing, self.equations, self.found.x, self.freedom, program)
@@ -76,24 +78,24 @@ class Searched:
                        chosen=tuple(map(line_of, construction.values())),
                        only_measured=tuple(line_of(each.gone) for each in construction.swaps))
 
-    def _unsolved(self) -> Finding:
+    def _unsolved(self, limit: Limit) -> Finding:
         """What is found without places: the freedoms are those without the latest constraint of
         what is taken for a contradiction. Where the search has ended with an edge or a rim that has
         shrunk to nothing, it is stuck, and nothing is told to contradict."""
         free = self.freedom if self.equations.unknowns.count <= MOST_RANKED else None
-        groups = contradictions(self.equations, self.found, free)
+        groups = contradictions(self.equations, self.found, free, limit.amount)
         is_stuck = has_shrunk(self.equations, self.found.x)
         drawing = self.drawing
         for latest in sorted({numbers[0] for numbers in groups}, reverse=True):
             drawing = without(drawing, latest)
         rest = Searched(drawing, REST_SECONDS).freedom if groups else self.freedom
         return Finding(rest.count, rest.motions.of_the_whole, True,
-                       repeats=self._repeats(free) if free is not None else (),
+                       repeats=self._repeats(free, limit.amount) if free is not None else (),
                        contradictions=() if is_stuck else tuple(map(self._names, groups)))
 
-    def _repeats(self, free: Freedom) -> tuple[Group, ...]:
+    def _repeats(self, free: Freedom, within_nm: float = SAME_NM) -> tuple[Group, ...]:
         """What says what others do, the latest first."""
-        repeats = (each for each in free.dependencies if each.repeats())
+        repeats = (each for each in free.dependencies if each.repeats(within_nm))
         groups = map(self._group, sorted(repeats, key=_latest, reverse=True))
         return tuple(dict.fromkeys(groups))
 
