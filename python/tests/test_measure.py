@@ -12,6 +12,7 @@ import pytest
 from pertxogai.drawing import Arc, Circle, PointRef, Which, read_drawing
 from pertxogai.judging.measure import (
     Because, Frame, MissingPlace, Solution, Unit, greatest, measure, measure_placed)
+from pertxogai.judging.measure.measuring import measure_one
 
 SHAPES = """\
 point O 0 0
@@ -200,6 +201,19 @@ def test_radius_changed(line, rim, by, nm):
     assert amounts(drawing, solution) == (0, None)
     radii = {**solution.radii, rim: solution.radii[rim] + by}
     assert amounts(drawing, Solution(solution.points, radii)) == (nm, None)
+
+
+def test_one_constraint_is_measured_by_itself():
+    # The second is 30 mm long by its words, and 4 nm more on these places; the hole has none.
+    drawing = read_drawing("segment Base 0 0 60 0\nsegment Side 0 0 0 30\ncircle Hole 9 9 3\n"
+                           "x Hole 9\nlength Base 60\nlength Side 30\n")
+    spots = {"Base.start": (0, 0), "Base.end": (60_000_000, 0), "Side.start": (0, 0),
+             "Side.end": (0, 30_000_004)}
+    solution = Solution({ref_of(name): spot for name, spot in spots.items()})
+    (off,) = measure_one(drawing, solution, 3)
+    assert (off.number, off.of, off.amount, off.unit) == (3, drawing.constraints[2], 4, Unit.NM)
+    with pytest.raises(MissingPlace):
+        measure_one(drawing, solution, 1)
 
 
 def test_every_constraint_has_a_case():

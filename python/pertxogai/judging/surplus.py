@@ -15,7 +15,7 @@ from pertxogai.exact import whole_up
 from pertxogai.judging.freedoms import Freedoms, Gone, freedoms
 from pertxogai.judging.measure.deviation import Deviation, Unit, worst
 from pertxogai.judging.measure.limit import Limit
-from pertxogai.judging.measure.measuring import measure
+from pertxogai.judging.measure.measuring import measure_one
 from pertxogai.judging.pieces_measured import off_in_pieces
 from pertxogai.judging.remembering import Remembering
 from pertxogai.judging.roundings import (
@@ -243,7 +243,7 @@ class _Trials:
         if not isinstance(asked.solved, Solved):
             return None
         places = solution_of(without(self.drawing, gone), asked, asked.solved)
-        return worst(measure(self.drawing, places), number)
+        return worst(measure_one(self.drawing, places, number), number)
 
     def _with_rounding(self, tried: Surplus, gone: frozenset[int]) -> Surplus:
         """The same, of what is off by no more than rounding is looked at for, where the angles of

@@ -67,6 +67,12 @@ def measure(drawing: Drawing, solution: Solution) -> Deviations:
     return Measurement(drawing, solution).all
 
 
+def measure_one(drawing: Drawing, solution: Solution, number: int) -> Deviations:
+    """As `measure`, of the constraint of that number alone, from 1."""
+    constraint = drawing.constraints[number - 1]
+    return _each(number, constraint, amounts(Placed(drawing, solution), constraint))
+
+
 def measure_placed(drawing: Drawing, solution: Solution) -> Deviations:
     """As `measure`, of those alone whose places were all printed: one part of an open drawing."""
     return tuple(_deviations(Placed(drawing, solution)))
