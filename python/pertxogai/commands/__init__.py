@@ -153,7 +153,8 @@ def _command(commands: Commands, name: str, what: str) -> argparse.ArgumentParse
 
 
 def _scale_of(word: str) -> Fraction:
-    """The scale of a picture: millimetres of paper for one of the drawing, from 1:1000 to 1000:1."""
+    """The scale of a picture: millimetres of paper for one of the drawing. Raises
+    ArgumentTypeError."""
     parts = word.split(":")
     if len(parts) != 2 or not all(it.isascii() and it.isdigit() and len(it) < 5 for it in parts):
         raise argparse.ArgumentTypeError(f"{word!r} is no scale as 1:2")
