@@ -14,7 +14,7 @@ from pertxogai.completing.fixes import proposals
 from pertxogai.completing.proposal import Completion, NoProposal, WhyNot
 from pertxogai.completing.slack import Slack, Remaining
 from pertxogai.completing.from_program import Words
-from pertxogai.drawing import Drawing
+from pertxogai.drawing import Constraint, Drawing
 from pertxogai.judging import Question, first_good
 from pertxogai.judging.measure import Limit
 from pertxogai.program import Solver

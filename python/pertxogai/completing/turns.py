@@ -12,7 +12,7 @@ from pertxogai.completing.figure import Figure, ends
 from pertxogai.completing.slack import Demand, Remaining, Slack
 from pertxogai.completing.values import round_um
 from pertxogai.drawing import (
-    Constraint, Length, PointRef, Segment, Sense, ShapeRef, XDistance, YDistance)
+    Constraint, Length, PointRef, Sense, ShapeRef, XDistance, YDistance)
 
 MOST_EDGES = 60
 """Of a drawing with more edges, only the first are looked at."""
