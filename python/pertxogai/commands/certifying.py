@@ -31,10 +31,10 @@ def certify(options: argparse.Namespace) -> Exit:
         file.write(claim.encode("ascii"))
     if scale_of(good) > 1:
         print(f"the sketch of the claim is {scale_of(good)} times as large as the drawing")
-    return _checked(claim, program) if options.check else Exit.GOOD
+    return _check_claim(claim, program) if options.check else Exit.GOOD
 
 
-def _checked(claim: str, program: Program) -> Exit:
+def _check_claim(claim: str, program: Program) -> Exit:
     """Tells what each checker answers to a claim."""
     answers = list(checked(claim, program))
     for each in answers:

@@ -28,7 +28,7 @@ def complete_file(options: argparse.Namespace) -> Exit:
         inputs = (chosen(inputs, options.sketch),)
     drawings = [_drawing(each, options.file) for each in inputs]
     program = program_of(options)
-    found = [_completed(each, program, options) for each in drawings]
+    found = [_complete(each, program, options) for each in drawings]
     if options.json:
         sketches = [completion_json(it.name, each, it.left_out)
                     for it, each in zip(drawings, found)]
@@ -48,7 +48,7 @@ def _drawing(found: Input, path: Path) -> DesignerDrawing:
     return found
 
 
-def _completed(found: DesignerDrawing, program: Solver, options: argparse.Namespace) -> Found:
+def _complete(found: DesignerDrawing, program: Solver, options: argparse.Namespace) -> Found:
     with made_of(found):
         return complete(found.drawing, program, options.within)
 

@@ -44,11 +44,11 @@ def outcome_of(found: Input, program: Solver, options: argparse.Namespace) -> Ou
 
         with made_of(found):
             judged = replace(judged, stored=as_stored(judged.judgement, program))
-    return DrawingOutcome(_searched(judged, program, options))
+    return DrawingOutcome(_with_finding(judged, program, options))
 
 
-def _searched(judged: CountedDrawing, program: Solver,
-              options: argparse.Namespace) -> CountedDrawing:
+def _with_finding(judged: CountedDrawing, program: Solver,
+                  options: argparse.Namespace) -> CountedDrawing:
     """The same with what is found by numbers: where it isn't well, its freedoms and what would
     complete it; what it nearly has, where that is asked for. Without numpy or scipy, with what to
     install."""
@@ -62,12 +62,12 @@ def _searched(judged: CountedDrawing, program: Solver,
         from pertxogai.search import search_judged
 
         finding = search_judged(judged.drawing, judged.judgement, program)
-        return replace(judged, finding=finding, proposed=_proposed(judged, program))
+        return replace(judged, finding=finding, proposed=_proposals(judged, program))
     except MissingLibrary as missing:
         return replace(judged, not_searched=str(missing))
 
 
-def _proposed(judged: JudgedDrawing, program: Solver) -> tuple[str, ...]:
+def _proposals(judged: JudgedDrawing, program: Solver) -> tuple[str, ...]:
     """The lines with which a drawing that is open is well; none where none are found."""
     if judged.judgement.verdict is not Verdict.OPEN:
         return ()

@@ -49,7 +49,7 @@ def judge_files(options: argparse.Namespace) -> Exit:
         raise CommandError("--jobs takes a whole number from 1 on")
     program_of(options)  # What is wrong with all of them is told once.
     counts: Counter[Exit] = Counter()
-    for judged in _judged(options):
+    for judged in _judge_each(options):
         print(*judged.lines, sep="\n", flush=True)
         counts[judged.exit] += 1
         _show_progress(counts.total(), len(options.file))
@@ -57,7 +57,7 @@ def judge_files(options: argparse.Namespace) -> Exit:
     return max(counts)
 
 
-def _judged(options: argparse.Namespace) -> Iterator[JudgedFile]:
+def _judge_each(options: argparse.Namespace) -> Iterator[JudgedFile]:
     """What becomes of each file, in their order. Raises CommandError."""
     plain = argparse.Namespace(**{name: value for name, value in vars(options).items()
                                   if name not in ("act", "file")})
@@ -79,11 +79,11 @@ def judged_file(path: Path, options: argparse.Namespace) -> JudgedFile:
         program = program_of(options)
         outcomes = [outcome_of(it, program, options) for it in read_inputs(path)]
     except TextRefused as refused:
-        return _refused(path, f"{path}: {refused.told}", Exit.BAD_INPUT, options.json)
+        return _refusal(path, f"{path}: {refused.told}", Exit.BAD_INPUT, options.json)
     except (CommandError, FileRefusal, InputRefused) as error:
-        return _refused(path, str(error), Exit.BAD_INPUT, options.json)
+        return _refusal(path, str(error), Exit.BAD_INPUT, options.json)
     except ProgramError as error:
-        return _refused(path, str(error), Exit.NO_ANSWER, options.json)
+        return _refusal(path, str(error), Exit.NO_ANSWER, options.json)
     ends = Exit.NOT_GOOD if any(it.reasons() for it in outcomes) else Exit.GOOD
     if options.json:
         return JudgedFile(ends, (json.dumps(file_json(path, outcomes)),))
@@ -98,7 +98,7 @@ def _line(path: Path, outcome: Outcome) -> str:
     return printable(f"{path}: {outcome.name}: {outcome.verdict().value}, {said}")
 
 
-def _refused(path: Path, why: str, ends: Exit, as_json: bool) -> JudgedFile:
+def _refusal(path: Path, why: str, ends: Exit, as_json: bool) -> JudgedFile:
     """What is told of a file that there is no judgement on."""
     why = " ".join(why.split())
     if as_json:

@@ -28,7 +28,7 @@ def moved(drawing: Drawing, before: Drawing) -> frozenset[str] | None:
             if _structure(shape) != _structure(old):
                 return None
             found.add(shape.name)
-        elif any(spot is not None and spot.shape in found for spot in _shared(shape)):
+        elif any(spot is not None and spot.shape in found for spot in _shared_points(shape)):
             found.add(shape.name)
     found |= {led.shape for led, leader in before.meetings.led() if leader.shape in found}
     return frozenset(found)
@@ -58,11 +58,11 @@ def _joining(drawing: Drawing) -> tuple[Constraint, ...]:
 
 def _structure(shape: Shape) -> tuple[object, ...]:
     """What of a shape isn't where it is drawn."""
-    return type(shape), shape.name, shape.outer, _shared(shape)
+    return type(shape), shape.name, shape.outer, _shared_points(shape)
 
 
 @cached_on
-def _shared(shape: Shape) -> tuple[PointRef | None, ...]:
+def _shared_points(shape: Shape) -> tuple[PointRef | None, ...]:
     """The points of others that a shape has for its own, each at its place."""
     spots = (spot_of(shape, each.which) for each in points_of(shape))
     return tuple(spot if isinstance(spot, PointRef) else None for spot in spots)

@@ -47,14 +47,14 @@ def read_constraints(word: ConstraintWord, words: Cursor, name: str | None
 
     A word that takes two shapes takes more as well, and says the same of the first and each
     further one. Such a line is several constraints, and has no name."""
-    asked = tuple(_asked(word, words, name))
+    asked = tuple(_read_all(word, words, name))
     words.end()
     if name is not None and len(asked) != 1:
         raise WordFault(name, f"names {len(asked)} constraints: write a line for each of them")
     return asked
 
 
-def _asked(word: ConstraintWord, words: Cursor, name: str | None) -> Iterable[Constraint]:
+def _read_all(word: ConstraintWord, words: Cursor, name: str | None) -> Iterable[Constraint]:
     match word:
         case ConstraintWord.COINCIDENT:
             first, rest = _points(words)
@@ -79,7 +79,7 @@ def _asked(word: ConstraintWord, words: Cursor, name: str | None) -> Iterable[Co
               | ConstraintWord.CONCENTRIC):
             return _same(word, words, name)
         case _:
-            return _valued(word, words, name)
+            return _read_valued(word, words, name)
 
 
 def _same(word: ConstraintWord, words: Cursor, name: str | None) -> Iterable[Constraint]:
@@ -100,7 +100,7 @@ def _same(word: ConstraintWord, words: Cursor, name: str | None) -> Iterable[Con
                 yield Concentric(first, second, name)
 
 
-def _valued(word: ConstraintWord, words: Cursor, name: str | None) -> Iterable[Constraint]:
+def _read_valued(word: ConstraintWord, words: Cursor, name: str | None) -> Iterable[Constraint]:
     match word:
         case ConstraintWord.ANGLE:
             return (_angle(words, name),)

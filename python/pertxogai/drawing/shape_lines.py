@@ -39,7 +39,7 @@ def read_shape(word: ShapeWord, flags: frozenset[Flag], words: Cursor) -> Expans
     _check_blank(word, name, words)
     said = _read_shape(word, name, words)
     words.end()
-    shapes = tuple(_flagged(shape, flags) for shape in said.shapes)
+    shapes = tuple(_with_flags(shape, flags) for shape in said.shapes)
     for shape in shapes:
         check_shape(words.scene, shape)
         words.scene.add(shape)
@@ -58,7 +58,7 @@ def _check_blank(word: ShapeWord, name: str, words: Cursor) -> None:
     raise WordFault(second, f"isn't drawn: write its line further up, or {belongs}{near}")
 
 
-def _flagged(shape: Shape, flags: frozenset[Flag]) -> Shape:
+def _with_flags(shape: Shape, flags: frozenset[Flag]) -> Shape:
     return replace(shape, construction=Flag.CONSTRUCTION in flags, outer=Flag.OUTER in flags)
 
 

@@ -86,16 +86,16 @@ def ends_made_one(drawing: Drawing) -> tuple[int, str] | None:
     """The number of the first constraint that leaves both ends of a segment or an arc one point,
     with the shape's name; None where none does."""
     said = drawing.constraints
-    if _closed(drawing) is None:
+    if _closed_shape(drawing) is None:
         return None
-    number = bisect_left(range(len(said)), True, key=lambda count: _closed(
+    number = bisect_left(range(len(said)), True, key=lambda count: _closed_shape(
         Drawing(drawing.geometry, said[:count + 1])) is not None) + 1
-    name = _closed(Drawing(drawing.geometry, said[:number]))
+    name = _closed_shape(Drawing(drawing.geometry, said[:number]))
     assert name is not None
     return number, name
 
 
-def _closed(drawing: Drawing) -> str | None:
+def _closed_shape(drawing: Drawing) -> str | None:
     """The first segment or arc of which both ends are one point."""
     same = drawing.meetings.same
     return next((shape.name for shape in drawing.geometry if isinstance(shape, Segment | Arc)

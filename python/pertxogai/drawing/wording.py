@@ -77,7 +77,7 @@ def words_of(constraint: Constraint) -> str:
         case Parallel() | Collinear() | Equal() | Concentric():
             return f"{_word(constraint)} {constraint.first} {constraint.second}"
         case _:
-            return _sized(constraint)
+            return _size_text(constraint)
 
 
 def _word(constraint: Constraint) -> str:
@@ -118,7 +118,7 @@ def asked_of(constraint: Valued) -> tuple[str, ...]:
     return tuple(words_of(constraint).removesuffix(value_text(constraint)).split())
 
 
-def _sized(constraint: Sized) -> str:
+def _size_text(constraint: Sized) -> str:
     value = value_text(constraint)
     match constraint:
         case Length(segment):

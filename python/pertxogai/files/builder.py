@@ -53,7 +53,7 @@ class DrawingBuilder:
             self.leave_out(name, str(fault))
             return
         for constraint in said:
-            self._constraints.append(replace(constraint, name=self._fitted(name)))
+            self._constraints.append(replace(constraint, name=self._free_name(name)))
             self._numbers.append(number)
 
     def is_left(self, first: ShapeRef, second: ShapeRef) -> bool:
@@ -78,7 +78,7 @@ class DrawingBuilder:
                       for which in (Which.START, Which.END))
         return end.x_um - start.x_um, end.y_um - start.y_um
 
-    def _fitted(self, name: str) -> str:
+    def _free_name(self, name: str) -> str:
         """A name of a constraint that a drawing takes and that is free, near to the given one."""
         plain = "".join(letter if letter.isprintable() and letter not in ":#" else " "
                         for letter in name)

@@ -73,10 +73,10 @@ def read_inputs(path: Path) -> tuple[Input, ...]:
     except OSError as error:
         raise InputRefused(f"{path}: can't be read: {error.strerror or error}") from None
     except (DrawingRefusal, FileRefusal) as refusal:
-        raise InputRefused(_named(path, str(refusal))) from None
+        raise InputRefused(_with_path(path, str(refusal))) from None
 
 
-def _named(path: Path, refusal: str) -> str:
+def _with_path(path: Path, refusal: str) -> str:
     return refusal if refusal.startswith(str(path)) else f"{path}: {refusal}"
 
 
@@ -94,22 +94,22 @@ def _read_drawing(path: Path) -> tuple[Input, ...]:
 def _read_freecad(path: Path) -> tuple[Input, ...]:
     from pertxogai.files.freecad.reading import read_freecad
 
-    return tuple(map(_found, read_freecad(path)))
+    return tuple(map(_designer_drawing, read_freecad(path)))
 
 
 def _read_solvespace(path: Path) -> tuple[Input, ...]:
     from pertxogai.files.solvespace.reading import read_solvespace
 
-    return tuple(map(_found, read_solvespace(path)))
+    return tuple(map(_designer_drawing, read_solvespace(path)))
 
 
 def _read_outline(path: Path) -> tuple[Input, ...]:
     from pertxogai.files.dxf.reading import read_outline
 
-    return (_found(read_outline(path).accepted()),)
+    return (_designer_drawing(read_outline(path).accepted()),)
 
 
-def _found(found: FileSketch) -> DesignerDrawing:
+def _designer_drawing(found: FileSketch) -> DesignerDrawing:
     aside = tuple(printable(f"{each.name} ({each.why.value})") for each in found.aside)
     return DesignerDrawing(
         printable(found.label or found.name),

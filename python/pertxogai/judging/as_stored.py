@@ -67,7 +67,7 @@ def as_stored(judged: Judgement, program: Solver) -> StoredOffs:
     """How far the stored places of a judged drawing are off. Raises ProgramError; Refusal where the
     program refuses the places, as those of a text that is too long."""
     stored = _Stored(judged)
-    told = _asked(judged, stored, program)
+    told = _ask_measure(judged, stored, program)
     owners = judged.asked.spelled.owners
     numbers = {each.number for place in stored.lines for each in _words(owners[place])
                if not each.shape}
@@ -91,7 +91,7 @@ def _solution(drawing: Drawing) -> Solution:
     return Solution(points, radii)
 
 
-def _asked(judged: Judgement, stored: _Stored, program: Solver) -> Measured | None:
+def _ask_measure(judged: Judgement, stored: _Stored, program: Solver) -> Measured | None:
     """What `measure` says of the lines that can be measured; None where there is none."""
     if not stored.lines:
         return None

@@ -27,7 +27,7 @@ def contradictions(rails: Rails, spelled: Spelled, report: PartsReport,
         known.add(form, number)
     said = spelled.left_out.union(*spelled.owners)
     found = []
-    for form, owners in _unspelled(rails):
+    for form, owners in _unspelled_forms(rails):
         rest = known.reduced(form)
         if rest.terms:
             known.add(form, -1)
@@ -71,7 +71,7 @@ def _middles(rails: Rails, spelled: Spelled,
                     yield fact.owner, distance(middle, (x, y))
 
 
-def _unspelled(rails: Rails) -> Iterator[tuple[Form, frozenset[Owner]]]:
+def _unspelled_forms(rails: Rails) -> Iterator[tuple[Form, frozenset[Owner]]]:
     """What neither rails nor sizes say, as forms that are 0, and who says so."""
     for pending in rails.pending:
         yield pending.form, rails.axes.equations[pending.number].owners

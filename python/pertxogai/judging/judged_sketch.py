@@ -79,7 +79,7 @@ def judge_sketch(
 
 def _output_of(name: str, command: str, text: str, asks: Solver, *keys: str) -> str:
     """What a command writes, where it does its work. Raises TextRefused and NotAReport."""
-    return _done(name, asks.ask([command, *keys], text), text).text
+    return _done_answer(name, asks.ask([command, *keys], text), text).text
 
 
 def _with_places(
@@ -92,11 +92,11 @@ def _with_places(
         fault = read_fault(answer.text)
         turned = tried(sketch, beneath(plan, fault), asks, [within])
         return JudgedSketch(name, sketch, check, None, fault, plan, limit=limit, tried=turned)
-    solved = read_solve(_done(name, answer, text).text)
+    solved = read_solve(_done_answer(name, answer, text).text)
     return JudgedSketch(name, sketch, check, solved, limit=limit)
 
 
-def _done(name: str, answer: Answer, text: str) -> Answer:
+def _done_answer(name: str, answer: Answer, text: str) -> Answer:
     """The answer, where the command did its work. Raises TextRefused and NotAReport."""
     if answer.status is Status.REFUSED:
         raise TextRefused(name, read_refusal(answer.text), text)
@@ -118,13 +118,13 @@ def concerned(judged: JudgedSketch) -> tuple[Constraint, ...]:
     if isinstance(fault, TurnedFault) and not fault.of.is_step:
         return (constraints[fault.of.number - 1],)
     if isinstance(fault, (NumberFault, RangeFault)):
-        return _constraints_joined(judged.plan, fault.at.step)
+        return _joined_constraints(judged.plan, fault.at.step)
     if isinstance(fault, TurnedFault):
-        return _constraints_joined(judged.plan, fault.of.number)
+        return _joined_constraints(judged.plan, fault.of.number)
     return ()
 
 
-def _constraints_joined(plan: Plan | None, step: int) -> tuple[Constraint, ...]:
+def _joined_constraints(plan: Plan | None, step: int) -> tuple[Constraint, ...]:
     """The constraints of the clusters that a step joins, where these are its own leaves."""
     if plan is None:
         return ()

@@ -362,13 +362,14 @@ def _is_met(judged: Judgement, shape: Shape) -> bool:
 def with_counts(judged: Judgement, program: Solver) -> CountedJudgement:
     """The judgement with the program's parts and counts also of what is well. Raises
     ProgramError."""
-    known = judged if isinstance(judged, WeighedJudgement) else _weighed(judged, judged.state)
+    known = (judged if isinstance(judged, WeighedJudgement)
+             else _weighed_judgement(judged, judged.state))
     return CountedJudgement(known.verdict, counted(known.asked, program), known.names, known.state,
                             known.limit, known.loose, known.unmet, known.tried)
 
 
-def _weighed(judged: Judgement, state: State, loose: tuple[str, ...] = (),
-             unmet: tuple[str, ...] | None = None) -> WeighedJudgement:
+def _weighed_judgement(judged: Judgement, state: State, loose: tuple[str, ...] = (),
+                       unmet: tuple[str, ...] | None = None) -> WeighedJudgement:
     """A judgement with what its weighing told."""
     return WeighedJudgement(judged.verdict, judged.asked, judged.names, state, judged.limit, loose,
                             unmet)
@@ -382,12 +383,12 @@ def weighed(judged: Judgement, program: Solver) -> WeighedJudgement:
     """The judgement with each dimension that may go tried, and measured on the rest; of what isn't
     over and has no shape, with what isn't met. Raises as `judge_at_once`."""
     if isinstance(judged.state, WithPlaces):
-        return _weighed(judged, judged.state)
+        return _weighed_judgement(judged, judged.state)
     from pertxogai.judging.missing import loose, unmet
 
     drawing = judged.names.drawing
     if not isinstance(judged.state, WithSurplus):
-        return _weighed(judged, judged.state, unmet=unmet(drawing))
+        return _weighed_judgement(judged, judged.state, unmet=unmet(drawing))
     from pertxogai.judging.groups import groups_of
     from pertxogai.judging.surplus import what_may_go
 
@@ -396,7 +397,7 @@ def weighed(judged: Judgement, program: Solver) -> WeighedJudgement:
         numbers = [each.number for each in surplus]
         groups = groups_of(judged.names, program, numbers, judged.asked.check)
         surplus = tuple(replace(each, others=groups.get(each.number, ())) for each in surplus)
-    return _weighed(judged, WithSurplus(surplus), loose(judged.names))
+    return _weighed_judgement(judged, WithSurplus(surplus), loose(judged.names))
 
 
 __all__ = ["CountedJudgement", "Judgement", "WeighedJudgement", "judge", "judge_at_once",

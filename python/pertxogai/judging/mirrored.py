@@ -92,11 +92,11 @@ def _pieces(edges: Edges) -> Iterator[list[Edge]]:
         ended = {leader for edge in found for leader in edges.leaders(edge)}
         beside = (edges.of_distance(each) for each in told)
         found += [each for each in beside if ended.isdisjoint(edges.leaders(each))]
-        yield from _closed_or_chained(edges, found)
+        yield from _outlines(edges, found)
     yield from _points_by_distances(edges, shapes, [edges.of_distance(each) for each in told])
 
 
-def _closed_or_chained(edges: Edges, found: Sequence[Edge]) -> Iterator[list[Edge]]:
+def _outlines(edges: Edges, found: Sequence[Edge]) -> Iterator[list[Edge]]:
     """What closes up; and of what doesn't, what hangs together."""
     closed = [each for each in blocks([edges.leaders(edge) for edge in found])
               if len(each) >= LEAST_CLOSED]

@@ -50,11 +50,11 @@ def moved_by_rounding(spelled: Spelled, lines: Sequence[int], off: Deviation,
     them has no value beside it with which it can be measured, below or above."""
     if len(lines) > MOST_ROUNDED:
         return 0
-    moves = [_moved(spelled, number - 1, off, measured) for number in lines]
+    moves = [_movement(spelled, number - 1, off, measured) for number in lines]
     return sum(each for each in moves if each is not None) if None not in moves else 0
 
 
-def _moved(spelled: Spelled, place: int, off: Deviation, measured: Off) -> int | None:
+def _movement(spelled: Spelled, place: int, off: Deviation, measured: Off) -> int | None:
     """By how much the rounding of one value moves it; None where that isn't known."""
     found = [there for each in _told_otherwise(spelled, place)
              if (there := measured(each)) is not None and there.unit is off.unit]

@@ -60,7 +60,7 @@ def check_shape(words: Sequence[str], version: int) -> None:
 
 def read_element(words: Sequence[str], declared: Declared | None) -> Element:
     """The element of words that have the shape of one. Raises Faulty: E4, E5, E8, E9, E11."""
-    name = _named(words[1])
+    name = _read_name(words[1])
     if declared and name in declared.elements:
         raise Faulty(Code.E5)
     numbers = [_um(word) for word in words[2:]]
@@ -76,7 +76,7 @@ def read_element(words: Sequence[str], declared: Declared | None) -> Element:
 def read_constraint(words: Sequence[str], declared: Declared | None) -> Constraint:
     """The constraint of words that have the shape of one. Raises Faulty: E4, E6, E7, E8, E9."""
     first = words[0]
-    names = tuple(_named(word) for word in (words[1::3] if first == "block" else words[1:3]))
+    names = tuple(_read_name(word) for word in (words[1::3] if first == "block" else words[1:3]))
     if declared:
         declared.check_kinds(_TYPES[first], names)
     if first == "block":
@@ -111,7 +111,7 @@ def _block(names: tuple[str, ...], numbers: list[int]) -> Block:
     return Block(places)
 
 
-def _named(word: str) -> str:
+def _read_name(word: str) -> str:
     if not is_name(word):
         raise Faulty(Code.E4)
     return word

@@ -15,13 +15,13 @@ def completion_lines(name: str, found: Completion | NoProposal,
     """What is proposed of a drawing of that name, or why nothing is, in lines to read. left_out:
     what of its file the drawing can't say."""
     if isinstance(found, Completion):
-        yield from _proposed(name, found)
+        yield from _proposal_lines(name, found)
     else:
         yield f"{name}: {found.verdict.value}: {found.why.value}{_but_not_good(found)}"
     yield from (f"  left out of the file: {what}" for what in left_out)
 
 
-def _proposed(name: str, found: Completion) -> Iterator[str]:
+def _proposal_lines(name: str, found: Completion) -> Iterator[str]:
     yield (f"{name}: {_count(len(tuple(found.all())), 'line')} to add, and what each fixes "
            "(by numbers)")
     yield from (f"  {each.line()}{_fixes(each)}" for each in found.proposals)

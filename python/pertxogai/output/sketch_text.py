@@ -20,8 +20,8 @@ def sketch_lines(judged: JudgedSketch) -> Iterator[str]:
         f" {check.constraints}, parts"
         f" {len(check.parts)}"
     )
-    yield from _placed(judged)
-    yield from _faulted(judged)
+    yield from _place_lines(judged)
+    yield from _fault_lines(judged)
     if judged.parts:
         yield from (f"  {part.text().strip()}" for part in check.parts)
     if judged.excess:
@@ -35,7 +35,7 @@ def sketch_lines(judged: JudgedSketch) -> Iterator[str]:
         yield "  what to do: tie the parts by a dimension between elements of two of them"
 
 
-def _placed(judged: JudgedSketch) -> Iterator[str]:
+def _place_lines(judged: JudgedSketch) -> Iterator[str]:
     """Within what it is placed, and where each element lies."""
     if judged.solved:
         length = units_text(judged.solved.length_tolerance_nm, Unit.NM)
@@ -44,7 +44,7 @@ def _placed(judged: JudgedSketch) -> Iterator[str]:
         yield from (f"  {placed.text()}" for placed in judged.solved.places)
 
 
-def _faulted(judged: JudgedSketch) -> Iterator[str]:
+def _fault_lines(judged: JudgedSketch) -> Iterator[str]:
     """What fails, the constraints that it is about, and what helps."""
     if judged.fault:
         yield f"  {judged.fault.text().strip()}"

@@ -86,7 +86,7 @@ class LiveProgram:
         if words == ["end"] and not row.fault():
             self.end()
             return None
-        reply = self._written(given, has_reply=bool(words or row.fault()))
+        reply = self._exchange(given, has_reply=bool(words or row.fault()))
         return read_reply(reply) if reply else None
 
     def end(self) -> Status:
@@ -124,7 +124,7 @@ class LiveProgram:
             self.end()
         self._stop()
 
-    def _written(self, line: bytes, has_reply: bool) -> str:
+    def _exchange(self, line: bytes, has_reply: bool) -> str:
         """The text of the reply to a line. Whatever fails, the talk is over then."""
         if self.over:
             raise self.over
@@ -135,7 +135,7 @@ class LiveProgram:
                 left = self._serve(left, line, ends)
             reply = bytes(self.rest[:size])
             del self.rest[: size + len(FENCED)]
-            return self._decoded(reply)
+            return self._decode(reply)
         except BaseException:
             self._stop()
             raise
@@ -184,20 +184,20 @@ class LiveProgram:
                 f"a reply has over {MOST_BYTES >> 20} MiB: is it the program `sketch`?"
             )
         if not found:
-            raise self._ended(line)
+            raise self._end_error(line)
 
-    def _ended(self, line: bytes) -> ProgramError:
+    def _end_error(self, line: bytes) -> ProgramError:
         """That the program ended before it answered."""
         try:
             self.process.wait(self.seconds)
         except subprocess.TimeoutExpired:
             return self._late(line)
         ended = self._how_it_ended()
-        status, before = _status(ended.code), f"before it answered {_shown(line)}"
+        status, before = _status(ended.code), f"before it answered {_quote(line)}"
         if status is None:
             return ProgramCrashed(f"the program {ended.how()}, {before}")
         last = ended.written.splitlines()[-1:]
-        said = "".join(f", and wrote {_shown(it)}" for it in last)
+        said = "".join(f", and wrote {_quote(it)}" for it in last)
         return LiveEnded(f"the program ended with status {status.value} {before}{said}", status)
 
     def _how_it_ended(self) -> Ended:
@@ -209,11 +209,11 @@ class LiveProgram:
 
     def _late(self, line: bytes) -> ProgramTimedOut:
         return ProgramTimedOut(
-            f"the program took over {self.seconds:g} s for {_shown(line)} and was stopped: give it"
+            f"the program took over {self.seconds:g} s for {_quote(line)} and was stopped: give it"
             " more seconds, or a smaller sketch"
         )
 
-    def _decoded(self, reply: bytes) -> str:
+    def _decode(self, reply: bytes) -> str:
         try:
             return reply.decode("ascii")
         except UnicodeDecodeError:
@@ -238,6 +238,6 @@ def _status(code: int) -> Status | None:
     return Status(code) if code in list(Status) else None
 
 
-def _shown(line: bytes) -> str:
+def _quote(line: bytes) -> str:
     """A line as a message shows it."""
     return repr(line[:60].decode("ascii", "replace"))

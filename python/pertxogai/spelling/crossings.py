@@ -16,10 +16,10 @@ def with_crossings(facts: Facts) -> Facts:
         lines = Lines(facts)
         if lines.crossing is None:
             return facts
-        facts = _met(facts, lines, lines.crossing)
+        facts = _join(facts, lines, lines.crossing)
 
 
-def _met(facts: Facts, lines: Lines, crossing: Crossing) -> Facts:
+def _join(facts: Facts, lines: Lines, crossing: Crossing) -> Facts:
     """The facts with the two points of a crossing made one: that both lie on both lines says so,
     and nothing else."""
     met = {*lines.names(crossing.first), *lines.names(crossing.second)}

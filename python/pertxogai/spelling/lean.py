@@ -28,21 +28,21 @@ class Lean:
         """The lean of lines with this turn."""
         match turn:
             case Degrees(value):
-                return _made(value, 1, 0)
+                return _make(value, 1, 0)
             case Slope(p, q, _):
-                return _made(Fraction(0), q, p)
+                return _make(Fraction(0), q, p)
 
     def __add__(self, other: Lean) -> Lean:
         if other.level():
             return self
         if self.level():
             return other
-        return _made(self.degrees + other.degrees,
+        return _make(self.degrees + other.degrees,
                      self.ahead * other.ahead - self.left * other.left,
                      self.ahead * other.left + self.left * other.ahead)
 
     def __neg__(self) -> Lean:
-        return self if self.level() else _made(-self.degrees, self.ahead, -self.left)
+        return self if self.level() else _make(-self.degrees, self.ahead, -self.left)
 
     def level(self) -> bool:
         """Whether the lines are parallel."""
@@ -97,19 +97,19 @@ def _halves(lean: Lean) -> tuple[Lean, Lean]:
 
 def _pair(goal: float, p: int, q: int) -> tuple[Lean, Lean] | None:
     """The lean of a small ratio, and that of the ratio nearest the rest."""
-    first = _made(Fraction(0), q, p)
+    first = _make(Fraction(0), q, p)
     tangent = tan(goal - first.radians())
     if not 0.01 <= abs(tangent) <= 100:
         return None
     rest = nearest_ratio(Fraction(tangent), 1)
-    return first, _made(Fraction(0), rest[1], rest[0])
+    return first, _make(Fraction(0), rest[1], rest[0])
 
 
 SQUARE = Lean(Fraction(90))
 """A right angle."""
 
 
-def _made(degrees: Fraction, ahead: int, left: int) -> Lean:
+def _make(degrees: Fraction, ahead: int, left: int) -> Lean:
     divisor = gcd(ahead, left)
     ahead, left = ahead // divisor, left // divisor
     if ahead < 0 or (ahead == 0 and left < 0):
@@ -123,7 +123,7 @@ def _made(degrees: Fraction, ahead: int, left: int) -> Lean:
             degrees, ahead, left = degrees - 45, 1, 0
     degrees %= 180
     if left and degrees >= 45:
-        return _made(degrees % 45, *_turn_by_eighths(ahead, left, degrees))
+        return _make(degrees % 45, *_turn_by_eighths(ahead, left, degrees))
     return Lean(degrees, ahead, left)
 
 

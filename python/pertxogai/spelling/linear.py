@@ -78,10 +78,10 @@ class LinearSystem:
         if not rest.terms:
             return Redundant(self.sources(form) | {mark}, rest.number)
         pivot = min(rest.terms, key=self._rank)
-        value = _solved(rest, pivot)
+        value = _solve(rest, pivot)
         users = self._users.pop(pivot, set())
         for user in users:
-            self._keep(user, _put(self._values[user], pivot, value))
+            self._keep(user, _substitute(self._values[user], pivot, value))
         self._keep(pivot, value)
         self._kept.append((form, mark))
         self._changed |= users
@@ -140,13 +140,13 @@ class _Mark:
     mark: int
 
 
-def _solved(rest: Form, pivot: Hashable) -> Form:
+def _solve(rest: Form, pivot: Hashable) -> Form:
     """The value of an unknown by rest = 0."""
     others = Form({key: value for key, value in rest.terms.items() if key != pivot}, rest.number)
     return others.times(_inverse(-rest.terms[pivot]))
 
 
-def _put(old: Form, pivot: Hashable, value: Form) -> Form:
+def _substitute(old: Form, pivot: Hashable, value: Form) -> Form:
     """A form with an unknown's value in its place; one that no longer has it stays."""
     factor = old.terms.get(pivot)
     if factor is None:

@@ -56,10 +56,10 @@ class Lines:
     def _take(self, fact: object) -> None:
         match fact:
             case Lies(point, line, owner):
-                self._put(point, line, owner)
+                self._add_member(point, line, owner)
             case OneLine(first, second, owner):
                 for knot in dict.fromkeys(self._facts.own[second]):
-                    self._put(knot, first, owner)
+                    self._add_member(knot, first, owner)
                 self.join(self.leader(first), self.leader(second))
             case Leans():
                 self.leans.append(fact)
@@ -93,7 +93,7 @@ class Lines:
         """All lines that are one with this."""
         return [each for each in self._facts.own if self.leader(each) == self.leader(line)]
 
-    def _put(self, point: Knot, line: Line, owner: Owner) -> None:
+    def _add_member(self, point: Knot, line: Line, owner: Owner) -> None:
         members = self._members[self.leader(line)]
         if any(each.knot == point for each in members):
             if not any(isinstance(each, OneLine) and each.owner == owner
@@ -122,7 +122,7 @@ class Lines:
         """Joins the first two lines that share two points and are one; False where there are
         none."""
         for first, second in self.sharers():
-            shared = self._shared(first, second)
+            shared = self._shared_points(first, second)
             if len(shared) < 2:
                 continue
             if self._are_one(first, second, shared):
@@ -132,7 +132,7 @@ class Lines:
                 self.crossing = Crossing(first, second, shared[0], shared[1])
         return False
 
-    def _shared(self, first: Line, second: Line) -> list[Knot]:
+    def _shared_points(self, first: Line, second: Line) -> list[Knot]:
         """The points that two lines have in common: the origin first, then own ends."""
         knots = {each.knot for each in self._members[second]}
         members = [each for each in self._members[first] if each.knot in knots]
@@ -148,7 +148,7 @@ class Lines:
         points of them are told apart or the lines parallel, else as they are drawn."""
         if any(self._told_apart({*pair}) for pair in combinations(shared, 2)):
             return True
-        lean = self._known().between(first, second)
+        lean = self._known_directions().between(first, second)
         if lean is not None:
             return lean.level()
         drawn = self._facts.drawn
@@ -169,7 +169,7 @@ class Lines:
         aside = max(abs(a * float(v - y) - b * float(u - x)) for u, v in places)
         return aside / (hypot(a, b) or 1)
 
-    def _known(self) -> Directions:
+    def _known_directions(self) -> Directions:
         """The directions that are told."""
         if self._directions is None:
             self._directions = Directions()

@@ -180,7 +180,7 @@ class _Lowering:
                 upwards = isinstance(constraint, YDistance)
                 self._shift(first, second, upwards, run_um(self.drawing, constraint), owner)
             case Horizontal(of) | Vertical(of):
-                self._aligned(of, isinstance(constraint, Vertical), owner)
+                self._align(of, isinstance(constraint, Vertical), owner)
             case Parallel() | Perpendicular() | AngleBetween() | Collinear():
                 self._leans(constraint, owner)
             case PointOn(point, curve):
@@ -194,7 +194,7 @@ class _Lowering:
             case Symmetric() | Midpoint():
                 self._halves(constraint, owner)
             case Fixed(what):
-                self._fixed(what, owner)
+                self._fix(what, owner)
 
     def _sizes(self, constraint: Length | Distance | Radius | Diameter | Equal,
                owner: Owner) -> None:
@@ -219,7 +219,7 @@ class _Lowering:
         run = Form(number=small(value))
         self._say(Shift(self._knot(first), self._knot(second), upwards, run, owner))
 
-    def _aligned(self, of: ShapeRef | Pair, vertical: bool, owner: Owner) -> None:
+    def _align(self, of: ShapeRef | Pair, vertical: bool, owner: Owner) -> None:
         """Horizontal, or vertical: a segment's line leans so, two points have one y or x."""
         if isinstance(of, ShapeRef):
             self._say(Leans(X_AXIS, of, SQUARE if vertical else LEVEL, owner))
@@ -341,7 +341,7 @@ class _Lowering:
                 self._say(Leans(line, self._through(*ends), SQUARE, owner))
                 self._say(Mirror(*ends, line, owner))
 
-    def _fixed(self, what: PointRef | ShapeRef, owner: Owner) -> None:
+    def _fix(self, what: PointRef | ShapeRef, owner: Owner) -> None:
         if isinstance(what, ShapeRef):
             shape = self.drawing.shape(what.name)
             if not isinstance(shape, (Origin, Axis)):

@@ -63,20 +63,20 @@ def with_halves(axes: Axes) -> Facts | None:
     where none is."""
     for fact in axes.facts.facts:
         if isinstance(fact, Leans) and not fact.lean.left:
-            halved = _halved(axes, fact)
+            halved = _half_lean(axes, fact)
             if halved is not None:
                 facts = [halved if each is fact else each for each in axes.facts.facts]
                 return replace(axes.facts, facts=facts)
     return None
 
 
-def _halved(axes: Axes, fact: Leans) -> Leans | None:
+def _half_lean(axes: Axes, fact: Leans) -> Leans | None:
     first, second = axes.lines.leader(fact.first), axes.lines.leader(fact.second)
     own = axes.frame(first)
     if own.number == 0:
         return None
     for frame in axes.frames:
-        if frame != own and _mirrored(axes, frame, first, second):
+        if frame != own and _is_mirror(axes, frame, first, second):
             half = Lean((-fact.lean.degrees / 2) % 180)
             lean = min((half, half + Lean(Fraction(90))),
                        key=lambda each: _off(axes, frame, first, each))
@@ -84,7 +84,7 @@ def _halved(axes: Axes, fact: Leans) -> Leans | None:
     return None
 
 
-def _mirrored(axes: Axes, frame: Frame, first: Line, second: Line) -> bool:
+def _is_mirror(axes: Axes, frame: Frame, first: Line, second: Line) -> bool:
     one, other = _way_of_line(axes, frame, first), _way_of_line(axes, frame, second)
     if one is None or other is None:
         return False

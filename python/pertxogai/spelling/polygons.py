@@ -151,7 +151,7 @@ def _with_turns(facts: Facts, polygon: Polygon) -> Facts:
     step = Lean(polygon.turn % 180)
     for place, equal in enumerate(polygon.equals):
         rest.append(Leans(polygon.radius(place), polygon.radius(place + 1), step, equal.owner))
-    if not _radius_is_told(facts, polygon.rim):
+    if not _is_radius_told(facts, polygon.rim):
         rest = [_chord_for_radius(facts, fact, polygon) for fact in rest]
     return replace(facts, facts=[fact for fact in rest if not _is_idle(rest, fact)])
 
@@ -198,7 +198,7 @@ def _against_radius(facts: Facts, fact: Fact, polygon: Polygon) -> Fact:
     return fact
 
 
-def _radius_is_told(facts: Facts, rim: RadiusOf) -> bool:
+def _is_radius_told(facts: Facts, rim: RadiusOf) -> bool:
     return any(isinstance(fact, Sized) and rim in fact.form.terms for fact in facts.facts)
 
 

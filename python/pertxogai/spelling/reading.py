@@ -49,10 +49,10 @@ def axes_of(drawing: Drawing, reading: Reading = READINGS[0]) -> Axes:
 
 def axes_said(drawing: Drawing) -> Axes:
     """What a drawing says of x and y, before a reading takes some of it otherwise."""
-    return settled_axes(_met(lowered(drawing)))
+    return settled_axes(_with_meetings(lowered(drawing)))
 
 
-def _met(heard: Facts) -> Facts:
+def _with_meetings(heard: Facts) -> Facts:
     """The facts, with the points that lie in crossings, and without what arcs say twice."""
     return with_half_arcs(with_crossings(replace(heard, own=dict(heard.own))))
 
@@ -77,7 +77,7 @@ def interpretations(heard: Facts, known: Sequence[Interpretation] = ()) -> Itera
 
 def _read(heard: Facts, reading: Reading) -> Facts:
     """The facts as a reading takes them."""
-    facts = with_polygons(_met(heard), reading.middles)
+    facts = with_polygons(_with_meetings(heard), reading.middles)
     if reading.ways:
         facts = with_ways(facts)
     return with_slots(facts) if reading.slots else facts

@@ -162,7 +162,7 @@ class Settling:
     def _alike(self, frame: Frame, upwards: bool, mate: Apart, fact: Apart) -> Form:
         """That two distances run alike along an axis, as they are drawn. Where two points would be
         one so, which are as far from a third, they lie on both sides of it."""
-        way, other = (self._signed(frame, upwards, each) for each in (fact, mate))
+        way, other = (self._signed_run(frame, upwards, each) for each in (fact, mate))
         loose = {fact.first, fact.second} ^ {mate.first, mate.second}
         if len(loose) == 2 and self._is_one(frame, loose, way - other, upwards):
             return way + other
@@ -175,7 +175,7 @@ class Settling:
         ways = along - follows, along + follows
         return reduced(across) == Form() and Form() in map(reduced, ways)
 
-    def _signed(self, frame: Frame, upwards: bool, fact: Apart) -> Form:
+    def _signed_run(self, frame: Frame, upwards: bool, fact: Apart) -> Form:
         """The way along an axis, turned so that it is drawn forwards."""
         sign = self.axes.sign(frame, upwards, fact.first, fact.second)
         return self._run(frame, upwards, fact).times(sign)

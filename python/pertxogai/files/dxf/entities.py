@@ -58,7 +58,7 @@ def _entities(path: Path) -> Iterator[Entity]:
     import ezdxf
 
     _hush()
-    data = _sized(path)
+    data = _read_within_limits(path)
     document = ezdxf.readfile(path)  # type: ignore[attr-defined]
     unit = int(document.header.get("$INSUNITS", 0)) if b"$INSUNITS" in data else 0
     if unit not in _MM_OF_UNIT:
@@ -71,7 +71,7 @@ def _entities(path: Path) -> Iterator[Entity]:
             yield reader.read(piece)
 
 
-def _sized(path: Path) -> bytes:
+def _read_within_limits(path: Path) -> bytes:
     """The bytes of a file that isn't too long for ezdxf, which reads it once more. A file that
     doesn't tell its unit is one of millimetres, where ezdxf takes metres."""
     data = read_bytes(path, DXF_BYTES)

@@ -37,7 +37,7 @@ def read_outline(path: Path, tolerance_um: Fraction = TOLERANCE_UM) -> Outline:
     for count, joint in enumerate(made, 1):
         gathering.add_constraints([_plain(joint)], f"joint {count}", count)
     return Outline(gathering.found(path.stem, path.stem),
-                   tuple(_offered(tuple(shapes), groups, made, tolerance_um)))
+                   tuple(_offers(tuple(shapes), groups, made, tolerance_um)))
 
 
 def _plain(joint: Coincident | Tangent) -> Coincident:
@@ -48,8 +48,8 @@ def _plain(joint: Coincident | Tangent) -> Coincident:
     return Coincident(joint.at.first, joint.at.second)
 
 
-def _offered(shapes: tuple[Shape, ...], groups: list[list[End]],
-             made: list[Coincident | Tangent], tolerance_um: Fraction) -> Iterable[Constraint]:
+def _offers(shapes: tuple[Shape, ...], groups: list[list[End]],
+            made: list[Coincident | Tangent], tolerance_um: Fraction) -> Iterable[Constraint]:
     """What is offered: level segments, corners that are square besides, and tangencies."""
     levelled = list(level(shapes, tolerance_um))
     names = [each.of.name for each in levelled if isinstance(each.of, ShapeRef)]

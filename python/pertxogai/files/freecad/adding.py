@@ -75,7 +75,7 @@ def _dimension(drawing: Drawing, constraint: Constraint) -> Entry:
         case AngleBetween(first, second):
             asked = turn(drawing, constraint)
             if isinstance(asked, Degrees):
-                return _turned(first, second, asked.value)
+                return _angle_entry(first, second, asked.value)
     raise ValueError(constraint)
 
 
@@ -86,7 +86,7 @@ def _ahead(kind: Kind, first: PointRef, second: PointRef, value_um: Fraction) ->
     return _entry(kind, first, second, _mm(abs(value_um)))
 
 
-def _turned(first: ShapeRef, second: ShapeRef, value: Fraction) -> Entry:
+def _angle_entry(first: ShapeRef, second: ShapeRef, value: Fraction) -> Entry:
     """An angle in radians, above 0 where it is one of two edges."""
     radians = math.radians(value)
     if first == X_AXIS:

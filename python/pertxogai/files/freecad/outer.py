@@ -76,7 +76,7 @@ def outer_shapes(kept: Kept, shelf: Shelf) -> tuple[list[Numbered], list[LeftOut
         name = f"Outer{count + 1}"
         shape: Shape | None = None
         try:
-            shape = _seen(name, link, shelf, _placement(kept).inverse())
+            shape = _view_of(name, link, shelf, _placement(kept).inverse())
         except NotSayable as unsaid:
             left_out.append(LeftOut(name, str(unsaid)))
         shapes.append(Numbered(FIRST_OUTER - count, name, shape))
@@ -93,7 +93,7 @@ def _placement(kept: Kept) -> Motion:
     return turned(x, y, z, w, (number(node, "Px"), number(node, "Py"), number(node, "Pz")))
 
 
-def _seen(name: str, link: Node, shelf: Shelf, into: Motion) -> Shape:
+def _view_of(name: str, link: Node, shelf: Shelf, into: Motion) -> Shape:
     """What a link names, seen from a plane. Raises Unsaid."""
     owner, sub = link.get("obj", ""), link.get("sub", "")
     solid = shelf.solid(owner)

@@ -78,10 +78,10 @@ def _shapes(kept: Kept, shelf: Shelf, gathering: DrawingBuilder) -> list[Numbere
     for one in left_out + outer_left_out:
         gathering.leave_out(one.what, one.why)
     parts = {part_of_a_curve(node) for node in kept.list_of("Constraints")}
-    return [_added(one, one.number in parts, gathering) for one in shapes + outer]
+    return [_add(one, one.number in parts, gathering) for one in shapes + outer]
 
 
-def _added(one: Numbered, is_part: bool, gathering: DrawingBuilder) -> Numbered:
+def _add(one: Numbered, is_part: bool, gathering: DrawingBuilder) -> Numbered:
     """A shape once it was added; without its shape where it is a part of a curve that is left
     out, or unsound."""
     if one.shape is not None and is_part:

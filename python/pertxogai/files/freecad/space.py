@@ -28,12 +28,12 @@ class Motion:
 
     def after(self, first: Motion) -> Motion:
         """This motion after another."""
-        columns = [self.way(column) for column in _transposed(first.rows)]
-        return Motion(_transposed((columns[0], columns[1], columns[2])), self.place(first.shift))
+        columns = [self.way(column) for column in _transpose(first.rows)]
+        return Motion(_transpose((columns[0], columns[1], columns[2])), self.place(first.shift))
 
     def inverse(self) -> Motion:
         """The motion back."""
-        back = Motion(_transposed(self.rows))
+        back = Motion(_transpose(self.rows))
         return Motion(back.rows, scaled(back.way(self.shift), -1))
 
 
@@ -59,7 +59,7 @@ def dot(first: Vector, second: Vector) -> float:
     return first[0] * second[0] + first[1] * second[1] + first[2] * second[2]
 
 
-def _transposed(rows: Rows) -> Rows:
+def _transpose(rows: Rows) -> Rows:
     first, second, third = rows
     return ((first[0], second[0], third[0]), (first[1], second[1], third[1]),
             (first[2], second[2], third[2]))

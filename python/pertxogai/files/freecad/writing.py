@@ -69,13 +69,13 @@ def _write(path: Path, out: Path, solutions: Mapping[str, Solution],
         document = read_member(path, archive, DOCUMENT)
         if sum(info.file_size for info in archive.infolist()) > MOST_WRITTEN:
             raise FileRefusal(f"{path}: has more than {MOST_WRITTEN >> 30} GB: too much to copy")
-        changed = _changed(path, document, solutions, additions)
+        changed = _with_changes(path, document, solutions, additions)
         with written_whole(out, path) as stream:
             _copy(path, archive, stream, changed)
 
 
-def _changed(path: Path, document: bytes, solutions: Mapping[str, Solution],
-             additions: Mapping[str, Addition]) -> bytes:
+def _with_changes(path: Path, document: bytes, solutions: Mapping[str, Solution],
+                  additions: Mapping[str, Addition]) -> bytes:
     """The document with the shapes of the named sketches placed anew, and with what is added."""
     edits: dict[int, Written] = {}
     lists: dict[int, bytes] = {}
@@ -95,7 +95,7 @@ def _changed(path: Path, document: bytes, solutions: Mapping[str, Solution],
         pieces += [document[done:begin], _rewritten(tag.group(), values)]
         done = tag.end()
         if begin in lists:
-            pieces[-1], end = _opened(path, pieces[-1], document, done)
+            pieces[-1], end = _open_tag(path, pieces[-1], document, done)
             pieces += [document[done:end], lists[begin], _LIST_END]
             done = end + len(_LIST_END) * document.startswith(_LIST_END, end)
     return b"".join([*pieces, document[done:]])
@@ -109,7 +109,7 @@ def _list_of_constraints(path: Path, kept: Kept) -> tuple[int, int]:
     return held.children[0].begin, len(held.children[0].children)
 
 
-def _opened(path: Path, tag: bytes, document: bytes, done: int) -> tuple[bytes, int]:
+def _open_tag(path: Path, tag: bytes, document: bytes, done: int) -> tuple[bytes, int]:
     """A list's tag that has an end, and the byte where its entries end."""
     if tag.endswith(b"/>"):
         return tag[:-2].rstrip() + b">", done

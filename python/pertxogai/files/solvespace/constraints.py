@@ -215,7 +215,7 @@ def _dimension(kind: Kind, record: Record, plane: Plane) -> Constraint:
         case Kind.PT_PT_DISTANCE:
             return _between(_points(record, plane), value)
         case Kind.PROJ_PT_PT_DISTANCE:
-            return _projected(_points(record, plane), plane.along(entity), value)
+            return _projected_distance(_points(record, plane), plane.along(entity), value)
     point = plane.point(record.handle("ptA.v"))
     if kind is Kind.PT_LINE_DISTANCE:
         line = plane.line(entity)
@@ -238,7 +238,7 @@ def _between(points: Pair, value: Fraction) -> Constraint:
     return Distance(points.first, points.second, value)
 
 
-def _projected(points: Pair, axis: ShapeRef, value: Fraction) -> Constraint:
+def _projected_distance(points: Pair, axis: ShapeRef, value: Fraction) -> Constraint:
     """The distance of two points along an axis, to the side that is drawn."""
     if axis == X_AXIS:
         return (XDistance(points.first, points.second, abs(value), Sense.DRAWN) if value

@@ -62,14 +62,14 @@ def _write(path: Path, out: Path, solutions: Mapping[str, Solution],
         if name in solutions:
             values.update(_values(requests_of(group, contents), upright(solutions[name])))
         if name in additions:
-            added += _added(path, additions[name], handles_of(group, contents), number)
+            added += _new_records(path, additions[name], handles_of(group, contents), number)
             number += len(additions[name].added)
     end = _end_of_constraints(lines)
     with written_whole(out, path) as stream:
         stream.write(b"\n".join([*_rewritten(lines[:end], values), *added, *lines[end:]]))
 
 
-def _added(path: Path, addition: Addition, handles: Handles, number: int) -> Iterator[bytes]:
+def _new_records(path: Path, addition: Addition, handles: Handles, number: int) -> Iterator[bytes]:
     """The records of what is added, as the constraints behind that number. Raises FileRefusal."""
     try:
         for count, constraint in enumerate(addition.added, number + 1):

@@ -44,7 +44,7 @@ class Measurement:
     def all(self) -> Deviations:
         """All deviations in their order, behind those of the constraints what the shapes imply.
         Raises MissingPlace."""
-        implied = _all_implied(Placed(self.drawing, self.solution))
+        implied = _implied_deviations(Placed(self.drawing, self.solution))
         return (*(each for some in self.by_constraint for each in some), *implied)
 
     def redrawn(self, drawing: Drawing, solution: Solution) -> Measurement:
@@ -82,7 +82,7 @@ def _deviations(placed: Placed) -> Iterator[Deviation]:
     for number, constraint in enumerate(placed.drawing.constraints, start=1):
         with suppress(MissingPlace):
             yield from _each(number, constraint, amounts(placed, constraint))
-    for implied in _implied(placed.drawing):
+    for implied in _implied_in(placed.drawing):
         with suppress(MissingPlace):
             yield from _each(None, implied, (_implied_nm(placed, implied), None))
 
@@ -94,12 +94,12 @@ def _each(number: int | None, of: Constraint | Implied, amounts: Amounts) -> Dev
     return length, Deviation(number, of, amounts[1], Unit.PPB)
 
 
-def _all_implied(placed: Placed) -> Deviations:
-    return tuple(each for implied in _implied(placed.drawing)
+def _implied_deviations(placed: Placed) -> Deviations:
+    return tuple(each for implied in _implied_in(placed.drawing)
                  for each in _each(None, implied, (_implied_nm(placed, implied), None)))
 
 
-def _implied(drawing: Drawing) -> Iterator[Implied]:
+def _implied_in(drawing: Drawing) -> Iterator[Implied]:
     for pair in drawing.shared():
         yield Implied(pair.first, Because.SHARED, pair.second)
     for shape in drawing.geometry:

@@ -102,7 +102,7 @@ class _Drawer:
         yield from self._squares()
         yield from map(_svg_of, self.figures)
         yield from self._arrows()
-        yield from map(_written, self._texts())
+        yield from map(_text_element, self._texts())
         yield from self._legend()
         if bar:
             yield from bar.lines()
@@ -250,7 +250,7 @@ def _fill(ink: Ink) -> str:
     return f'fill="{COLOURS[max((ink.part or 0) - 1, 0) % len(COLOURS)]}"'
 
 
-def _written(text: Text) -> str:
+def _text_element(text: Text) -> str:
     x, y = text.at
     fill = (
         ""

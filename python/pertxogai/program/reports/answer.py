@@ -71,7 +71,7 @@ def read_answer(words: Sequence[str], answer: Answer) -> Report:
     if status is Status.NOT_WELL:
         return _not_well(command, answer.text)
     if command == "measure":
-        return _measured(answer)
+        return _read_measured(answer)
     if status in (Status.FAULT, Status.TOLERANCE):
         return read_fault(answer.text)
     return _report(command, answer.text)
@@ -86,7 +86,7 @@ def _not_well(command: str, text: str) -> Report:
     return read_no_completion(text)
 
 
-def _measured(answer: Answer) -> Measured | Unplaced:
+def _read_measured(answer: Answer) -> Measured | Unplaced:
     """What `measure` says, which fits its status."""
     from pertxogai.program.reports.measured import Unplaced, read_measure
 
@@ -105,7 +105,7 @@ def _measured(answer: Answer) -> Measured | Unplaced:
 
 def _report(command: str, text: str) -> Report:
     if command == "migrate":
-        return _migrated(text)
+        return _read_migrated(text)
     if command not in _READERS:
         raise NotAReport(
             f"no report of {command!r} is known: update pertxogai, or use another command"
@@ -116,7 +116,7 @@ def _report(command: str, text: str) -> Report:
     return read(text)
 
 
-def _migrated(text: str) -> Sketch:
+def _read_migrated(text: str) -> Sketch:
     try:
         return Sketch.parse(text)
     except Refusal as refusal:

@@ -119,7 +119,7 @@ def _over_part(rows: Rows, before: int) -> OverPart:
 def _left_out(rows: Rows) -> tuple[tuple[Excessive, ...], Fault | None, bool]:
     """What is left out, the fault of what is kept, and whether that is over too."""
     if rows.has(_MEASURED):
-        return tuple(_measured(rows, it) for it in rows.take_all(_MEASURED)), None, False
+        return tuple(_take_excessive(rows, it) for it in rows.take_all(_MEASURED)), None, False
     named = tuple(
         Excessive(int(it[1]), take_constraint(rows, it[2])) for it in rows.take_all(_NAMED)
     )
@@ -128,7 +128,7 @@ def _left_out(rows: Rows) -> tuple[tuple[Excessive, ...], Fault | None, bool]:
     return named, take_fault(rows), False
 
 
-def _measured(rows: Rows, found: re.Match[str]) -> Excessive:
+def _take_excessive(rows: Rows, found: re.Match[str]) -> Excessive:
     constraint = take_constraint(rows, found[2])
     unit = Unit(found[5])
     turned = Turned(1 if found[6] == "+" else -1, int(found[7])) if found[6] else None

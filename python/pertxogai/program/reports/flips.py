@@ -42,12 +42,12 @@ def read_flips(text: str) -> tuple[Flipped, ...]:
     answers: list[Flipped] = []
     with whole(text, "flips") as rows:
         while not rows.is_at_end():
-            answers.append(_flipped(rows))
+            answers.append(_take_flipped(rows))
             rows.claim(answers[-1].number == len(answers))
     return tuple(answers)
 
 
-def _flipped(rows: Rows) -> Flipped:
+def _take_flipped(rows: Rows) -> Flipped:
     if found := rows.take_if(_OK):
         return Flipped(int(found[1]), take_shape(rows))
     if found := rows.take_if(_FAULT):

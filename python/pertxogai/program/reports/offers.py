@@ -63,11 +63,11 @@ class OffersReport:
 def read_offers(text: str) -> OffersReport:
     """The report of `offers`. Raises NotAReport."""
     with whole(text, "offers") as rows:
-        answers = tuple(_offered(found) for found in rows.take_all(_OFFER))
+        answers = tuple(_offer_of(found) for found in rows.take_all(_OFFER))
         return OffersReport(answers, take_check(rows))
 
 
-def _offered(found: re.Match[str]) -> Offered:
+def _offer_of(found: re.Match[str]) -> Offered:
     answer: Taken | Stale | Idle = Idle()
     if found[2]:
         answer = Taken(ClusterName(True, int(found[2])))

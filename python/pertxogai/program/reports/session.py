@@ -71,7 +71,7 @@ def _reply(rows: Rows) -> Reply:
     if rows.has(_FAULT):
         return take_fault(rows)
     if rows.has(_HEADER):
-        return _written(rows)
+        return _take_sketch(rows)
     return _report(rows)
 
 
@@ -83,7 +83,7 @@ def _report(rows: Rows) -> CheckReport | Plan | Solved:
     return take_plan(rows) if following[3:] == ["steps"] else take_check(rows)
 
 
-def _written(rows: Rows) -> Sketch:
+def _take_sketch(rows: Rows) -> Sketch:
     start = rows.next
     for _ in rows.take_all(_LINE):
         pass

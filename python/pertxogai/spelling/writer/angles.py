@@ -32,7 +32,7 @@ class Angles:
     def _tie(self, tracks: list[Track]) -> None:
         """Ties the lines of one frame."""
         layout = self.layout
-        base, tied = tracks[0], self._tied(tracks)
+        base, tied = tracks[0], self._tied_classes(tracks)
         other = next((each for each in tracks if layout.lean(each) != layout.lean(base)), None)
         if other is not None and not tied.are_one(other, base):
             self._tie_to(tied, base, other)
@@ -46,7 +46,7 @@ class Angles:
             else:
                 self._square_help(base, track)
 
-    def _tied(self, tracks: list[Track]) -> Classes[Track]:
+    def _tied_classes(self, tracks: list[Track]) -> Classes[Track]:
         """The tracks in classes: those of which the directions follow from others, and those of
         which they are told of each other, which are tied by these."""
         tied: Classes[Track] = Classes()
