@@ -8,7 +8,7 @@ from dataclasses import dataclass
 
 from pertxogai.language.clusters import Choice, ClusterName, Step, read_cluster
 from pertxogai.language.elements import Circle, Line, Point
-from pertxogai.language.lines import read_lines_behind, rows_of
+from pertxogai.language.lines import check_words, read_lines_behind, rows_of
 from pertxogai.language.names import is_name
 from pertxogai.language.places import Placed, PlacedCircle, PlacedLine, PlacedPoint
 from pertxogai.language.refusal import Code, Faulty
@@ -69,10 +69,7 @@ class _Reader:
 
     def take(self, words: Sequence[str]) -> bool:
         """Adds a line, and returns whether it is that of the tolerances. Raises Faulty."""
-        if words[0] not in _COUNTS:
-            raise Faulty(Code.E2)
-        if len(words) not in _COUNTS[words[0]]:
-            raise Faulty(Code.E3)
+        check_words(words, _COUNTS)
         if words[0] == "tolerance":
             self.tolerances = _read_whole(words[1], 0, MOST_TOLERANCE), _read_whole(
                 words[2], 0, MOST_TOLERANCE
@@ -110,10 +107,7 @@ class PlacesReader:
 
     def take(self, words: Sequence[str]) -> None:
         """Adds the place of a line. Raises Faulty: E2, E3, E4, E6, E7, E8, E5."""
-        if words[0] not in _PLACE_COUNTS:
-            raise Faulty(Code.E2)
-        if len(words) not in _PLACE_COUNTS[words[0]]:
-            raise Faulty(Code.E3)
+        check_words(words, _PLACE_COUNTS)
         name = words[1]
         if not is_name(name):
             raise Faulty(Code.E4)

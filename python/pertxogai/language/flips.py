@@ -6,12 +6,13 @@ from collections.abc import Sequence
 from dataclasses import dataclass
 
 from pertxogai.language.clusters import ClusterName, read_cluster
-from pertxogai.language.lines import read_lines_behind, rows_of
+from pertxogai.language.lines import check_words, read_lines_behind, rows_of
 from pertxogai.language.refusal import Code, Faulty
 from pertxogai.language.sketch import Sketch, read_sketch
 
 MOST_FLIPS = 64
 MOST_STEPS = 16
+_COUNTS = {"flip": range(1, MOST_STEPS + 2), "end": (1,)}
 
 
 @dataclass(frozen=True)
@@ -59,10 +60,7 @@ class Flips:
 
 def _take(words: Sequence[str], flips: list[Flip]) -> bool:
     """Adds a line, and returns whether it is the `end`. Raises Faulty: E2, E3, E4, E10, E21."""
-    if words[0] not in ("flip", "end"):
-        raise Faulty(Code.E2)
-    if len(words) > (1 + MOST_STEPS if words[0] == "flip" else 1):
-        raise Faulty(Code.E3)
+    check_words(words, _COUNTS)
     if words[0] == "end":
         return True
     steps = [_step(word) for word in words[1:]]

@@ -1,7 +1,7 @@
 """A text as its lines, and a line as its words."""
 from __future__ import annotations
 
-from collections.abc import Callable, Iterator, Sequence
+from collections.abc import Callable, Container, Iterator, Mapping, Sequence
 from dataclasses import dataclass
 
 from pertxogai.language.encoding import as_bytes
@@ -62,6 +62,15 @@ def sound_rows(rows: list[Row]) -> Iterator[Row]:
         if code:
             raise row.refusal(code)
         yield row
+
+
+def check_words(words: Sequence[str], counts: Mapping[str, Container[int]]) -> None:
+    """That a line begins with one of some words, and is as long as that allows. counts: how many
+    words a line may have, by its first. Raises Faulty: E2, E3."""
+    if words[0] not in counts:
+        raise Faulty(Code.E2)
+    if len(words) not in counts[words[0]]:
+        raise Faulty(Code.E3)
 
 
 def read_lines_behind(rows: list[Row], take: Callable[[Sequence[str]], bool], lines: int) -> None:

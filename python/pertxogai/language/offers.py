@@ -6,11 +6,12 @@ from collections.abc import Sequence
 from dataclasses import dataclass
 
 from pertxogai.language.clusters import ClusterName, read_cluster
-from pertxogai.language.lines import read_lines_behind, rows_of
+from pertxogai.language.lines import check_words, read_lines_behind, rows_of
 from pertxogai.language.refusal import Code, Faulty
 from pertxogai.language.sketch import Sketch, read_sketch
 
 MOST_WORKERS = 64
+_COUNTS = {"offer": (4, 5), "end": (1,)}
 _WORKER = re.compile("[1-9][0-9]?")
 
 
@@ -57,10 +58,7 @@ class Offers:
 
 def _take(words: Sequence[str], offers: list[Offer]) -> bool:
     """Adds a line, and returns whether it is the `end`. Raises Faulty: E2, E3, E8, E4, E10."""
-    if words[0] not in ("offer", "end"):
-        raise Faulty(Code.E2)
-    if len(words) not in ((4, 5) if words[0] == "offer" else (1,)):
-        raise Faulty(Code.E3)
+    check_words(words, _COUNTS)
     if words[0] == "end":
         return True
     if not _WORKER.fullmatch(words[1]) or int(words[1]) > MOST_WORKERS:
