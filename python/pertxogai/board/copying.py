@@ -17,7 +17,7 @@ from pertxogai.drawing.geometry import Point
 from pertxogai.drawing.mentions import named, with_refs
 
 NEAR_UM = 1.0
-"""So near to where it goes a place stays where it is."""
+"""Micrometres within which a place stays where it is."""
 RELATIONS = (Tangent, Perpendicular, Parallel, Collinear, Equal, PointOn, Midpoint, Symmetric)
 """What is said without a number is as true of a copy that is turned or mirrored."""
 LEVELS = Horizontal, Vertical

@@ -31,9 +31,9 @@ class Other:
 
 @dataclass(frozen=True)
 class Tried:
-    """What came of turning choices over: so many lists were tried, whether these are all that the
-    steps have, and the first that gives a shape. scale: how many times as large the sketch is as
-    what was drawn."""
+    """What came of turning choices over. lists: how many were tried. whole: whether these are all
+    that the steps have. found: the first that gives a shape. scale: how many times as large the
+    sketch is as what was drawn."""
 
     lists: int
     whole: bool

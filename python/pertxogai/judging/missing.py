@@ -89,7 +89,7 @@ def _lacking(names: Names, parts: Sequence[Part], joints: Sequence[Joint],
 
 def _distances(names: Names, first: Sequence[str], second: Sequence[str],
                count: int) -> list[Distance]:
-    """So many distances at most between points of two parts that aren't in both."""
+    """At most `count` distances between points of two parts that aren't in both."""
     ends = [[names.point(each) for each in mine if each not in other]
             for mine, other in ((first, second), (second, first))]
     pairs = [(one, other) for one in ends[0] if one for other in ends[1] if other]

@@ -271,7 +271,7 @@ class _Trials:
         return (asked, off) if there is None else (fine, there)
 
     def _spend_on_rounding(self, rests: int) -> None:
-        """Counts so many rests that are asked for. Raises _Enough."""
+        """Counts the rests that are asked for. Raises _Enough where they are too many."""
         self._rounding_work -= rests * len(self.drawing.constraints)
         if self._rounding_work < 0:
             raise _Enough

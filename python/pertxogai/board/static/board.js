@@ -19,9 +19,9 @@ import { awayFrom, kindOf, pathOf, shapeMade, pointMade, stillMade, middleOf, li
 
 const LAYERS = ['grid', 'drawn', 'edges', 'other', 'proposed', 'marks', 'dots', 'names', 'joints',
   'faults'];
-/** So near in pixels a click is one on the edge itself. */
+/** Pixels within which a click is one on the edge itself. */
 const NEAR = 3.5;
-/** So near in pixels a click is one on a point. */
+/** Pixels within which a click is one on a point. */
 const NEAR_POINT = 10;
 /** @type {Read} */
 export const NOTHING = { drawing: { shapes: [], constraints: [], marks: [] }, judgement: null };

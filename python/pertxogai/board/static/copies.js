@@ -15,7 +15,7 @@ import { carriedPath, mirroredIn, shiftedBy, turnedAbout } from './outlines.js';
 /** @typedef {import('./protocol').Shape} Shape */
 /** @typedef {import('./guesses.js').Aim} Aim */
 
-/** So near in pixels an edge or an axis is the one to mirror about. */
+/** Pixels within which an edge or an axis is the one to mirror about. */
 const NEAR_LINE = 8;
 /** Within this slope a row is level or upright. */
 const LEVEL = Math.tan(5 * Math.PI / 180);

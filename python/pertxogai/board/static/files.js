@@ -7,7 +7,7 @@ import { told } from './dialogs.js';
 /** @typedef {import('./protocol').FileSketch} FileSketch */
 /** @typedef {import('./protocol').Answer} Answer */
 
-/** So many bytes at most a file may have: with what they are sent in, a call holds no more. */
+/** The most bytes that a file may have: with what they are sent in, a call holds no more. */
 const MOST_BYTES = 750 * 1024;
 /** @type {Record<Kind, string>} */
 const ENDINGS = {

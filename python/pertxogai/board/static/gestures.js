@@ -30,7 +30,7 @@ import { figurePath } from './outlines.js';
  */
 
 const SLACK = 4;
-/** So near in pixels an edge is the one that is cut. */
+/** Pixels within which an edge is the one that is cut. */
 const NEAR_EDGE = 7;
 const NOTHING_DRAWN = 'Nothing is drawn: its places are one, or lie on one line. Choose others.';
 const DATUM = ['Origin', 'XAxis', 'YAxis'];

@@ -30,16 +30,16 @@ export const SIGNS = {
   midpoint: '△', coincident: '●', on: '×',
 };
 
-/** So near in pixels a place is one on an edge, and one in the middle of a segment. */
+/** Pixels within which a place is taken as one on an edge, or in the middle of a segment. */
 const NEAR_EDGE = 7;
 const NEAR_MIDDLE = 8;
-/** So far in pixels the end of a segment may lie beside a direction, a length or a touch. */
+/** The most pixels that a segment's end may lie beside a direction, a length or a touch. */
 const ASIDE = 7;
 const LENGTH = 4;
 /** The sines within which a direction is nearly so: 5 degrees, and 2 where it is only parallel. */
 const TURNED = Math.sin(5 * Math.PI / 180);
 const PARALLEL = Math.sin(2 * Math.PI / 180);
-/** So long in pixels a segment is before anything is guessed of it. */
+/** The fewest pixels that a segment is long before anything is guessed of it. */
 const SHORT = 12;
 const LEVEL = /** @type {Place} */ ([1, 0]);
 const UPRIGHT = /** @type {Place} */ ([0, 1]);

@@ -23,7 +23,7 @@ import { Keys } from './keys.js';
 /** @typedef {import('./protocol').Judged} Judged */
 /** @typedef {import('./tools.js').Tool} Tool */
 
-/** So many milliseconds pass before a server that is stopped is tried again. */
+/** Milliseconds after which a server that is stopped is tried again. */
 const RETRY = 1500;
 
 /** All parts of the page. */

@@ -27,7 +27,7 @@ const BESIDE_STEPS = [[0, -17], [0, 17], [18, -17], [-18, -17], [18, 17], [-18, 
   [36, 17]];
 /** The height of a line of text in pixels. */
 const ROW = 15;
-/** So near in pixels two bars that run one way lie over each other. */
+/** Pixels within which two bars that run one way lie over each other. */
 const ASIDE = 9;
 
 /** Finds places for the marks of an answer; those that are taken make the next one step aside. */

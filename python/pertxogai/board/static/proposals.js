@@ -15,7 +15,7 @@ import { typed } from './dialogs.js';
  * @typedef {{ text: string | null, proposals: Proposed[], why: string }} Found
  */
 
-/** So many milliseconds nothing may change before it is asked what is missing. */
+/** Milliseconds without a change after which it is asked what is missing. */
 const REST = 300;
 /** @type {Found} */
 const NONE = { text: null, proposals: [], why: '' };

@@ -2,9 +2,9 @@
 /** The texts beside the board: the drawing's, with its refused line, and the language. */
 import { html, byId, nodeOf } from './nodes.js';
 
-/** So many milliseconds pass between a change and the text. */
+/** Milliseconds between a change and the text. */
 const MOMENT = 300;
-/** So many milliseconds pass between the last letter that is typed and the answer to the text. */
+/** Milliseconds between the last letter that is typed and the answer to the text. */
 const TYPING = 250;
 
 /** The panel of texts. */

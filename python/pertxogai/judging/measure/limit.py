@@ -24,8 +24,8 @@ _PPB = 10 ** 9
 
 @dataclass(frozen=True)
 class Limit:
-    """So many nanometres of a length, and so many parts per 10^9 of a direction: the key `within`
-    of the language, which has one number for both."""
+    """Within how many nanometres a length has to hold, and within how many parts per 10^9 a
+    direction: the key `within` of the language, which has one number for both."""
 
     amount: int = DEFAULT
 
