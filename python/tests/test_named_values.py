@@ -152,7 +152,7 @@ def test_what_values_come_to_is_told_with_their_units():
     drawing = read_drawing("value W 120\nvalue A W*2mm\nvalue B A*1in\nvalue C 30deg\n"
                            "value R 1/A\nvalue Q W/4\n" + SHAPES)
     assert {each.name: each.quantity.text() for each in reckoned_values(drawing)} == {
-        "W": "120", "A": "240 mm", "B": "6096 mm²", "C": "30 deg", "R": "0.004167 1/mm",
+        "W": "120", "A": "240 mm", "B": "6096 mm²", "C": "30 deg", "R": "about 0.00416667 1/mm",
         "Q": "30"}
 
 
@@ -329,6 +329,15 @@ def test_the_sign_of_an_expression_is_that_of_the_constraint(words, um, sense, s
         return
     with pytest.raises(DrawingUnsound, match=re.escape(said)):
         checked(other)
+
+
+@pytest.mark.parametrize(("text", "said"), [
+    ("120", "120"), ("15mm", "15 mm"), ("1/3", "about 0.333333"), ("100mm/3", "about 33.333333 mm"),
+    ("0.0000001", "0.0000001"), ("1/3000000", "about 0.000000333333"), ("-1/2", "-0.5"),
+    ("sqrt(2)", "about 1.414214"), ("0", "0"), ("0.1234567", "about 0.123457")])
+def test_a_value_is_told_as_about_what_it_is_where_digits_are_left_out(text, said):
+    value, = reckoned_values(read_drawing(f"value A {text}{SHAPES}"))
+    assert value.quantity.text() == said
 
 
 def test_a_length_is_not_told_as_the_limit_that_it_misses():

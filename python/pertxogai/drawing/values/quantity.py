@@ -4,6 +4,7 @@ from __future__ import annotations
 
 from collections.abc import Iterable
 from dataclasses import dataclass, replace
+from decimal import Decimal
 from fractions import Fraction
 from functools import reduce
 from math import isqrt
@@ -97,10 +98,15 @@ class Quantity:
         return "/".join([over or "1", *filter(None, below)]) if any(below) else over
 
     def text(self) -> str:
-        """The number with its unit, for a person: to six places behind the point."""
-        shown = f"{float(round(self.number, 6)):.6f}".rstrip("0").rstrip(".")
+        """The number with its unit, for a person: to six places behind the point, or what is below
+        1 to six digits that count; with 'about' where that isn't the number itself."""
+        size, number = abs(self.number), float(self.number)
+        shown = f"{number:.6f}" if size >= 1 else format(Decimal(f"{number:.6g}"), "f")
+        about = "" if Fraction(shown) == self.number else "about "
+        if "." in shown:
+            shown = shown.rstrip("0").rstrip(".")
         unit = self.unit_text()
-        return f"{shown} {unit}" if unit else shown
+        return f"{about}{shown} {unit}" if unit else about + shown
 
     def _unit_with(self, other: Quantity) -> tuple[int, int]:
         """The unit of a sum: that of both, or of the one that isn't plain where that has no
