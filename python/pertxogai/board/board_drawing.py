@@ -3,6 +3,7 @@ from __future__ import annotations
 
 from dataclasses import dataclass
 from functools import cached_property
+from typing import TYPE_CHECKING
 
 from pertxogai.board.construction import Construction
 from pertxogai.board.drawing_json import Sight
@@ -13,9 +14,11 @@ from pertxogai.board.placed_parts import LaidPart, parts_laid, shown_between
 from pertxogai.board.protocol import Judgement as JudgementJson, Places
 from pertxogai.board.shortage import shortage
 from pertxogai.drawing import Drawing
+from pertxogai.exits import MissingLibrary
 from pertxogai.judging import (
     Judgement, TooMuch, WeighedJudgement, too_much, weighed, with_choices)
 from pertxogai.judging.edited import EditedDrawing
+from pertxogai.judging.finding import Finding
 from pertxogai.judging.judged_drawing import JudgedDrawing
 from pertxogai.judging.judgement import judge_edited
 from pertxogai.judging.measure import Solution
@@ -28,6 +31,13 @@ from pertxogai.program import ProgramError, Solver, Status
 from pertxogai.program.reports import (
     ClaimFails, Flipped, Plan, Refused, Shape, Solved, Verdict, Verified, read_answer, read_flips,
     read_plan, read_verify)
+from pertxogai.search import check_libraries, searched_within
+
+if TYPE_CHECKING:
+    from pertxogai.search.searched import Searched
+
+SEARCH_SECONDS = 0.5
+"""Seconds of a processor after which a shape for what is open isn't looked for any more."""
 
 
 NOT_PLACED = "the drawing isn't well and placed, so there is nothing to show of it"
@@ -88,8 +98,10 @@ class BoardDrawing:
         return self.judgement if isinstance(self.weighing, Untold) else self.weighing
 
     def with_file(self, judgement: Judgement, left_out: tuple[str, ...]) -> JudgedDrawing:
-        """The drawing with a judgement on it, and what of its file it can't say."""
-        return JudgedDrawing("", self.drawing, judgement, left_out)
+        """The drawing with a judgement on it, and what of its file it can't say; of what is open,
+        with the shape that is shown."""
+        return JudgedDrawing("", self.drawing, judgement, left_out, finding=self.finding,
+                             not_searched=self.not_searched)
 
     @property
     def text(self) -> str:
@@ -97,15 +109,45 @@ class BoardDrawing:
         return self.judgement.asked.spelled.sketch.text()
 
     @cached_property
-    def parts(self) -> tuple[LaidPart, ...]:
-        """Where the drawing is open, each part laid on it."""
+    def searched(self) -> Searched | None:
+        """What was searched of what is open; None of all else, without numpy or scipy, and where no
+        shape was found that meets all that is asked."""
         if self.judgement.verdict is not Verdict.OPEN:
+            return None
+        try:
+            found = searched_within(self.drawing, SEARCH_SECONDS)
+        except MissingLibrary:
+            return None
+        return found if found.found.is_solved() else None
+
+    @cached_property
+    def finding(self) -> Finding | None:
+        """What was found so."""
+        return self.searched.finding() if self.searched is not None else None
+
+    @property
+    def not_searched(self) -> str:
+        """Why no shape is looked for of what is open; empty where one is."""
+        if self.judgement.verdict is not Verdict.OPEN:
+            return ""
+        try:
+            check_libraries()
+            return ""
+        except MissingLibrary as error:
+            return str(error)
+
+    @cached_property
+    def parts(self) -> tuple[LaidPart, ...]:
+        """Where the drawing is open, and no shape of all of it is found, each part laid on it."""
+        if self.judgement.verdict is not Verdict.OPEN or self.searched is not None:
             return ()
         return parts_laid(self.judgement, self.program)
 
     def shown(self) -> Solution | None:
-        """Where all is shown: as it is placed, or as the parts of what is open are laid; None for
-        where it is drawn."""
+        """Where all is shown: as it is placed, as a shape of what is open was found, or as its
+        parts are laid; None for where it is drawn."""
+        if self.finding is not None:
+            return self.finding.solution
         if self.judgement.solution is None and self.parts:
             return shown_between(self.drawing, self.parts)
         return self.judgement.solution

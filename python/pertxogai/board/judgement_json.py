@@ -8,7 +8,8 @@ from typing import cast
 from pertxogai.board.panel import Asides, Untold, alone_of, excess_told, lines_shown, rounded_of
 from pertxogai.board.placed_parts import LaidPart
 from pertxogai.board.protocol import (
-    Amount, ChangedJudgement, Excess, Failure, Judgement as JudgementJson, Missing, Places, Point)
+    Amount, ChangedJudgement, Excess, Failure, Found, Judgement as JudgementJson, Missing, Places,
+    Point)
 from pertxogai.drawing import Arc, Circle, PointRef
 from pertxogai.judging import Judgement, TooMuch
 from pertxogai.judging.good import reasons_json
@@ -19,7 +20,7 @@ from pertxogai.output.picture.marks import PointMm
 from pertxogai.output.picture.drawings import DrawnPlaces
 from pertxogai.program.reports import Verdict
 
-LONG = "placed", "laid", "colours", "language"
+LONG = "placed", "found", "laid", "colours", "language"
 """What of a judgement isn't told again to a page that knows it."""
 
 
@@ -37,11 +38,31 @@ def judgement_shown(judged: JudgedDrawing, parts: Iterable[LaidPart], placed: Pl
         "excess": [],
         "repeats": list(judgement.repeats),
         "placed": placed,
+        "found": _found(judged),
         "laid": [_laid(part) for part in parts],
         "colours": _colours(judgement),
         "missing": _missing(judgement),
         "failure": _failure(judgement),
         "language": judgement.asked.spelled.sketch.text(),
+    }
+
+
+def _found(judged: JudgedDrawing) -> Found | None:
+    """The shape of what is open that was found by numbers, and what of it is free."""
+    finding, drawing = judged.finding, judged.drawing
+    if finding is None or finding.solution is None:
+        return None
+    moving = {move.point for move in finding.moves}
+    points = [str(ref) for ref in drawing.points() if drawing.meetings.leader(ref) in moving]
+    return {
+        "places_by": "numbers",
+        "places": places_shown(DrawnPlaces(drawing, finding.solution)),
+        "freedoms": {"count": finding.freedoms, "of_the_whole": finding.of_the_whole,
+                     "doubtful": finding.is_doubtful},
+        "moves": [{"point": str(move.point), "dx": round(move.dx, 6), "dy": round(move.dy, 6)}
+                  for move in finding.moves],
+        "free": [*dict.fromkeys(finding.free_shapes(drawing)), *points],
+        "free_radii": list(finding.free_radii),
     }
 
 

@@ -16,6 +16,7 @@ from pertxogai.judging.good import Lack, reasons_against
 from pertxogai.judging.judged_drawing import JudgedDrawing
 from pertxogai.judging.measure import Unit, amount_text, units_text
 from pertxogai.judging.states import InPieces, WithFault, WithPlaces, WithSurplus
+from pertxogai.output.finding_text import freedoms_text
 from pertxogai.program import ProgramError
 
 MOST_PIECES, MOST_JOINTS = 40, 20
@@ -78,7 +79,7 @@ def _told(judged: JudgedDrawing, asides: Asides) -> Iterator[Line]:
         case WithFault(failure):
             return _fault(judgement, failure, asides.short)
         case InPieces(missing):
-            return _open(judgement, missing)
+            return _open(judged, missing)
         case WithSurplus():
             return _over(judgement, asides.left, asides.unweighed)
         case other:
@@ -115,8 +116,10 @@ def _left_out(judged: JudgedDrawing) -> Iterator[Line]:
         yield Line(what, list="left out of the file", forgets=what)
 
 
-def _open(judgement: Judgement, found: Missing) -> Iterator[Line]:
-    """What is missing, its pieces, and what ties them."""
+def _open(judged: JudgedDrawing, found: Missing) -> Iterator[Line]:
+    """What is missing, what is shown, its pieces, and what ties them."""
+    judgement = judged.judgement
+    yield from _found(judged, found)
     is_tied = found.whole is None or not found.whole.ways
     if found.count:
         plural = "s" if found.count > 1 else ""
@@ -135,6 +138,26 @@ def _open(judgement: Judgement, found: Missing) -> Iterator[Line]:
         yield Line(f"pieces {joint.first.number} and {joint.second.number}{shared}: "
                    f"{joint.tie.value}", list="what to do", selects=joint.shared)
     yield from _more(len(found.joints) - MOST_JOINTS, "what to do")
+
+
+def _found(judged: JudgedDrawing, missing: Missing) -> Iterator[Line]:
+    """The degrees of freedom, and who says what of the shape that is shown."""
+    finding = judged.finding
+    if judged.not_searched:
+        yield Line(f"Its pieces are shown apart: {judged.not_searched}", "quiet")
+    if finding is None or finding.solution is None:
+        return
+    yield Line(f"{freedoms_text(finding)}.", "freedoms")
+    if finding.of_the_whole:
+        yield Line(f"{finding.of_the_whole} of them: the whole may still be moved or turned.",
+                   "quiet")
+    off = [amount_text(each) for each in judged.worst() if each.amount]
+    within = f"at most {' and '.join(off)} off" if off else "each constraint holds exactly"
+    yield Line("Shown is the shape nearest to the drawing that holds all that is asked: placed by "
+               f"numbers, measured: {within}.", "quiet")
+    plural = "" if len(missing.pieces) == 1 else "s"
+    yield Line(f"Certified by the program: {len(missing.pieces)} piece{plural}, rigid each by "
+               "itself.", "quiet")
 
 
 def _too_many(judgement: Judgement) -> Iterator[Line]:

@@ -438,10 +438,42 @@ class JudgementWords(TypedDict):
     failure: Failure | None
 
 
+class Freedoms(TypedDict):
+    """How many degrees of freedom there are, among them those of the whole; whether the count may
+    be off."""
+
+    count: int
+    of_the_whole: int
+    doubtful: bool
+
+
+class FreeMove(TypedDict):
+    """A point that still moves along a direction of length 1; one that moves everywhere has two."""
+
+    point: str
+    dx: float
+    dy: float
+
+
+class Found(TypedDict):
+    """A shape of what is open that meets all that is asked, found by numbers: nothing of it is
+    certified. moves: how points still move, of those in one place the first. free: the points and
+    shapes that may move, or change their radius. free_radii: the rims whose radius may change."""
+
+    places_by: Literal["numbers"]
+    places: Places
+    freedoms: Freedoms
+    moves: list[FreeMove]
+    free: list[str]
+    free_radii: list[str]
+
+
 class Judgement(JudgementWords):
-    """What is judged, and where it is shown. colours: the parts of points and shapes."""
+    """What is judged, and where it is shown. found: null of what is well or over, and where no
+    shape is found. colours: the parts of points and shapes."""
 
     placed: Places | None
+    found: Found | None
     laid: list[Places]
     colours: dict[str, int]
     language: str
@@ -452,6 +484,7 @@ class ChangedJudgement(JudgementWords, total=False):
     it was."""
 
     placed: Places | None
+    found: Found | None
     laid: list[Places]
     colours: dict[str, int]
     language: str

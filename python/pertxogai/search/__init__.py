@@ -8,6 +8,7 @@ numpy before it is asked."""
 from __future__ import annotations
 
 from importlib.util import find_spec
+from typing import TYPE_CHECKING
 
 from pertxogai.drawing import Drawing
 from pertxogai.exits import MissingLibrary
@@ -15,7 +16,10 @@ from pertxogai.judging.finding import Finding
 from pertxogai.judging.judgement import Judgement
 from pertxogai.program import Solver
 
-__all__ = ["check_libraries", "search", "search_judged"]
+if TYPE_CHECKING:
+    from pertxogai.search.searched import Searched
+
+__all__ = ["check_libraries", "search", "search_judged", "searched_within"]
 
 
 def search(drawing: Drawing) -> Finding:
@@ -31,6 +35,14 @@ def search_judged(drawing: Drawing, judgement: Judgement, program: Solver) -> Fi
     check_libraries()
     from pertxogai.search.searched import searched
     return searched(drawing).finding_with(judgement, program)
+
+
+def searched_within(drawing: Drawing, seconds: float) -> Searched:
+    """A sound drawing, searched for so many seconds of a processor at most. Raises
+    MissingLibrary."""
+    check_libraries()
+    from pertxogai.search.searched import Searched
+    return Searched(drawing, seconds)
 
 
 def check_libraries() -> None:

@@ -5,7 +5,7 @@ import { View } from './view.js';
 import { Marks, markMade, proposedMade } from './marks.js';
 import { Layer } from './layer.js';
 import { Shown } from './shown.js';
-import { awayFrom, kindOf, pathOf, shapeMade, pointMade, stillMade, middleOf, line, ring }
+import { awayFrom, kindOf, pathOf, shapeMade, pointMade, stillMade, moveMade, middleOf, line, ring }
   from './shapes.js';
 
 /** @typedef {import('./page').Child} Child */
@@ -17,9 +17,9 @@ import { awayFrom, kindOf, pathOf, shapeMade, pointMade, stillMade, middleOf, li
 /** @typedef {import('./protocol').Mark} Mark */
 /** @typedef {import('./protocol').Shape} Shape */
 
-const LAYERS = ['grid', 'drawn', 'edges', 'other', 'proposed', 'marks', 'dots', 'names', 'joints',
-  'faults'];
-/** Pixels within which a click is one on the edge itself. */
+const LAYERS = ['grid', 'drawn', 'edges', 'other', 'proposed', 'marks', 'dots', 'moves', 'names',
+  'joints', 'faults'];
+/** So near in pixels a click is one on the edge itself. */
 const NEAR = 3.5;
 /** Pixels within which a click is one on a point. */
 const NEAR_POINT = 10;
@@ -79,6 +79,8 @@ export class Board {
    */
   from = {};
   waits = false;
+  /** Whether what is open is shown by the colours of its pieces. */
+  byPieces = false;
 
   /**
    * @param {SVGSVGElement} node
@@ -133,12 +135,13 @@ export class Board {
     /** @type {Record<string, Keyed[] | null>} */
     const made = {
       grid: this.grid(this.size()),
-      drawn: views.length ? stillMade(shapes, drawn, plane) : [],
+      drawn: views.length && !judgement?.found ? stillMade(shapes, drawn, plane) : [],
       edges: isStill ? null : shapes.map((shape) => this.edge(shape)),
       other: this.other ? stillMade(shapes, this.other, plane) : [],
       proposed: this.proposedMarks(marks),
       marks: this.marks(marks, judgement),
       dots: isStill ? null : this.overlay ? [] : this.dots(shapes),
+      moves: this.moves(judgement),
       names: this.overlay ? [] : this.names(shapes),
       joints: this.joints(judgement),
       faults: this.around(judgement?.failure?.at ?? [],
@@ -205,11 +208,12 @@ export class Board {
    * @param {Judgement | null | undefined} judgement
    */
   isStill(shapes, judgement) {
-    const { selection: { names }, plane: { scale, x, y }, shown: { views } } = this;
+    const { selection: { names }, plane: { scale, x, y }, shown: { views }, byPieces } = this;
     const told = (/** @type {Shape} */ shape) => `${shape.name} ${kindOf(shape)} ${shape.shares}`;
-    const what = judgement?.placed ? shapes.map(told) : shapes;
-    const colours = judgement?.colours;
-    return this.isSame('shapes', [scale, x, y, names, this.overlay, colours, ...views, ...what]);
+    const { placed, found, colours } = judgement ?? {};
+    const what = placed ?? found ? shapes.map(told) : shapes;
+    const how = [this.overlay, colours, found?.free, byPieces];
+    return this.isSame('shapes', [scale, x, y, names, ...how, ...views, ...what]);
   }
 
   /**
@@ -230,7 +234,8 @@ export class Board {
   edge(shape) {
     const path = pathOf(shape, this.shown.viewOf(shape), this.plane);
     const isSelected = this.selection.names.has(shape.name);
-    return shapeMade(shape, path, isSelected, this.shown.colourOf(shape));
+    const colour = this.shown.colourOf(shape, this.byPieces);
+    return shapeMade(shape, path, isSelected, colour, this.shown.isFree(shape.name));
   }
 
   /**
@@ -241,7 +246,7 @@ export class Board {
     const names = shapes.flatMap(
       (shape) => Object.keys(shape.points).filter((name) => !shape.shares.includes(name)));
     return this.around(['Origin', ...names], (name, at) => pointMade(
-      name, at, this.selection.names.has(name), this.shown.partColourOf(name)));
+      name, at, this.selection.names.has(name), this.shown.partColourOf(name, this.byPieces)));
   }
 
   /**
@@ -255,10 +260,23 @@ export class Board {
   }
 
   /**
+   * Arrows along which free points still move.
+   * @param {Judgement | null | undefined} judgement
+   * @returns {Keyed[]}
+   */
+  moves(judgement) {
+    return (judgement?.found?.moves ?? []).flatMap(({ point, dx, dy }, place) => {
+      const at = this.placeOf(point);
+      return at ? [moveMade(`${point} ${place}`, at, [dx, dy])] : [];
+    });
+  }
+
+  /**
    * Rings where pieces hang together.
    * @param {Judgement | null | undefined} judgement
    */
   joints(judgement) {
+    if (judgement?.found && !this.byPieces) return [];
     const names = (judgement?.missing?.joints ?? []).flatMap((joint) => joint.shared);
     return this.around(names, (name, [cx, cy]) => [
       name, 'circle', { class: 'joint', cx, cy, r: 9 }]);

@@ -45,7 +45,7 @@ export class Page {
     this.board = new Board(nodeOf('board', SVGSVGElement), selection);
     this.gestures = new Gestures(this.board, paper, selection, hand, hint);
     this.offers = new Offers(paper, this.board, selection);
-    this.verdict = new Verdict(byId('verdict'), paper, selection);
+    this.verdict = new Verdict(byId('verdict'), paper, selection, this.board);
     this.proposals = new Proposals(paper, this.board);
     this.texts = new Texts(paper);
     this.asked = new Asked(paper, selection, this.offers);

@@ -117,7 +117,41 @@ export interface Places {
   radii: Record<string, number>;
 }
 
-/** What is judged, and where it is shown. colours: the parts of points and shapes. */
+/**
+ * How many degrees of freedom there are, among them those of the whole; whether the count may
+ * be off.
+ */
+export interface Freedoms {
+  count: number;
+  of_the_whole: number;
+  doubtful: boolean;
+}
+
+/** A point that still moves along a direction of length 1; one that moves everywhere has two. */
+export interface FreeMove {
+  point: string;
+  dx: number;
+  dy: number;
+}
+
+/**
+ * A shape of what is open that meets all that is asked, found by numbers: nothing of it is
+ * certified. moves: how points still move, of those in one place the first. free: the points and
+ * shapes that may move, or change their radius. free_radii: the rims whose radius may change.
+ */
+export interface Found {
+  places_by: 'numbers';
+  places: Places;
+  freedoms: Freedoms;
+  moves: FreeMove[];
+  free: string[];
+  free_radii: string[];
+}
+
+/**
+ * What is judged, and where it is shown. found: null of what is well or over, and where no
+ * shape is found. colours: the parts of points and shapes.
+ */
 export interface Judgement {
   verdict: 'well' | 'open' | 'over';
   good: boolean;
@@ -129,6 +163,7 @@ export interface Judgement {
   missing: Missing | null;
   failure: Failure | null;
   placed: Places | null;
+  found: Found | null;
   laid: Places[];
   colours: Record<string, number>;
   language: string;
@@ -381,6 +416,7 @@ export interface ChangedJudgement {
   missing: Missing | null;
   failure: Failure | null;
   placed?: Places | null;
+  found?: Found | null;
   laid?: Places[];
   colours?: Record<string, number>;
   language?: string;

@@ -148,11 +148,12 @@ export function middleOf(places) {
  * @param {string | null} path
  * @param {boolean} isSelected
  * @param {string} colour
+ * @param {boolean} isFree
  * @returns {Keyed}
  */
-export function shapeMade(shape, path, isSelected, colour) {
+export function shapeMade(shape, path, isSelected, colour, isFree) {
   const stroke = isSelected ? null : colour;
-  const kind = `${kindOf(shape)} ${isSelected ? 'selected' : ''}`;
+  const kind = `${kindOf(shape)} ${isFree ? 'free' : ''} ${isSelected ? 'selected' : ''}`;
   /** @type {Made[]} */
   const paths = [['path', { class: kind, d: path, stroke }], ['path', { class: 'hit', d: path }]];
   return [shape.name, 'g', { 'data-name': shape.name }, ...(path ? paths : [])];
@@ -172,6 +173,23 @@ export function pointMade(name, [cx, cy], isSelected, colour) {
   return [name, 'g', { 'data-name': name, 'data-point': name },
     ['circle', { class: kind, cx, cy, r, stroke: isSelected ? null : colour }],
     ['circle', { class: 'dothit', cx, cy, r: 8 }]];
+}
+
+/**
+ * The directions along which a point still moves, as small arrows to both sides of its place.
+ * @param {string} key
+ * @param {Place} place
+ * @param {Place} way
+ * @returns {Keyed}
+ */
+export function moveMade(key, [x, y], [dx, dy]) {
+  const d = [1, -1].map((side) => {
+    const [u, v] = [side * dx, -side * dy];
+    return `M${x + 7 * u} ${y + 7 * v}l${15 * u} ${15 * v}`
+      + `m${-5 * u - 3 * v} ${-5 * v + 3 * u}l${5 * u + 3 * v} ${5 * v - 3 * u}`
+      + `l${-5 * u + 3 * v} ${-5 * v - 3 * u}`;
+  });
+  return [key, 'path', { class: 'move', d: d.join('') }];
 }
 
 /**

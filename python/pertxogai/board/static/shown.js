@@ -1,6 +1,7 @@
 // @ts-check
 /**
- * Where all of an answer is shown: as placed, else as a part is laid on the drawing, else as drawn.
+ * Where all of an answer is shown: as placed, else as a shape was found by numbers, else as a part is
+ * laid on the drawing, else as drawn.
  */
 import { colourOf } from './nodes.js';
 
@@ -11,7 +12,11 @@ import { colourOf } from './nodes.js';
 export class Shown {
   /** @param {import('./page').Read} answer */
   constructor({ drawing, judgement }) {
-    this.views = judgement?.placed ? [judgement.placed] : judgement?.laid ?? [];
+    const { placed, found, laid: parts } = judgement ?? {};
+    const whole = placed ?? found?.places;
+    this.views = whole ? [whole] : parts ?? [];
+    /** What of a shape that was found is free; null where none was. */
+    this.free = found ? new Set(found.free) : null;
     this.parts = new Map(Object.entries(judgement?.colours ?? {}));
     this.drawn = drawnOf(drawing.shapes);
     const laid = this.views.map((view) => view.points).reverse();
@@ -43,20 +48,41 @@ export class Shown {
   }
 
   /**
-   * The colour of a shape, by its part.
-   * @param {Shape} shape
+   * Whether a point or a shape is free, as far as that was found.
+   * @param {string} name
    */
-  colourOf(shape) {
+  isFree(name) {
+    return Boolean(this.free?.has(name));
+  }
+
+  /**
+   * The colour of a shape: whether it is free, where that was found; by its part, where not, and on
+   * wish.
+   * @param {Shape} shape
+   * @param {boolean} byPieces
+   */
+  colourOf(shape, byPieces) {
+    if (this.free && !byPieces) return freeColour(this.isFree(shape.name));
     return colourOf(this.parts.get(shape.name) ?? this.viewOf(shape).part);
   }
 
   /**
-   * The colour of a point, by the one part that has it.
+   * The colour of a point alike, by the one part that has it.
    * @param {string} name
+   * @param {boolean} byPieces
    */
-  partColourOf(name) {
+  partColourOf(name, byPieces) {
+    if (this.free && !byPieces) return freeColour(this.isFree(name));
     return colourOf(this.parts.get(name));
   }
+}
+
+/**
+ * The colour of what is free, or of what is fixed.
+ * @param {boolean} isFree
+ */
+function freeColour(isFree) {
+  return isFree ? 'var(--free)' : 'var(--edge)';
 }
 
 /**

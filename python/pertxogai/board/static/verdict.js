@@ -14,11 +14,13 @@ export class Verdict {
    * @param {HTMLElement} node
    * @param {import('./paper.js').Paper} paper
    * @param {import('./selection.js').Selection} selection
+   * @param {import('./board.js').Board} board
    */
-  constructor(node, paper, selection) {
+  constructor(node, paper, selection, board) {
     this.node = node;
     this.paper = paper;
     this.selection = selection;
+    this.board = board;
   }
 
   /**
@@ -37,7 +39,20 @@ export class Verdict {
     this.node.replaceChildren();
     if (answer.ms) this.node.append(html('span', time, `${answer.ms} ms`));
     for (const each of nodes) if (each) this.node.append(each);
+    if (answer.judgement?.found) this.node.append(this.pieces());
     if (focused) this.focus(focused);
+  }
+
+  /** A button that shows what is open by the colours of its pieces, or by what is free. */
+  pieces() {
+    const { board } = this;
+    const button = html('button', {
+      id: 'pieces', 'aria-pressed': board.byPieces, onclick: () => {
+        board.byPieces = !board.byPieces;
+        button.ariaPressed = String(board.byPieces);
+        board.draw();
+      } }, 'Pieces by colour');
+    return button;
   }
 
   /**
