@@ -10,6 +10,7 @@ import numpy as np
 import pytest
 
 from pertxogai.drawing import PointRef, Which, read_drawing
+from pertxogai.search import pulling
 from pertxogai.search.dragging import Drag, Frame, Grip, NothingFree
 from pertxogai.search.pulling import Reach
 from pertxogai.search.searched import Searched
@@ -17,6 +18,12 @@ from pertxogai.search.searched import Searched
 MM = 1e6
 """Nanometres of a millimetre."""
 Place = tuple[float, float]
+
+
+@pytest.fixture(autouse=True)
+def _time(monkeypatch: pytest.MonkeyPatch) -> None:
+    """A frame ends by its steps alone, however busy the machine is."""
+    monkeypatch.setattr(pulling, "FRAME_SECONDS", 10.0)
 
 
 def four_bar(base: float, crank: float, coupler: float, rocker: float, joints: list[Place]) -> str:
@@ -153,6 +160,30 @@ def test_at_a_dead_point_it_stays_and_says_so_and_comes_back_as_it_went() -> Non
     assert np.abs(held.drag.x - held.begin).max() < 1e4, "the same shape as before"
 
 
+def test_a_dead_point_leads_to_the_other_shape() -> None:
+    held = Dragged(STOPPED, "Crank.end")
+    before = side_of_the_elbow(held)
+    for angle in np.arange(LIMIT - 3, LIMIT + 5, 0.5):
+        frame = held.to(30 * cos(radians(angle)), 30 * sin(radians(angle)))
+    assert frame.reach is Reach.STAYS
+    assert held.drag.turn() is not None
+    for angle in np.arange(LIMIT, LIMIT - 3, -0.25):
+        held.to(30 * cos(radians(angle)), 30 * sin(radians(angle)))
+    assert side_of_the_elbow(held) * before < 0
+    assert held.length("Crank.end", "Coupler.end") == pytest.approx(20, abs=1e-6)
+    assert held.length("Coupler.end", "Base.end") == pytest.approx(25, abs=1e-6)
+
+
+def side_of_the_elbow(held: Dragged) -> float:
+    """Above 0 where the rocker's joint lies left of the way from the crank's end to the bearing."""
+    (a, b), (c, d) = held.at("Crank.end"), held.at("Coupler.end")
+    return (50 - a) * (d - b) - (0 - b) * (c - a)
+
+
+def test_away_from_a_dead_point_there_is_no_other_shape() -> None:
+    assert Dragged(parallelogram(60), "Crank.end").drag.turn() is None
+
+
 # -- other drawings
 
 
@@ -221,6 +252,7 @@ def test_the_missing_radius_of_a_bracket_follows_the_rim() -> None:
         away = 15 + wanted - wanted / 2 ** 0.5
         held.to(away, away)
         radius = held.drag.solution().radius("Round") / MM
+        assert radius == pytest.approx(wanted, abs=1e-2), "the rim runs through the hand"
         assert held.at("Round.centre") == pytest.approx((15 + radius, 15 + radius), abs=1e-5)
         assert held.at("In.end") == pytest.approx((15 + radius, 15), abs=1e-5)
         assert held.at("Up.start") == pytest.approx((15, 15 + radius), abs=1e-5)
@@ -325,8 +357,8 @@ def test_a_rim_whose_radius_is_told_is_held_by_its_centre() -> None:
     assert held.drag.solution().radius("K") == 5 * MM
     free = Dragged(PLATE.replace("diameter K 10\n", ""), rim="K", at=(65, 20))
     free.to(68, 20)
-    assert free.drag.solution().radius("K") == pytest.approx(8 * MM, abs=2)
-    assert free.at("K.centre") == pytest.approx((60, 20), abs=1e-5)
+    assert free.drag.solution().radius("K") == pytest.approx(8 * MM, abs=500)
+    assert free.at("K.centre") == pytest.approx((60, 20), abs=5e-4), "the centre stays"
     free.to(60, 20)
     assert free.drag.solution().radius("K") > 0
 

@@ -6,13 +6,15 @@ tangent says a step has to be for that, is learnt from one step for the next.
 
 A drawing with one degree of freedom has two ways to go on from a dead point or a change point, and
 another solution nearby would be a flip. So a step counts only where it runs along the tangents at
-both of its ends, and what is held moves on and not back there; else it is halved. It is tried first
-where the last step leads to: so a linkage runs through its change points as it came. It stays a
-little before a dead point, where the rest would move ever more for ever less of what is held."""
+both of its ends, and what is held moves on and not back there; else it is halved. Where the last
+step leads elsewhere, that is tried too, and of two branches the one is taken that goes on so: thus
+a linkage runs through its change points as it came. It stays a little before a dead point, where
+the rest would move ever more for ever less of what is held."""
 from __future__ import annotations
 
 from dataclasses import dataclass
 from enum import Enum
+from itertools import product
 
 import numpy as np
 
@@ -22,8 +24,11 @@ from pertxogai.search.budget import Budget
 from pertxogai.search.descent import descend
 from pertxogai.search.following import Following
 
-HEAVY = 1e-2
-"""How easily a held unknown moves from where it is pulled, against the others."""
+HEAVY, FIRM = 1e-2, 1e-4
+"""How easily a held unknown moves from where it is pulled, against the others; and from its place,
+while the rest turns to the other shape."""
+EASY = 300.0
+"""The same for what gives way rather than others."""
 THERE_NM, NEAR_NM = 1000.0, 10.0
 """What is held this near to where it is pulled is there; and so near that it isn't pulled on."""
 ENOUGH = 1e-5
@@ -46,6 +51,12 @@ LEAST_SHARE = 2e-3
 """At a dead point what is held moves by less than this part of what moves most."""
 LEAST_BEND, MOST_BEND = 0.3, 8.0
 """Between these a step may be shorter than the tangent says."""
+TURNS = (5e-4, 1e-3, 2e-3, 5e-3, 1e-2, 2e-2, 5e-2, 0.1)
+"""By how much of the drawing's size all else is moved on to find the other shape."""
+TURN_STEPS, TURN_SECONDS = 600, 0.5
+"""The most steps and seconds of a turn."""
+LEAST_MOTION = 1e-12
+"""What moves by less doesn't move, in motions of length 1."""
 HALVES = 5
 """How often the steps of a frame are halved."""
 STEPS = 25
@@ -60,7 +71,9 @@ class Reach(Enum):
     THERE = "there"
     """It is where it is pulled."""
     BESIDE = "beside"
-    """It is as near as its constraints let it come, or on its way."""
+    """It is as near as its constraints let it come."""
+    COMES = "comes"
+    """It is on its way, and goes on once it is pulled again."""
     STAYS = "stays"
     """It can't go on the way that it went: a dead point, or the end of its way."""
 
@@ -84,14 +97,16 @@ class _Step:
 
 
 class Pull:
-    """A part of a drawing, met where it begins, that is held by some of its unknowns."""
+    """A part of a drawing, met where it begins, that is held by some of its unknowns. easy: those
+    that give way rather than others."""
 
-    def __init__(self, part: Following, held: Indices) -> None:
+    def __init__(self, part: Following, held: Indices, easy: Indices) -> None:
         self._system, self._first_radius = part.system, part.first_radius
         self._held = held
         self.x = part.system.drawn
         self._ease = np.ones(len(self.x))
         self._ease[held] = HEAVY
+        self._ease[easy] = EASY
         self._pulled = self.x[held]
         self._way = np.zeros(len(self.x))
         self._bend = 1.0
@@ -101,18 +116,43 @@ class Pull:
         moved_nm = float(np.linalg.norm(place - self._pulled))
         most_nm = max(CHASE * moved_nm, LEAST_CHASE * self._system.size_nm)
         self._pulled = place
-        is_stuck = self._go(place, most_nm, Budget(FRAME_STEPS, FRAME_SECONDS))
+        reach = self._go(place, most_nm, Budget(FRAME_STEPS, FRAME_SECONDS))
         left_nm = self._left_nm(place)
-        reach = Reach.STAYS if is_stuck else Reach.BESIDE
         return Pulled(self.x, left_nm, Reach.THERE if left_nm <= THERE_NM else reach)
 
-    def _go(self, goal: Array, most_nm: float, budget: Budget) -> bool:
-        """Goes to a goal step by step, so far at most. Gives whether it stays, though it could go
-        nearer by its tangent."""
-        part, halves, tangent = 1.0, 0, self._towards(goal)
-        while most_nm > 0 and not self._is_near(goal, tangent) and not budget.is_spent():
-            if halves > HALVES or self._is_dead(tangent):
+    def turn(self) -> bool:
+        """Goes through a dead point to the other shape that has what is held in its place, and in
+        which it goes on the other way for the same motion of the rest. Gives whether there is one
+        near."""
+        ease = np.ones(len(self.x))
+        ease[self._held] = FIRM
+        here, motion = self.x[self._held], self._motion()
+        budget = Budget(TURN_STEPS, TURN_SECONDS)
+        for part, sign in product(TURNS, (1.0, -1.0)):
+            start = self.x + motion * (sign * part * self._system.size_nm)
+            start[self._held] = here
+            end = descend(self._system, start, budget, ease=ease)
+            other = self._tangent(end.x, motion)
+            if end.is_met() and self._left_nm_at(end.x, here) <= THERE_NM and (
+                    motion[self._held] @ other[self._held] < 0):
+                self.x, self._way = end.x, np.zeros(len(self.x))
                 return True
+        return False
+
+    def _motion(self) -> Array:
+        """How all moves on from here, by 1 what moves most."""
+        motion = self._tangent(self.x, np.random.default_rng(1).uniform(-1, 1, len(self.x)))
+        found: Array = motion / max(float(np.abs(motion).max()), LEAST_MOTION)
+        return found
+
+    def _go(self, goal: Array, most_nm: float, budget: Budget) -> Reach:
+        """Goes to a goal step by step, so far at most."""
+        part, halves, tangent = 1.0, 0, self._towards(goal)
+        while not self._is_near(goal, tangent):
+            if halves > HALVES or self._is_dead(tangent):
+                return Reach.STAYS
+            if most_nm <= 0 or budget.is_spent():
+                return Reach.STAYS if halves else Reach.COMES
             length = part * self._length(goal, tangent, most_nm)
             step = self._step(goal, length * tangent, budget)
             if step is None:
@@ -123,10 +163,14 @@ class Pull:
             last, tangent = tangent, self._towards(goal)
             self._learn(last[self._held], tangent[self._held], length)
             part = min(1.0, 2 * part)
-        return halves > 0 and not self._is_near(goal, tangent)
+        is_held = self._left_nm(goal) > THERE_NM and self._share(self._motion()) < LEAST_SHARE
+        return Reach.STAYS if is_held else Reach.BESIDE
 
     def _left_nm(self, goal: Array) -> float:
-        return float(np.linalg.norm(goal - self.x[self._held]))
+        return self._left_nm_at(self.x, goal)
+
+    def _left_nm_at(self, x: Array, goal: Array) -> float:
+        return float(np.linalg.norm(goal - x[self._held]))
 
     def _is_dead(self, tangent: Array) -> bool:
         """Whether the way on leads into a dead point, and that is reached all but for a little."""
@@ -223,7 +267,7 @@ class Pull:
 
     def _share(self, way: Array) -> float:
         """How far what is held moves by a way, against what moves most."""
-        return float(np.abs(way[self._held]).max() / np.abs(way).max())
+        return float(np.abs(way[self._held]).max() / max(np.abs(way).max(), LEAST_MOTION))
 
 
 def _damping(jacobian: Matrix, part: float) -> float:

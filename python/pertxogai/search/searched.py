@@ -2,28 +2,34 @@
 drawing."""
 from __future__ import annotations
 
+from collections.abc import Callable, Mapping
 from dataclasses import replace
 from functools import cached_property
 
 from pertxogai.cached import cached_on
-from pertxogai.drawing import Drawing, line_of
+from pertxogai.drawing import Drawing, PointRef, line_of
 from pertxogai.judging.finding import Finding, Group, PlacesBy
 from pertxogai.judging.judgement import Judgement
-from pertxogai.judging.measure import measure
+from pertxogai.judging.measure import Deviation, Solution, measure
 from pertxogai.judging.measure.limit import Limit
 from pertxogai.program import Solver
 from pertxogai.program.reports import Verdict
+from pertxogai.search.arrays import Array
 from pertxogai.search.budget import MOST_SECONDS, Budget
 from pertxogai.search.constructing import construct
 from pertxogai.search.contradictions import Numbers, contradictions, has_shrunk, without
 from pertxogai.search.dependencies import SAME_NM, Dependency
+from pertxogai.search.descent import descend
 from pertxogai.search.equations import Equations
+from pertxogai.search.following import loose_columns
 from pertxogai.search.freedom import Freedom, freedom
 from pertxogai.search.rounding import solution_of
 from pertxogai.search.solving import Found, solve
-from pertxogai.search.unknowns import By, Source
+from pertxogai.search.unknowns import By, FloatPointNm, Source
 
 
+Measured = Callable[[Solution], tuple[Deviation, ...]]
+"""What measures a drawing on some places."""
 REST_SECONDS = 0.4
 """What the search may take for what is left without what contradicts."""
 MOST_RANKED = 600
@@ -52,9 +58,28 @@ class Searched:
             self.found.end.worst_nm <= SAME_NM
             and all(each.repeats() for each in self.freedom.dependencies))
 
-    def finding(self, limit: Limit = Limit()) -> Finding:
+    def loose(self) -> frozenset[int]:
+        """The unknowns that may move, to the first order."""
+        return frozenset(loose_columns(self.freedom.free))
+
+    def met_at(self, points: Mapping[PointRef, FloatPointNm], radii: Mapping[str, float]) -> Array:
+        """The unknowns where these points and radii lie, in nanometres, and the others as they were
+        found; mended, since they were rounded. Those that were found, where that isn't met."""
+        x, unknowns = self.found.x.copy(), self.equations.unknowns
+        for ref, spot in points.items():
+            number = unknowns.number_of.get(unknowns.leader(ref))
+            if number is not None:
+                x[2 * number:2 * number + 2] = spot
+        for name, radius in radii.items():
+            if name in unknowns.column_of:
+                x[unknowns.column_of[name]] = radius
+        end = descend(self.equations, x, Budget())
+        return end.x if end.is_met() else self.found.x
+
+    def finding(self, limit: Limit = Limit(), measured: Measured | None = None) -> Finding:
         """All of it by the names of the drawing. What is off by no more than the limit isn't told
-        to contradict; there are places only where all is met."""
+        to contradict; there are places only where all is met. measured: what measures it somewhere,
+        where that knows more of it than the drawing says."""
         if not self.is_met():
             return self._unsolved(limit)
         motions = self.freedom.motions
@@ -62,7 +87,7 @@ class Searched:
         return Finding(
             self.freedom.count, motions.of_the_whole, not self.freedom.is_sure,
             motions.moves, motions.rims, self._repeats(self.freedom), (), solution,
-            measure(self.drawing, solution), PlacesBy.NUMBERS)
+            measured(solution) if measured else measure(self.drawing, solution), PlacesBy.NUMBERS)
 
     def finding_with(self, judgement: Judgement, program: Solver) -> Finding:
         """The same; of what is open and has places, those by the program, where it constructs them
