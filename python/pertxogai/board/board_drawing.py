@@ -123,7 +123,18 @@ class BoardDrawing:
     @cached_property
     def finding(self) -> Finding | None:
         """What was found so."""
-        return self.searched.finding() if self.searched is not None else None
+        if self.searched is None:
+            return None
+        return self.searched.finding(
+            measured=lambda solution: self.edited.measured(solution).all)
+
+    @cached_property
+    def constructed(self) -> Finding | None:
+        """What was found, with the program's places where it constructs the drawing by values that
+        were found."""
+        if self.searched is None:
+            return None
+        return self.searched.finding_with(self.judgement, self.program)
 
     @property
     def not_searched(self) -> str:

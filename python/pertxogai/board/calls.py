@@ -3,12 +3,13 @@ from __future__ import annotations
 
 import json
 from collections.abc import Callable, Mapping
-from dataclasses import dataclass, field
+from dataclasses import dataclass, field, replace
 from fractions import Fraction
 from typing import cast
 
 from pertxogai.board import protocol
 from pertxogai.board.board_drawing import BoardDrawing, NotPlaced
+from pertxogai.board.dragging import Drags
 from pertxogai.board.document import read_document, write_document
 from pertxogai.board.drawing_json import sight_of
 from pertxogai.board.edit_fields import read_edit
@@ -23,8 +24,8 @@ from pertxogai.board.overlap import Overlapping
 from pertxogai.board.panel import Asides, Untold, lines_shown
 from pertxogai.board.proposals import proposals_shown
 from pertxogai.board.protocol import (
-    Answer, ChangedDrawing, Completed, Dxf, Edited, Judged, Offered, Opened, OtherShape, Planned,
-    Svg, Trouble, Verified, Weighed)
+    Answer, ChangedDrawing, Completed, Dragged, Dxf, Edited, Judged, Offered, Opened, OtherShape,
+    Planned, Svg, Trouble, Verified, Weighed)
 from pertxogai.completing import complete
 from pertxogai.drawing import Drawing, DrawingRefusal, DrawingUnsound, Place, WordFault, checked
 from pertxogai.files.contents import FileRefusal
@@ -54,6 +55,7 @@ class Desk:
     program: Solver
     kept: dict[str, BoardDrawing] = field(default_factory=dict)
     attending: Overlapping = field(init=False)
+    drags: Drags = field(default_factory=Drags)
 
     def __post_init__(self) -> None:
         self.attending = Overlapping(self.program)
@@ -163,6 +165,11 @@ def _edit(desk: Desk, given: Fields) -> Edited:
     return desk.edited(edit.on(known.drawing), known, given)
 
 
+def _drag(desk: Desk, given: Fields) -> Dragged:
+    """A frame of a drag of what is open."""
+    return desk.drags.frame(desk.judged(given.text("text")), given)
+
+
 def _offers(desk: Desk, given: Fields) -> Offered:
     """Which constraints fit some points and shapes, and what may be made of their corner."""
     drawing, names = desk.judged(given.text("text")).drawing, given.texts("names")
@@ -178,13 +185,15 @@ def _offers(desk: Desk, given: Fields) -> Offered:
 def _weigh(desk: Desk, given: Fields) -> Weighed:
     """What is left out of a drawing that is over, and what may go instead, each with how far it is
     off without it; where one of these can't be told, the other, and why. Of one that is well and
-    isn't met, what comes of other choices."""
+    isn't met, what comes of other choices; of one that is open, what the program constructs of it
+    with values that were found."""
     judged = desk.judged(given.text("text"))
     judgement, left, weighing = judged.weighed, judged.too_much, judged.weighing
     unweighed = weighing if isinstance(weighing, Untold) else None
     return {"spare": [spare_json(each) for each in judgement.surplus],
             "excess": excess_shown(judgement, left),
-            "lines": lines_shown(judged.with_file(judgement, given.texts("left_out")),
+            "lines": lines_shown(replace(judged.with_file(judgement, given.texts("left_out")),
+                                         finding=judged.constructed),
                                  Asides(left, unweighed, judged.short))}
 
 
@@ -290,7 +299,7 @@ def _open(desk: Desk, given: Fields) -> Opened:
 
 
 CALLS: Mapping[str, Callable[[Desk, Fields], Answer]] = {
-    "judge": _judge, "edit": _edit, "offers": _offers, "weigh": _weigh, "complete": _complete,
-    "plan": _plan, "flips": _flips, "redraw": _redraw, "verify": _verify, "dxf": _dxf, "svg": _svg,
-    "program-dxf": _program_dxf, "open": _open,
+    "judge": _judge, "edit": _edit, "drag": _drag, "offers": _offers, "weigh": _weigh,
+    "complete": _complete, "plan": _plan, "flips": _flips, "redraw": _redraw, "verify": _verify,
+    "dxf": _dxf, "svg": _svg, "program-dxf": _program_dxf, "open": _open,
 }

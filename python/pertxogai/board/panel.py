@@ -12,6 +12,7 @@ from pertxogai.drawing.numbers import mm_text
 from pertxogai.judging import Excess, Judgement, Missing, Surplus, TooMuch, WeighedJudgement
 from pertxogai.judging.choices import change
 from pertxogai.judging.faults import Failure
+from pertxogai.judging.finding import Finding, PlacesBy
 from pertxogai.judging.good import Lack, reasons_against
 from pertxogai.judging.judged_drawing import JudgedDrawing
 from pertxogai.judging.measure import Unit, amount_text, units_text
@@ -66,7 +67,7 @@ class Asides:
 
 def lines_shown(judged: JudgedDrawing, asides: Asides = Asides()) -> list[LineJson]:
     """All lines, each with what it has."""
-    lines = *_told(judged, asides), *_left_out(judged), *_notes(judged.judgement)
+    lines = *_told(judged, asides), *_left_out(judged), *_notes(judged)
     return [cast(LineJson, {name: value for name, value in vars(line).items()
                             if value not in ("", (), None)}) for line in lines]
 
@@ -119,7 +120,7 @@ def _left_out(judged: JudgedDrawing) -> Iterator[Line]:
 def _open(judged: JudgedDrawing, found: Missing) -> Iterator[Line]:
     """What is missing, what is shown, its pieces, and what ties them."""
     judgement = judged.judgement
-    yield from _found(judged, found)
+    yield from _freedoms(judged)
     is_tied = found.whole is None or not found.whole.ways
     if found.count:
         plural = "s" if found.count > 1 else ""
@@ -127,6 +128,7 @@ def _open(judged: JudgedDrawing, found: Missing) -> Iterator[Line]:
     elif is_tied:
         yield Line("It doesn’t hold together by triangles.")
     yield from _not_tied(judgement, "quiet" if found.count else "")
+    yield from _shown(judged, found)
     yield from _too_many(judgement)
     yield from _unmet(judgement)
     for piece in found.pieces[:MOST_PIECES]:
@@ -140,24 +142,39 @@ def _open(judged: JudgedDrawing, found: Missing) -> Iterator[Line]:
     yield from _more(len(found.joints) - MOST_JOINTS, "what to do")
 
 
-def _found(judged: JudgedDrawing, missing: Missing) -> Iterator[Line]:
-    """The degrees of freedom, and who says what of the shape that is shown."""
+def _freedoms(judged: JudgedDrawing) -> Iterator[Line]:
+    """How many degrees of freedom there are."""
+    if judged.finding is not None and judged.finding.solution is not None:
+        yield Line(f"{freedoms_text(judged.finding)}.", "freedoms")
+
+
+def _shown(judged: JudgedDrawing, missing: Missing) -> Iterator[Line]:
+    """Who says what of the shape that is shown."""
     finding = judged.finding
     if judged.not_searched:
         yield Line(f"Its pieces are shown apart: {judged.not_searched}", "quiet")
     if finding is None or finding.solution is None:
         return
-    yield Line(f"{freedoms_text(finding)}.", "freedoms")
-    if finding.of_the_whole:
-        yield Line(f"{finding.of_the_whole} of them: the whole may still be moved or turned.",
-                   "quiet")
     off = [amount_text(each) for each in judged.worst() if each.amount]
     within = f"at most {' and '.join(off)} off" if off else "each constraint holds exactly"
-    yield Line("Shown is the shape nearest to the drawing that holds all that is asked: placed by "
-               f"numbers, measured: {within}.", "quiet")
+    yield Line("Shown is the shape nearest to the drawing that holds all that is asked, placed by "
+               "numbers.", "quiet")
+    if finding.places_by is PlacesBy.PROGRAM:
+        yield from _constructed(finding)
+        yield Line(f"measured there: {within}", "quiet")
+    else:
+        yield Line(f"measured: {within}", "quiet")
     plural = "" if len(missing.pieces) == 1 else "s"
-    yield Line(f"Certified by the program: {len(missing.pieces)} piece{plural}, rigid each by "
-               "itself.", "quiet")
+    yield Line(f"Certified by the program: {len(missing.pieces)} rigid piece{plural}.", "quiet")
+
+
+def _constructed(finding: Finding) -> Iterator[Line]:
+    """That the program constructs what is open, once some values are chosen."""
+    yield Line("The program constructs this shape, and certifies what it was told, once these "
+               f"values are chosen: {', '.join(finding.chosen)}.", "certified")
+    if finding.only_measured:
+        yield Line(f"only measured, and not told to it: {', '.join(finding.only_measured)}",
+                   "quiet")
 
 
 def _too_many(judgement: Judgement) -> Iterator[Line]:
@@ -324,9 +341,10 @@ def _choices(judgement: Judgement) -> Iterator[Line]:
         yield Line(change(sketch, step, judgement.names.element), list="what to draw otherwise")
 
 
-def _notes(judgement: Judgement) -> Iterator[Line]:
+def _notes(judged: JudgedDrawing) -> Iterator[Line]:
     """What is to be known beside the verdict."""
-    for warning in judgement.warnings:
+    judgement = judged.judgement
+    for warning in judged.warnings():
         yield Line(f"look: {warning.text()}", "warning", selects=warning.shapes)
     unsized = () if judgement.solution is not None else judgement.undimensioned
     for what, names in (

@@ -236,6 +236,22 @@ class AboutEdit(About):
     knows: NotRequired[bool]
 
 
+class AboutDrag(About):
+    """A frame of a drag: its name, and where the hand is. begins: whether it is the first. names:
+    the points and shapes that the hand holds; begin: where it took hold. turns: whether the other
+    shape is asked for, at a dead point. places: where what moves lay in the frame before, once the
+    server has lost the drag."""
+
+    drag: str
+    names: list[str]
+    begin: FreeSpot
+    x: float
+    y: float
+    begins: NotRequired[bool]
+    turns: NotRequired[bool]
+    places: NotRequired[Places]
+
+
 class AboutNames(About):
     """A call about some points and shapes."""
 
@@ -651,6 +667,26 @@ class FileSketch(TypedDict):
     aside: list[str]
 
 
+Reach = Literal["there", "beside", "comes", "stays"]
+"""How far what is dragged came: to the hand; as near as it may; it is on its way, and goes on in
+the next frame; or it stays, as at a dead point."""
+
+
+class Dragged(Answer, total=False):
+    """A frame of a drag: the points and radii that aren't where they were in the frame before, by
+    numbers, and the marks of what is asked of what moves. off: by how many nanometres the worst
+    constraint is off there, measured. fixed: why nothing follows. lost: whether the server doesn't
+    know the drag, and wants the places."""
+
+    points: dict[str, Point]
+    radii: dict[str, float]
+    marks: list[Mark]
+    reach: Reach
+    off: int
+    fixed: str
+    lost: bool
+
+
 class Opened(Answer, total=False):
     """The sketches of a file."""
 
@@ -673,6 +709,7 @@ class Gallery(Answer, total=False):
 CALLS: Mapping[str, tuple[type, type]] = {
     "judge": (About, Judged),
     "edit": (AboutEdit, Edited),
+    "drag": (AboutDrag, Dragged),
     "offers": (AboutNames, Offered),
     "weigh": (About, Weighed),
     "complete": (About, Completed),

@@ -10,7 +10,10 @@ import resource
 import select
 import sys
 from collections.abc import Sequence
+from contextlib import suppress
 from dataclasses import dataclass, field, replace
+from functools import cache
+from importlib import import_module
 from time import monotonic
 
 from pertxogai.board import protocol
@@ -70,8 +73,19 @@ def main(words: Sequence[str]) -> None:
     while line := sys.stdin.readline():
         program.begin()
         print(json.dumps(_answer(desk, line)), flush=True)
-        if gc.get_count()[0] > MOST_RUBBISH or not select.select([sys.stdin], [], [], PAUSE)[0]:
+        is_idle = not select.select([sys.stdin], [], [], PAUSE)[0]
+        if is_idle:
+            _warm()
+        if is_idle or gc.get_count()[0] > MOST_RUBBISH:
             gc.collect()
+
+
+@cache
+def _warm() -> None:
+    """Loads what the search reckons by, which takes longer than a call may, while no call comes."""
+    with suppress(ImportError, MemoryError):
+        import_module("pertxogai.search.dragging")
+        import_module("pertxogai.search.searched")
 
 
 def _answer(desk: Desk, line: str) -> protocol.Answer:

@@ -20,6 +20,8 @@ from pertxogai.board.calls import trouble
 MOST_AT_ONCE = 4
 GRACE = 2.0
 """Seconds beyond the program's own limit that a worker has for a call."""
+ONE_THREAD = {"OMP_NUM_THREADS": "1", "OPENBLAS_NUM_THREADS": "1"}
+"""A worker reckons on one processor: its matrices are small."""
 PACKAGES = Path(__file__).resolve().parents[2]
 
 
@@ -55,7 +57,7 @@ class Worker:
                  str(bounds.memory_mib)]
         process = subprocess.Popen(
             words, stdin=subprocess.PIPE, stdout=subprocess.PIPE, start_new_session=True,
-            env={**os.environ, "PYTHONPATH": path}, bufsize=0)
+            env={**os.environ, **ONE_THREAD, "PYTHONPATH": path}, bufsize=0)
         return Worker(process, bounds.seconds)
 
     def text(self, call: str, given: object) -> str:

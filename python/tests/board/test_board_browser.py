@@ -178,6 +178,9 @@ def test_a_fault_is_shown_at_its_place(page: Page) -> None:
 
 def test_open_parts_have_their_colours_and_joints(page: Page) -> None:
     page.begin(drawing("open-hinge"), "open")
+    assert page.count(".joints circle") == 0
+    page.click("#pieces")
+    page.settled()
     assert page.count(".joints circle") == 1
     edges, dots = ({each.value_of_css_property("stroke")
                     for each in page.driver.find_elements(By.CSS_SELECTOR, selector)}

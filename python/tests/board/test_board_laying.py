@@ -5,11 +5,15 @@ from math import hypot
 
 import pytest
 
-from pertxogai.board.calls import Desk
+from pertxogai.board.board_drawing import BoardDrawing
+from pertxogai.board.document import read_document
 from pertxogai.board.laying import Piece, in_turn
+from pertxogai.board.placed_parts import parts_laid
+from pertxogai.judging.edited import EditedDrawing
 from pertxogai.output.picture.fitting import Motion
 from pertxogai.output.picture.marks import PointMm
 from pertxogai.program import Program
+from pertxogai.program.reports import Verdict
 
 CRANK = """segment Ground 0 0 40 0
 segment Crank Ground.start 10 25
@@ -63,11 +67,12 @@ def test_a_piece_that_holds_nothing_fixed_lies_on_its_drawing() -> None:
 
 
 def laid(program: Program, text: str) -> dict[str, PointMm]:
-    """Where the points of an open drawing are shown: as the first piece that has each is laid."""
-    judgement = Desk(program).answer("judge", {"text": text})["judgement"]
-    assert isinstance(judgement, dict) and judgement["verdict"] == "open"
-    pieces = [part["points"] for part in judgement["laid"]]
-    return {name: tuple(spot) for points in reversed(pieces) for name, spot in points.items()}
+    """Where the points of an open drawing are shown while no shape of all of it is known: as the
+    first piece that has each is laid."""
+    judgement = BoardDrawing(EditedDrawing(read_document(text)), program).judgement
+    assert judgement.verdict is Verdict.OPEN
+    pieces = [part.points for part in parts_laid(judgement, program)]
+    return {str(ref): spot for points in reversed(pieces) for ref, spot in points.items()}
 
 
 def test_a_crank_is_turned_to_its_drawing_about_the_origin(program: Program) -> None:

@@ -253,17 +253,80 @@ def test_of_what_is_not_over_nothing_is_weighed(client) -> None:
     assert answer(client, "weigh", text=drawing("bracket"))["spare"] == []
 
 
-def test_an_open_drawing_has_its_parts_laid_on_it(client) -> None:
+def test_an_open_drawing_is_shown_whole_by_numbers(client) -> None:
     judgement = answer(client, "judge", text=drawing("open-hinge"))["judgement"]
     assert judgement["missing"]["lacks_by_rank"] == 1
     assert judgement["missing"]["joints"][0]["shared"] == ["Wall.start"]
     assert judgement["colours"] == {
         "Wall": 1, "Wall.end": 1, "W1": 1, "W1.centre": 1, "W2": 1, "W2.centre": 1,
         "Door": 2, "Door.end": 2, "D1": 2, "D1.centre": 2, "D2": 2, "D2.centre": 2}
-    wall = next(each for each in judgement["laid"] if each["part"] == 1)
-    (ax, ay), (bx, by) = wall["points"]["W1.centre"], wall["points"]["W2.centre"]
-    assert ((bx - ax) ** 2 + (by - ay) ** 2) ** 0.5 == pytest.approx(50, abs=1e-6)
-    assert wall["radii"] == {"W1": 4, "W2": 4}
+    found = judgement["found"]
+    assert judgement["placed"] is None and judgement["laid"] == []
+    assert found["places_by"] == "numbers" and found["freedoms"]["doubtful"] is False
+    (ax, ay), (bx, by) = (found["places"]["points"][name] for name in ("W1.centre", "W2.centre"))
+    assert ((bx - ax) ** 2 + (by - ay) ** 2) ** 0.5 == pytest.approx(50, abs=2e-6)
+    assert found["places"]["radii"]["W1"] == found["places"]["radii"]["W2"] == 4
+
+
+CRANK = """segment Ground 0 0 40 0
+segment Crank Ground.start 10 25
+coincident Ground.start Origin
+horizontal Ground
+length Ground 40
+length Crank 30
+"""
+
+
+def test_what_is_free_and_where_to_it_moves_is_told(client) -> None:
+    """The crank turns about the origin: its end moves square to it."""
+    judgement = answer(client, "judge", text=CRANK)["judgement"]
+    found = judgement["found"]
+    assert found["freedoms"] == {"count": 1, "of_the_whole": 0, "doubtful": False}
+    assert sorted(found["free"]) == ["Crank", "Crank.end"] and found["free_radii"] == []
+    (move,), (x, y) = found["moves"], found["places"]["points"]["Crank.end"]
+    assert move["point"] == "Crank.end" and x * move["dx"] + y * move["dy"] == pytest.approx(
+        0, abs=1e-4)
+    told = [each["text"] for each in judgement["lines"]]
+    assert told[:2] == [
+        "1 degree of freedom (by numbers).", "Lacks 1 dimension at least, by rank."]
+    assert "Certified by the program: 2 rigid pieces." in told
+
+
+def test_a_moment_later_it_is_told_what_the_program_constructs(client) -> None:
+    told = [each["text"] for each in answer(client, "weigh", text=CRANK)["lines"]]
+    constructed, = (each for each in told if each.startswith("The program constructs"))
+    assert "once these values are chosen: " in constructed
+
+
+def frame(client, x: float, y: float, name: str = "a", **more: object) -> dict[str, object]:
+    return answer(client, "drag", text=CRANK, drag=name, names=["Crank.end"],
+                  begin={"x": 11.14172, "y": 27.854301}, x=x, y=y, **more)
+
+
+def test_a_drag_tells_what_moves_alone(client) -> None:
+    """The hand is twice as far from the origin as the crank is long."""
+    first = frame(client, 36, 48, begins=True)
+    assert first["points"] == {"Crank.end": pytest.approx([18, 24], abs=1e-3)}
+    assert first["reach"] == "beside" and first["off"] <= 2 and first["radii"] == {}
+    assert [each["text"] for each in first["marks"]] == ["30"]
+    still = frame(client, 36, 48)
+    assert all(abs(x - u) < 1e-3 for place in still["points"].values()
+               for x, u in zip(place, (18, 24)))
+
+
+def test_a_drag_that_the_server_has_lost_goes_on_from_its_places(client) -> None:
+    assert frame(client, 0, 30, "lost") == {"lost": True}
+    places = {"points": {"Crank.end": [18, 24]}, "radii": {}}
+    found = frame(client, 0, 30, "lost", places=places)
+    assert found["points"]["Crank.end"] == pytest.approx([0, 30], abs=1e-3)
+    assert found["reach"] == "there"
+
+
+def test_what_is_fixed_isnt_dragged(client) -> None:
+    given = {"drag": "b", "begin": {"x": 40, "y": 0}, "x": 50, "y": 0, "begins": True}
+    for text, names in ((CRANK, ["Ground.end"]), (CRANK + "x Crank.end 18\n", ["Crank.end"])):
+        found = answer(client, "drag", text=text, names=names, **given)
+        assert found["fixed"].startswith("nothing is free here")
 
 
 FLAT = "segment A 0 0 9 0\nsegment B A.end 4 3\nsegment C B.end A.start\nlength A 10\n" \

@@ -120,5 +120,5 @@ def test_of_a_judgement_what_is_long_is_told_once(program: Program) -> None:
     told = desk.answer("edit", {**given, "knows": True})["judgement"]
     whole = Desk(program).answer("edit", given)["judgement"]
     assert known["verdict"] == "well" and known["language"] != told["language"]
-    assert known.keys() - told.keys() == {"placed", "laid", "colours"}
+    assert known.keys() - told.keys() == {"placed", "found", "laid", "colours"}
     assert {**known, **told} == whole

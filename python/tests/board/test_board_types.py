@@ -99,7 +99,9 @@ def test_answers_are_of_their_types(path: Path, program: Program) -> None:
     name = read_document(text).geometry[0].name
     edit = {"do": "shift", "shapes": [name], "dx": 0.5, "dy": 0}
     given: dict[str, dict[str, object]] = {
-        "judge": {}, "edit": {"edit": edit, "knows": True}, "offers": {"names": [name]},
+        "judge": {}, "edit": {"edit": edit, "knows": True},
+        "drag": {"drag": "a", "names": [name], "begin": {"x": 0, "y": 0}, "x": 1, "y": 1,
+                 "begins": True, "turns": False}, "offers": {"names": [name]},
         "weigh": {}, "complete": {}, "plan": {}, "flips": {"steps": [1]}, "redraw": {"steps": []}, "verify": {},
         "svg": {"name": path.stem}, "program-dxf": {}}
     for call, more in given.items():

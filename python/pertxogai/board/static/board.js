@@ -81,6 +81,8 @@ export class Board {
   waits = false;
   /** Whether what is open is shown by the colours of its pieces. */
   byPieces = false;
+  /** Whether a frame of a drag is shown. */
+  drags = false;
 
   /**
    * @param {SVGSVGElement} node
@@ -111,10 +113,12 @@ export class Board {
   }
 
   /**
-   * Shows an answer of the server.
+   * Shows an answer of the server; or what becomes of it while something is dragged.
    * @param {Read} answer
+   * @param {boolean} [drags]
    */
-  show(answer) {
+  show(answer, drags = false) {
+    this.drags = drags;
     this.answer = answer;
     this.shown = new Shown(answer);
     this.draw();
@@ -350,16 +354,16 @@ export class Board {
   }
 
   /**
-   * The marks of what is proposed, where no others stand, and no step is shown. Null where all are
-   * shown so already.
+   * The marks of what is proposed, where no others stand, no step is shown, and nothing is dragged.
+   * Null where all are shown so already.
    * @param {Mark[]} marks
    */
   proposedMarks(marks) {
-    const { plane: { scale, x, y }, proposed, overlay } = this;
-    if (this.isSame('proposed', [scale, x, y, marks, proposed, overlay])) return null;
+    const { plane: { scale, x, y }, proposed, overlay, drags } = this;
+    if (this.isSame('proposed', [scale, x, y, drags || marks, proposed, overlay])) return null;
     const places = new Marks(this.plane);
-    places.all(marks);
-    this.proposedAt = places.all(overlay ? [] : proposed);
+    places.all(drags ? [] : marks);
+    this.proposedAt = places.all(overlay || drags ? [] : proposed);
     return this.proposedAt.map(proposedMade);
   }
 

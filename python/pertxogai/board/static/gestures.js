@@ -7,6 +7,7 @@ import { namesOf } from './selection.js';
 import { Sequence } from './sequence.js';
 import { Guesses, signOf } from './guesses.js';
 import { Copies } from './copies.js';
+import { Dragging } from './dragging.js';
 import { figurePath } from './outlines.js';
 
 /** @typedef {import('./page').Place} Place */
@@ -16,7 +17,7 @@ import { figurePath } from './outlines.js';
  * What was pressed, where it was first and last, whether it pans, whether it was moved, and the
  * edit that it makes, with what is guessed of it.
  * @typedef {{ at: Place, last: Place, thing: Thing, pans: boolean, moved: boolean,
- *   edit: Edit | null, guesses: import('./guesses.js').Guess[] }} Pressed
+ *   follows?: boolean, edit: Edit | null, guesses: import('./guesses.js').Guess[] }} Pressed
  */
 /** @typedef {import('./guesses.js').Aim} Aim */
 /**
@@ -26,7 +27,7 @@ import { figurePath } from './outlines.js';
  */
 /**
  * The keys that are held: Shift keeps level, or adds; Ctrl leaves out what is guessed.
- * @typedef {{ shiftKey: boolean, ctrlKey: boolean }} Held
+ * @typedef {{ shiftKey: boolean, ctrlKey: boolean, altKey: boolean }} Held
  */
 
 const SLACK = 4;
@@ -35,7 +36,7 @@ const NEAR_EDGE = 7;
 const NOTHING_DRAWN = 'Nothing is drawn: its places are one, or lie on one line. Choose others.';
 const DATUM = ['Origin', 'XAxis', 'YAxis'];
 /** @type {Held} */
-const NONE_HELD = { shiftKey: false, ctrlKey: false };
+const NONE_HELD = { shiftKey: false, ctrlKey: false, altKey: false };
 
 /** Turns what a hand does on the board into selections and edits. */
 export class Gestures {
@@ -68,6 +69,7 @@ export class Gestures {
     this.hand = hand;
     this.tell = tell;
     this.guesses = new Guesses(board);
+    this.dragging = new Dragging(board, paper, selection, tell);
     this.copies = new Copies(board, paper, selection, hand, tell);
     this.hears('pointerdown', (event, at) => this.down(event, at));
     this.hears('pointermove', (event, at) => this.move(event, at));
@@ -158,7 +160,8 @@ export class Gestures {
    */
   move(event, at) {
     const { pressed, board } = this;
-    if (!pressed) {
+    if (pressed && !event.buttons) this.up(event, at);
+    if (!pressed || !event.buttons) {
       this.hover(at, heldOf(event));
       return;
     }
@@ -183,6 +186,12 @@ export class Gestures {
    */
   drag(pressed, name, at, held) {
     const aim = this.drop(name, at, held);
+    pressed.follows ??= this.dragging.begin(name, pressed.at, held.altKey);
+    if (pressed.follows) {
+      pressed.guesses = this.dragging.follow(aim, at) ? aim.guesses : [];
+      this.board.preview = pressed.guesses.length ? () => this.signs(aim.guesses) : null;
+      return;
+    }
     const edit = this.dragged(name, pressed.at, aim.at);
     if (!edit) return;
     Object.assign(pressed, { edit, guesses: aim.guesses });
@@ -250,7 +259,8 @@ export class Gestures {
     const { pressed } = this;
     this.pressed = null;
     if (!pressed) return;
-    if (pressed.edit) this.land(pressed.edit, pressed);
+    if (pressed.follows) this.letGo(pressed);
+    else if (pressed.edit) this.land(pressed.edit, pressed);
     else if (event.button === 0 && !(pressed.pans && pressed.moved)) {
       this.release(pressed, at, heldOf(event));
     }
@@ -262,10 +272,18 @@ export class Gestures {
    * @param {Edit} edit
    * @param {{ thing: Pressed['thing'], guesses: Pressed['guesses'] }} dropped
    */
-  land(edit, { thing, guesses }) {
+  land(edit, dropped) {
     this.board.preview = null;
-    this.paper.land(edit, guesses.map(
-      ({ words }) => words.map((word) => (word === '@' ? String(thing) : word))));
+    this.paper.land(edit, asksOf(dropped));
+  }
+
+  /**
+   * What follows the hand is let go, with what is guessed of it.
+   * @param {{ thing: Pressed['thing'], guesses: Pressed['guesses'] }} dropped
+   */
+  letGo(dropped) {
+    this.board.preview = null;
+    return this.dragging.land(asksOf(dropped));
   }
 
   /**
@@ -283,9 +301,12 @@ export class Gestures {
       if (this.hand.draws) return this.act(end, held);
       if (!moved) return this.select(thing, held.shiftKey);
       if (typeof thing !== 'string') return null;
-      const { at, guesses } = this.drop(thing, end, held);
-      const edit = this.dragged(thing, start, at);
-      return edit && this.land(edit, { thing, guesses });
+      const aim = this.drop(thing, end, held);
+      if (this.dragging.begin(thing, start, held.altKey)) {
+        return this.letGo({ thing, guesses: this.dragging.follow(aim, end) ? aim.guesses : [] });
+      }
+      const edit = this.dragged(thing, start, aim.at);
+      return edit && this.land(edit, { thing, guesses: aim.guesses });
     });
   }
 
@@ -293,6 +314,7 @@ export class Gestures {
   cancel() {
     this.pressed = null;
     this.board.preview = null;
+    this.dragging.drop();
     this.paper.drop();
   }
 
@@ -553,8 +575,16 @@ function levelOf([u, v], [x, y]) {
  * @param {MouseEvent} event
  * @returns {Held}
  */
-function heldOf({ shiftKey, ctrlKey, metaKey }) {
-  return { shiftKey, ctrlKey: ctrlKey || metaKey };
+function heldOf({ shiftKey, ctrlKey, metaKey, altKey }) {
+  return { shiftKey, ctrlKey: ctrlKey || metaKey, altKey };
+}
+
+/**
+ * The words of what is guessed of something that is dropped, with its name.
+ * @param {{ thing: Pressed['thing'], guesses: Pressed['guesses'] }} dropped
+ */
+function asksOf({ thing, guesses }) {
+  return guesses.map(({ words }) => words.map((word) => (word === '@' ? String(thing) : word)));
 }
 
 /**

@@ -46,6 +46,11 @@ export class Page {
     this.gestures = new Gestures(this.board, paper, selection, hand, hint);
     this.offers = new Offers(paper, this.board, selection);
     this.verdict = new Verdict(byId('verdict'), paper, selection, this.board);
+    this.verdict.node.addEventListener('other', (event) => {
+      if (event instanceof CustomEvent) {
+        this.gestures.dragging.other(event.detail.names, event.detail.begin);
+      }
+    });
     this.proposals = new Proposals(paper, this.board);
     this.texts = new Texts(paper);
     this.asked = new Asked(paper, selection, this.offers);
@@ -148,6 +153,7 @@ export class Page {
   /** Another drawing begins: nothing of the last is shown, held or selected. */
   leave() {
     this.gestures.pressed = null;
+    this.gestures.dragging.held = null;
     this.gestures.sequence.forget();
     this.board.show(NOTHING);
     this.selection.set([]);
@@ -216,7 +222,8 @@ export class Page {
   escape() {
     const { menu } = this;
     const { firstElementChild: title } = menu;
-    if (!menu.open) this.gestures.sequence.do(() => this.drop());
+    if (this.gestures.dragging.held) this.gestures.cancel();
+    else if (!menu.open) this.gestures.sequence.do(() => this.drop());
     else if (menu.contains(document.activeElement) && title instanceof HTMLElement) title.focus();
     menu.open = false;
   }

@@ -30,6 +30,12 @@ export interface PlacedMark {
   at: Place;
 }
 
+/** What a hand let go at a dead point, and where it had taken hold. */
+export interface Dead {
+  names: string[];
+  begin: Place;
+}
+
 /** What the listeners of a paper hear, and with what. */
 export interface Heard {
   begin: null;
@@ -37,4 +43,5 @@ export interface Heard {
   trouble: string;
   text: null;
   settle: null;
+  dead: Dead;
 }

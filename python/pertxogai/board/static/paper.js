@@ -315,8 +315,8 @@ export class Paper extends EventTarget {
     if (!this.refused) this.answer = answer;
     this.said = this.refused ? { ...this.answer, ...answer, judgement: null } : answer;
     this.tell('answer', this.said);
-    const { verdict, good } = answer.judgement ?? {};
-    if (verdict === 'over' || (verdict === 'well' && !good)) this.weighLater(text, answer);
+    const { verdict, good, found } = answer.judgement ?? {};
+    if (verdict === 'over' || found || (verdict === 'well' && !good)) this.weighLater(text, answer);
   }
 
   /**
@@ -331,7 +331,8 @@ export class Paper extends EventTarget {
 
   /**
    * Has told and measured, beside all else, what is left out of a drawing that is over, and what
-   * may go; of one that isn't met, what comes of other choices.
+   * may go; of one that isn't met, what comes of other choices; of one that is open, what the
+   * program constructs of it.
    * @param {string} text
    * @param {Judged} answer
    */

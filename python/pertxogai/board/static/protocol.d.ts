@@ -442,6 +442,44 @@ export interface Edited {
   drawing?: ChangedDrawing;
 }
 
+/**
+ * A frame of a drag: its name, and where the hand is. begins: whether it is the first. names:
+ * the points and shapes that the hand holds; begin: where it took hold. turns: whether the other
+ * shape is asked for, at a dead point. places: where what moves lay in the frame before, once the
+ * server has lost the drag.
+ */
+export interface AboutDrag {
+  text: string;
+  left_out?: string[];
+  drag: string;
+  names: string[];
+  begin: FreeSpot;
+  x: number;
+  y: number;
+  begins?: boolean;
+  turns?: boolean;
+  places?: Places;
+}
+
+/**
+ * A frame of a drag: the points and radii that aren't where they were in the frame before, by
+ * numbers, and the marks of what is asked of what moves. off: by how many nanometres the worst
+ * constraint is off there, measured. fixed: why nothing follows. lost: whether the server doesn't
+ * know the drag, and wants the places.
+ */
+export interface Dragged {
+  trouble?: Trouble;
+  refused?: Refused;
+  ms?: number;
+  points?: Record<string, [number, number]>;
+  radii?: Record<string, number>;
+  marks?: Mark[];
+  reach?: 'there' | 'beside' | 'comes' | 'stays';
+  off?: number;
+  fixed?: string;
+  lost?: boolean;
+}
+
 /** A call about some points and shapes. */
 export interface AboutNames {
   text: string;
@@ -673,6 +711,7 @@ export type Offer = ConstraintOffer | CornerOffer;
 export interface Calls {
   'judge': { given: About; gives: Judged };
   'edit': { given: AboutEdit; gives: Edited };
+  'drag': { given: AboutDrag; gives: Dragged };
   'offers': { given: AboutNames; gives: Offered };
   'weigh': { given: About; gives: Weighed };
   'complete': { given: About; gives: Completed };

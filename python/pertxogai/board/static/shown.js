@@ -1,7 +1,7 @@
 // @ts-check
 /**
- * Where all of an answer is shown: as placed, else as a shape was found by numbers, else as a part is
- * laid on the drawing, else as drawn.
+ * Where all of an answer is shown: as placed, else as a shape was found by numbers, else as a part
+ * is laid on the drawing, else as drawn.
  */
 import { colourOf } from './nodes.js';
 

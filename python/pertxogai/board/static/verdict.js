@@ -11,6 +11,12 @@ const EMPTY = 'Draw with the tools above the board, begin from the gallery, or w
 /** Shows the judgement of each answer, line by line as the server tells it. */
 export class Verdict {
   /**
+   * What was let go at a dead point, and the text that it made.
+   * @type {import('./page').Dead & { text: string } | null}
+   */
+  dead = null;
+
+  /**
    * @param {HTMLElement} node
    * @param {import('./paper.js').Paper} paper
    * @param {import('./selection.js').Selection} selection
@@ -21,6 +27,20 @@ export class Verdict {
     this.paper = paper;
     this.selection = selection;
     this.board = board;
+    paper.when('dead', (dead) => {
+      this.dead = { ...dead, text: paper.text };
+      this.node.append(this.other(dead));
+    });
+  }
+
+  /**
+   * A button that draws the other shape, behind a drag that ended at a dead point.
+   * @param {import('./page').Dead} detail
+   */
+  other(detail) {
+    const ask = () => this.node.dispatchEvent(new CustomEvent('other', { detail }));
+    return html('p', {}, ['span', {}, 'It stopped at a dead point, or at the end of its way. '],
+      ['button', { id: 'other-shape', onclick: ask }, 'The other shape']);
   }
 
   /**
@@ -40,6 +60,7 @@ export class Verdict {
     if (answer.ms) this.node.append(html('span', time, `${answer.ms} ms`));
     for (const each of nodes) if (each) this.node.append(each);
     if (answer.judgement?.found) this.node.append(this.pieces());
+    if (this.dead?.text === this.paper.text) this.node.append(this.other(this.dead));
     if (focused) this.focus(focused);
   }
 

@@ -1,0 +1,148 @@
+"""A drag on the board: the server keeps what follows the hand, and tells of each frame what isn't
+as it was in the frame before."""
+from __future__ import annotations
+
+from collections.abc import Mapping
+from dataclasses import dataclass, field
+from typing import TYPE_CHECKING, cast
+
+from pertxogai.board.anchors import point_of
+from pertxogai.board.board_drawing import BoardDrawing
+from pertxogai.board.fields import FieldRefused, Fields
+from pertxogai.board.marks import marks
+from pertxogai.board.protocol import Dragged, Mark, Point
+from pertxogai.drawing import Arc, Circle, Drawing, PointRef, points_of
+from pertxogai.drawing.mentions import named
+from pertxogai.output.picture.drawings import DrawnPlaces
+
+if TYPE_CHECKING:
+    from pertxogai.search.dragging import Drag, Frame, Grip
+    from pertxogai.search.searched import Searched
+
+NM_PER_MM = 1e6
+NM_PER_UM = 1e3
+PLACES = 7
+"""Millimetres are told to a tenth of a nanometre."""
+MOST_DRAGS = 2
+"""How many drags are kept: a page has one."""
+FIXED = "nothing is free here: its constraints fix it"
+NO_OTHER = "no other shape is near: drag it to a dead point, where two shapes meet"
+NO_SHAPE = "no shape holds all that is asked, so nothing follows the hand: see the verdict"
+
+
+class Unknown(Exception):
+    """A frame of a drag that isn't kept here, without the places to go on from."""
+
+
+@dataclass
+class BoardDrag:
+    """What is dragged of a drawing, and what the page was told of it last."""
+
+    drawing: Drawing
+    drag: Drag
+    points: dict[str, Point] = field(default_factory=dict)
+    radii: dict[str, float] = field(default_factory=dict)
+
+    def to(self, x_nm: float, y_nm: float) -> Dragged:
+        """The frame of a hand that goes to a place."""
+        return self._frame(self.drag.to((x_nm, y_nm)))
+
+    def turn(self) -> Dragged:
+        """The other shape at a dead point."""
+        frame = self.drag.turn()
+        return {"fixed": NO_OTHER} if frame is None else self._frame(frame)
+
+    def _frame(self, frame: Frame) -> Dragged:
+        points = {str(ref): _mm(spot) for ref, spot in frame.points.items()}
+        radii = {name: round(radius / NM_PER_MM, PLACES) for name, radius in frame.radii.items()}
+        answer: Dragged = {
+            "points": {name: spot for name, spot in points.items()
+                       if self.points.get(name) != spot},
+            "radii": {name: radius for name, radius in radii.items()
+                      if self.radii.get(name) != radius},
+            "marks": self._marks(frame), "reach": frame.reach.value, "off": frame.off_nm}
+        self.points, self.radii = points, radii
+        return answer
+
+    def _marks(self, frame: Frame) -> list[Mark]:
+        """The marks of what is asked of the shapes that move, where these lie now."""
+        where = DrawnPlaces(self.drag.moving, frame.whole)
+        return [mark for number, constraint in enumerate(self.drawing.constraints, start=1)
+                if not self.drag.names.isdisjoint(named(constraint))
+                for mark in marks(where, number, constraint)]
+
+
+class Drags:
+    """The drags that are kept, by the names that pages gave them."""
+
+    def __init__(self) -> None:
+        self._kept: dict[str, BoardDrag] = {}
+
+    def frame(self, judged: BoardDrawing, given: Fields) -> Dragged:
+        """The frame of a drag: of one that is kept, begun, or gone on with from places that are
+        given. Raises FieldRefused, WordFault."""
+        if judged.searched is None:
+            return {"fixed": NO_SHAPE if judged.judgement.solution is None else FIXED}
+        from pertxogai.search.dragging import NothingFree
+        name = given.text("drag")
+        dragged = self._kept.pop(name, None)
+        try:
+            if dragged is None or dragged.drawing is not judged.drawing:
+                dragged = _begun(judged.drawing, judged.searched, given)
+        except NothingFree:
+            return {"fixed": FIXED}
+        except Unknown:
+            return {"lost": True}
+        self._kept[name] = dragged
+        while len(self._kept) > MOST_DRAGS:
+            del self._kept[next(iter(self._kept))]
+        return dragged.turn() if given.flag("turns") else dragged.to(*_place_nm(given))
+
+
+def _begun(drawing: Drawing, searched: Searched, given: Fields) -> BoardDrag:
+    """A drag that begins, or goes on where another worker had it. Raises NothingFree, Unknown,
+    FieldRefused, WordFault."""
+    from pertxogai.search.dragging import Drag
+    x = None
+    if given.has("places"):
+        x = searched.met_at(*_places_nm(drawing, Fields.of(given.values["places"])))
+    elif not given.flag("begins"):
+        raise Unknown
+    grip = _grip(drawing, given)
+    drag = Drag(searched.equations, searched.found.x, grip, x, searched.loose())
+    return BoardDrag(drawing, drag)
+
+
+def _grip(drawing: Drawing, given: Fields) -> Grip:
+    """What a hand holds: the points of what it names; a single rim by its radius."""
+    from pertxogai.search.dragging import Grip
+    begin = Fields.of(given.values.get("begin"))
+    at, names = _place_nm(begin), given.texts("names")
+    shapes = {shape.name: shape for shape in drawing.geometry}
+    if len(names) == 1 and isinstance(shapes.get(names[0]), (Circle, Arc)):
+        return Grip(at, rim=names[0])
+    points = [ref for name in names for ref in (
+        points_of(shapes[name]) if name in shapes else (point_of(drawing.scene, name),))]
+    return Grip(at, tuple(points))
+
+
+def _place_nm(given: Fields) -> tuple[float, float]:
+    return float(given.um("x")) * NM_PER_UM, float(given.um("y")) * NM_PER_UM
+
+
+def _places_nm(drawing: Drawing, given: Fields) -> tuple[
+        Mapping[PointRef, tuple[float, float]], Mapping[str, float]]:
+    """The places of points and the radii of rims that a page gives back. Raises FieldRefused,
+    WordFault."""
+    points, radii = (Fields.of(given.values.get(name)).values for name in ("points", "radii"))
+    try:
+        return ({point_of(drawing.scene, name): (float(x) * NM_PER_MM, float(y) * NM_PER_MM)
+                 for name, (x, y) in cast(Mapping[str, Point], points).items()},
+                {name: float(radius) * NM_PER_MM
+                 for name, radius in cast(Mapping[str, float], radii).items()})
+    except (TypeError, ValueError):
+        raise FieldRefused("'places' has to have points and radii in millimetres") from None
+
+
+def _mm(spot: tuple[float, float]) -> Point:
+    return round(spot[0] / NM_PER_MM, PLACES), round(spot[1] / NM_PER_MM, PLACES)
