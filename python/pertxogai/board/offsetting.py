@@ -13,6 +13,7 @@ from pertxogai.board.edges import Edge, Round, Straight, crossed, edge_of, way
 from pertxogai.board.held import Words, chosen, placed_by_numbers
 from pertxogai.board.line_reader import asked, asking
 from pertxogai.board.mapping import PointUm, numbers, rounded
+from pertxogai.board.named_value import named
 from pertxogai.board.new_names import Figure, free_name
 from pertxogai.board.typed import value_word
 from pertxogai.drawing import (
@@ -112,9 +113,12 @@ class Offset:
         scene = behind(replace(_outer(placed.drawing), constraints=()), placed.shapes(names))
         orders = _orders(drawing, outline, names, mm_text(size), placed)
         found = min((chosen(scene, order) for order in orders), key=lambda each: each.left)
-        made = behind(drawing, drawn.shapes(names))
-        for words in found.lines:
-            made = asking(made, list(words))
+        made, lines = named(behind(drawing, drawn.shapes(names)), found.lines, "distance", "Offset",
+                            value_word(self.size))
+        for words in lines:
+            is_plain = words[0] == "distance" and lines is found.lines
+            made = asking(made, [*words[:-1], *value_word(self.size).split()] if is_plain
+                          else list(words))
         return made
 
     def _size(self, drawing: Drawing) -> Fraction:

@@ -11,6 +11,7 @@ from pertxogai.board.copying import Copy, behind, copied
 from pertxogai.board.held import Held, Words, chosen, held, placed_by_numbers
 from pertxogai.board.line_reader import asking
 from pertxogai.board.mapping import Mapping, mirror, numbers, shift, turn
+from pertxogai.board.named_value import Lines, named as named_value
 from pertxogai.board.new_names import Figure, free_name
 from pertxogai.board.removal import without
 from pertxogai.classes import Classes
@@ -92,7 +93,11 @@ class Row:
                 copies, copy, points[1:])
             more = [*_equal_edges(copy), *_parallel_edges(copy)]
             found = held(copy, _orders(copy, rest, more, first))
-            drawing = _asking(copy.drawn(drawing, mapping), found.lines)
+            drawing = copy.drawn(drawing, mapping)
+            lines: Lines = found.lines
+            for word, way_um in (("x", self.dx_um), ("y", self.dy_um)):
+                drawing, lines = named_value(drawing, lines, word, "Pitch", mm_text(abs(way_um)))
+            drawing = _asking(drawing, lines)
             placed, copies = copy.whole, [*copies, copy]
         return drawing
 

@@ -158,7 +158,7 @@ def test_an_outline_beside_another(page: Page, board_of) -> None:
     field.send_keys(Keys.CONTROL, "a")
     field.send_keys("5", Keys.ENTER)
     wait_for("an outline", lambda: "segment S1 5 5 55 5\n" in page.text())
-    assert page.text().count("distance R") == 4
+    assert page.text().count(" Offset1\n") == 4 and "value Offset1 5\n" in page.text()
 
 
 def test_what_is_copied_is_pasted_also_in_another_drawing(page: Page, board_of) -> None:

@@ -165,6 +165,14 @@ def test_a_row_may_lean() -> None:
         "equal C1 C2"]
 
 
+def test_a_row_of_two_holes_has_one_value_for_its_pitch() -> None:
+    found = lines(HOLE + "circle C2 20 25 2\n", do="row", shapes=["C1", "C2"], dx=20, dy=0, count=2)
+    assert found[0] == "value Pitch1 20"
+    assert found[5:] == ["x C1.centre C3.centre Pitch1", "horizontal C1.centre C3.centre",
+                         "equal C1 C3", "equal C2 C4", "x C2.centre C4.centre Pitch1",
+                         "horizontal C2.centre C4.centre"]
+
+
 def test_a_ring_has_spokes_of_one_length_and_angle() -> None:
     assert lines("circle C1 20 0 4\n", do="ring", shapes=["C1"], about=ORIGIN, count=4)[1:] == [
         "construction segment S1 Origin C1.centre", "circle C2 0 20 4",
@@ -193,17 +201,19 @@ def test_rows_and_rings_that_arent_drawn(edit: dict[str, object], said: str) -> 
 
 def test_a_rectangle_inside_of_another() -> None:
     found = lines(RECTANGLE, do="offset", shapes=SIDES, size="5", x=50, y=30)
-    assert found[4:8] == ["segment S1 5 5 95 5", "segment S2 S1.end 95 55",
+    assert found[0] == "value Offset1 5"
+    assert found[5:9] == ["segment S1 5 5 95 5", "segment S2 S1.end 95 55",
                           "segment S3 S2.end 5 55", "segment S4 S3.end S1.start"]
-    assert set(found[15:]) == {f"{word} {side} S{number}{more}"
+    assert set(found[16:]) == {f"{word} {side} S{number}{more}"
                                for number, side in enumerate(SIDES, 1)
-                               for word, more in (("parallel", ""), ("distance", " 5"))}
+                               for word, more in (("parallel", ""), ("distance", " Offset1"))}
 
 
 def test_a_rectangle_outside_of_another() -> None:
     """Half an inch is 12.7 mm. The edges go on from one to the next as they were selected."""
     found = lines(RECTANGLE, do="offset", shapes=SIDES, size="0.5 in", x=50, y=-30)
-    assert found[4:8] == ["segment S1 -12.7 -12.7 112.7 -12.7", "segment S2 S1.end 112.7 72.7",
+    assert found[0] == "value Offset1 0.5in"
+    assert found[5:9] == ["segment S1 -12.7 -12.7 112.7 -12.7", "segment S2 S1.end 112.7 72.7",
                           "segment S3 S2.end -12.7 72.7", "segment S4 S3.end S1.start"]
 
 
