@@ -9,9 +9,10 @@ from typing import TYPE_CHECKING, cast
 from pertxogai.board.anchors import point_of
 from pertxogai.board.board_drawing import BoardDrawing
 from pertxogai.board.fields import FieldRefused, Fields
-from pertxogai.board.marks import marks
+from pertxogai.board.marks import marks, reference_marks, with_labels
 from pertxogai.board.protocol import Dragged, Mark, Point
 from pertxogai.drawing import Arc, Circle, Drawing, PointRef, points_of
+from pertxogai.drawing.labels import all_labels, references
 from pertxogai.drawing.mentions import named
 from pertxogai.output.picture.drawings import DrawnPlaces
 
@@ -67,9 +68,13 @@ class BoardDrag:
     def _marks(self, frame: Frame) -> list[Mark]:
         """The marks of what is asked of the shapes that move, where these lie now."""
         where = DrawnPlaces(self.drag.moving, frame.whole)
-        return [mark for number, constraint in enumerate(self.drawing.constraints, start=1)
-                if not self.drag.names.isdisjoint(named(constraint))
-                for mark in marks(where, number, constraint)]
+        asked = (mark for number, constraint in enumerate(self.drawing.constraints, start=1)
+                 if not self.drag.names.isdisjoint(named(constraint))
+                 for mark in marks(where, number, constraint))
+        measured = (mark for number, each in enumerate(references(self.drawing), start=1)
+                    if not self.drag.names.isdisjoint(named(each.constraint))
+                    for mark in reference_marks(where, number, each))
+        return list(with_labels([*asked, *measured], all_labels(self.drawing)))
 
 
 class Drags:

@@ -3,18 +3,19 @@ marks where all is shown. What an edit leaves as it was is taken over from the d
 isn't told again to a page that knows it."""
 from __future__ import annotations
 
-from collections.abc import Sequence
+from collections.abc import Iterator, Sequence
 from dataclasses import dataclass
 from typing import TypeVar, assert_never
 
 from pertxogai.board.anchors import leader_of
-from pertxogai.board.marks import marks
+from pertxogai.board.marks import marks, reference_marks, with_labels
 from pertxogai.board.protocol import (
     ChangedDrawing, Constraint as ConstraintJson, Drawing as DrawingJson, Kind, Mark,
     Shape as ShapeJson)
 from pertxogai.drawing import (
     VALUED, Arc, Circle, Constraint, Drawing, Segment, Shape, points_of, value_text)
 from pertxogai.drawing.geometry import Point as DrawnPoint
+from pertxogai.drawing.labels import all_labels, references
 from pertxogai.drawing.mentions import named
 from pertxogai.drawing.named_shapes import shares
 from pertxogai.judging.measure import Solution
@@ -36,8 +37,17 @@ class Sight:
 
     def told(self) -> DrawingJson:
         """All of it."""
-        marks = [mark for each in self.marks for mark in each]
-        return {"shapes": list(self.shapes), "constraints": list(self.constraints), "marks": marks}
+        marks = with_labels(self._all_marks(), all_labels(self.drawing))
+        return {"shapes": list(self.shapes), "constraints": list(self.constraints),
+                "marks": list(marks)}
+
+    def _all_marks(self) -> Iterator[Mark]:
+        """The marks of the constraints, and of what is only measured."""
+        for each in self.marks:
+            yield from each
+        where = DrawnPlaces(self.drawing, self.solution)
+        for number, reference in enumerate(references(self.drawing), 1):
+            yield from reference_marks(where, number, reference)
 
     def changed(self, known: Sight) -> ChangedDrawing:
         """All of it; None for a list, or a thing of a list, that is as it was in what is known."""

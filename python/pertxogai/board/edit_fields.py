@@ -6,6 +6,7 @@ from pertxogai.board.corners import Corner, CornerKind
 from pertxogai.board.edits import (
     Ask, Call, Construction, Draw, Edit, Erase, Lines, Move, Rename, Shift, Value)
 from pertxogai.board.fields import FieldRefused, Fields
+from pertxogai.board.labelling import Label, Measure
 from pertxogai.board.new_names import Figure
 from pertxogai.board.offsetting import Offset
 from pertxogai.board.pasting import Paste
@@ -26,10 +27,17 @@ def read_edit(drawing: Drawing, given: Fields) -> Edit:
             points = tuple(point_of(drawing.scene, each) for each in given.texts("points"))
             return Shift(given.texts("shapes"), points, given.um("dx"), given.um("dy"))
         case "erase":
-            return Erase(given.texts("shapes"), given.wholes("constraints"))
+            return Erase(given.texts("shapes"), given.wholes("constraints"),
+                         given.wholes("references"))
         case "ask":
             return Ask(given.texts("words"),
-                       given.text("value") if given.has("value") else None)
+                       given.text("value") if given.has("value") else None,
+                       given.whole("reference") if given.has("reference") else None)
+        case "reference":
+            return Measure(given.texts("words"),
+                           given.whole("number") if given.has("number") else None)
+        case "label":
+            return Label(given.whole("number"), given.um("x"), given.um("y"))
         case "lines":
             return Lines(given.texts("lines"))
         case "value":

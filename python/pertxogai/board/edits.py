@@ -10,6 +10,7 @@ from fractions import Fraction
 from pertxogai.board.anchors import leader_of, with_spot
 from pertxogai.board.corners import Corner
 from pertxogai.board.figures import centre_rectangle, polygon, slot, tangent_arc
+from pertxogai.board.labelling import Label, Measure
 from pertxogai.board.line_reader import asking, drawn, valued
 from pertxogai.board.new_names import Figure, free_name
 from pertxogai.board.offsetting import Offset
@@ -22,6 +23,7 @@ from pertxogai.drawing import (
     Anchor, Circle, Constraint, Drawing, DrawingUnsound, Place, PointRef, Shape, ShapeRef,
     WordFault, points_of)
 from pertxogai.drawing.checks import standing
+from pertxogai.drawing.labels import renamed_in_notes, without_references
 from pertxogai.drawing.mentions import with_refs
 from pertxogai.drawing.numbers import mm_text
 from pertxogai.drawing.shorthands import Expansion
@@ -121,26 +123,33 @@ class Shift:
 
 @dataclass(frozen=True)
 class Erase:
-    """Takes shapes away, with all that is asked of them, and constraints by their places."""
+    """Takes shapes away, with all that is asked of them, constraints by their places, and
+    dimensions that are only measured by theirs."""
 
     shapes: tuple[str, ...]
     constraints: tuple[int, ...]
+    references: tuple[int, ...] = ()
 
     def on(self, drawing: Drawing) -> Drawing:
         """The drawing without them."""
-        return without(drawing, frozenset(self.shapes), frozenset(self.constraints))
+        measured = without_references(drawing, frozenset(self.references))
+        return without(measured, frozenset(self.shapes), frozenset(self.constraints))
 
 
 @dataclass(frozen=True)
 class Ask:
-    """Asks for what a line says, as `length Bottom`, and the value behind it, as `40`."""
+    """Asks for what a line says, as `length Bottom`, and the value behind it, as `40`. reference:
+    the dimension that only measured it, by its place among those, which goes."""
 
     words: tuple[str, ...]
     value: str | None = None
+    reference: int | None = None
 
     def on(self, drawing: Drawing) -> Drawing:
         """The drawing with that constraint, the last. Raises DrawingUnsound, with the words, where
         the value isn't what they take."""
+        if self.reference is not None:
+            drawing = without_references(drawing, frozenset({self.reference}))
         if self.value is None:
             return asking(drawing, list(self.words))
         with faults_of(" ".join(self.words)):
@@ -198,7 +207,8 @@ class Rename:
         """The drawing with that name."""
         standing(drawing.scene, self.old, self.old)
         return replace(
-            drawing, geometry=tuple(map(self._shape, drawing.geometry)),
+            renamed_in_notes(drawing, self.old, self.new),
+            geometry=tuple(map(self._shape, drawing.geometry)),
             constraints=tuple(with_refs(each, self._point, lambda ref: ShapeRef(self._of(ref.name)))
                               for each in drawing.constraints))
 
@@ -235,8 +245,8 @@ def faults_of(where: str) -> Iterator[None]:
         raise DrawingUnsound(where, fault.word, fault.what) from None
 
 
-Edit = (Draw | Move | Shift | Erase | Ask | Lines | Value | Call | Rename | Construction | Corner
-        | Trim | Extend | Mirror | Row | Ring | Offset | Paste)
+Edit = (Draw | Move | Shift | Erase | Ask | Measure | Label | Lines | Value | Call | Rename
+        | Construction | Corner | Trim | Extend | Mirror | Row | Ring | Offset | Paste)
 
 
 def _asking(drawing: Drawing, asks: Iterable[Sequence[str]]) -> Drawing:

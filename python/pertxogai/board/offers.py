@@ -4,20 +4,15 @@ from __future__ import annotations
 import math
 from collections.abc import Iterator, Sequence
 from dataclasses import dataclass
-from fractions import Fraction
 
 from pertxogai.board.corners import CornerKind, has_corner, meetings_at
 from pertxogai.board.line_reader import asked
 from pertxogai.board.marks import sign_of
-from pertxogai.drawing import (
-    AngleBetween, Constraint, Distance, Drawing, Length, ParallelDistance, PointLineDistance,
-    PointRef, ShapeRef, WordFault, XDistance, YDistance)
+from pertxogai.board.values_shown import mm_shown, value_shown
+from pertxogai.drawing import Drawing, PointRef, ShapeRef, WordFault
 from pertxogai.drawing.constraint_lines import ConstraintWord
-from pertxogai.drawing.constraints import Diameter, Radius
 from pertxogai.drawing.cursor import Cursor
-from pertxogai.drawing.numbers import decimal_text
 from pertxogai.output.picture.drawings import DrawnPlaces
-from pertxogai.output.picture.plane import foot
 
 VALUED = frozenset({
     ConstraintWord.ANGLE, ConstraintWord.LENGTH, ConstraintWord.DISTANCE, ConstraintWord.X,
@@ -77,7 +72,7 @@ def corner_offers(drawing: Drawing, names: Sequence[str]) -> Iterator[CornerOffe
 def _round_mm(value: float) -> str:
     """A number of millimetres at most as large, of one digit: 1, 2 or 5 times a power of ten."""
     power = 10.0 ** math.floor(math.log10(value))
-    return _mm(max(each * power for each in (1, 2, 5) if each * power <= value))
+    return mm_shown(max(each * power for each in (1, 2, 5) if each * power <= value))
 
 
 def _offer(drawing: Drawing, word: ConstraintWord, points: list[str],
@@ -89,7 +84,7 @@ def _offer(drawing: Drawing, word: ConstraintWord, points: list[str],
             found = asked(drawing, trial)
         except WordFault:
             continue
-        value = _value(drawing, found[0]) if word in VALUED else None
+        value = value_shown(DrawnPlaces(drawing, None), found[0]) if word in VALUED else None
         return Offer(words, sign_of(found[0]), value)
     return None
 
@@ -109,49 +104,3 @@ def _orders(word: ConstraintWord, points: list[str],
             yield (word.value, *points, "about", *shapes)
         return
     yield (word.value, *points, *shapes)
-
-
-def _value(drawing: Drawing, constraint: Constraint) -> str | None:
-    """What is drawn, to a hundredth, as it is written."""
-    where = DrawnPlaces(drawing, None)
-    match constraint:
-        case Length(segment):
-            return _mm(math.dist(*where.ends(segment.name)))
-        case Distance(first, second):
-            return _mm(math.dist(where.at(first), where.at(second)))
-        case XDistance(first, second):
-            return _mm(abs(where.at(second)[0] - where.at(first)[0]))
-        case YDistance(first, second):
-            return _mm(abs(where.at(second)[1] - where.at(first)[1]))
-        case PointLineDistance(point, line):
-            return _mm(_height(where, where.at(point), line))
-        case ParallelDistance(line, other):
-            return _mm(_height(where, where.ends(line.name)[0], other))
-        case Radius(rim):
-            return _mm(where.radius(rim.name))
-        case Diameter(rim):
-            return _mm(2 * where.radius(rim.name))
-        case AngleBetween(first, second):
-            return _angle(drawing, where, first, second)
-        case _:
-            return None
-
-
-def _height(where: DrawnPlaces, spot: tuple[float, float], line: ShapeRef) -> float:
-    return math.dist(spot, foot(spot, *where.ends(line.name)))
-
-
-def _angle(drawing: Drawing, where: DrawnPlaces, first: ShapeRef, second: ShapeRef) -> str:
-    """The angle of two segments as on paper: of their corner where they have one."""
-    (ax, ay), (bx, by) = where.ends(first.name)
-    (cx, cy), (dx, dy) = where.ends(second.name)
-    turn = math.degrees(math.atan2(dy - cy, dx - cx) - math.atan2(by - ay, bx - ax)) % 360
-    turn = min(turn, 360 - turn)
-    corner = drawing.meetings.corner(first, second)
-    if corner is not None and corner.first.which is not corner.second.which:
-        turn = 180 - turn
-    return f"{decimal_text(Fraction(round(turn)))}deg"
-
-
-def _mm(value: float) -> str:
-    return decimal_text(Fraction(round(value * 100), 100))

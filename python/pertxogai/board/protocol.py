@@ -85,19 +85,42 @@ class ShiftEdit(TypedDict):
 
 
 class EraseEdit(TypedDict):
-    """Takes shapes away, and constraints by their numbers."""
+    """Takes shapes away, constraints by their numbers, and dimensions that are only measured by
+    their places among those."""
 
     do: Literal["erase"]
     shapes: NotRequired[list[str]]
     constraints: NotRequired[list[int]]
+    references: NotRequired[list[int]]
 
 
 class AskEdit(TypedDict):
-    """Asks for a constraint."""
+    """Asks for a constraint. reference: the dimension that was only measured before, by its place
+    among those."""
 
     do: Literal["ask"]
     words: list[str]
     value: NotRequired[str]
+    reference: NotRequired[int]
+
+
+class ReferenceEdit(TypedDict):
+    """Measures a dimension, by its words without a value, and asks nothing. number: the constraint
+    that asked for it before."""
+
+    do: Literal["reference"]
+    words: list[str]
+    number: NotRequired[int]
+
+
+class LabelEdit(TypedDict):
+    """Puts the label of a dimension, by the number of its mark, so far from where it is
+    measured."""
+
+    do: Literal["label"]
+    number: int
+    x: float
+    y: float
 
 
 class LinesEdit(TypedDict):
@@ -217,7 +240,8 @@ class PasteEdit(TypedDict):
     dy: float
 
 
-Edit = (DrawEdit | MoveEdit | ShiftEdit | EraseEdit | AskEdit | LinesEdit | ValueEdit | CallEdit
+Edit = (DrawEdit | MoveEdit | ShiftEdit | EraseEdit | AskEdit | ReferenceEdit | LabelEdit
+        | LinesEdit | ValueEdit | CallEdit
         | RenameEdit | ConstructionEdit | CornerEdit | TrimEdit | ExtendEdit | MirrorEdit | RowEdit
         | RingEdit | OffsetEdit | PasteEdit)
 
@@ -330,22 +354,31 @@ class Constraint(TypedDict):
 
 
 class MarkAlone(TypedDict):
-    """What is drawn of a constraint: a bar between two places with a text, or a text or a sign at
-    a place. way: the direction of the edge that a sign stands beside. radius: that of the rim
-    which a text stands beside."""
+    """What is drawn of a constraint: a bar between two places with a text, a text with a leader to
+    a place on a rim, a text at an arc about a corner, or a text or a sign at a place. way: the
+    direction of the edge that a sign stands beside. centre: that of the rim. whole: whether the
+    leader may end anywhere on it. turn: where an arc begins, and how far it goes round, in
+    radians."""
 
     text: NotRequired[str]
     sign: NotRequired[str]
     bar: NotRequired[tuple[Point, Point]]
     at: NotRequired[Point]
     way: NotRequired[Point]
-    radius: NotRequired[float | None]
+    centre: NotRequired[Point]
+    whole: NotRequired[bool]
+    turn: NotRequired[Point]
 
 
 class Mark(MarkAlone):
-    """A mark of the constraint that has a number."""
+    """A mark of the constraint that has a number; of a dimension that is only measured the number
+    is negative, its place among those, and its words without a value stand beside. label: how far
+    the text stands from where the dimension is measured, where the drawing says so."""
 
     number: int
+    words: NotRequired[list[str]]
+    value: NotRequired[str]
+    label: NotRequired[Point]
 
 
 class Drawing(TypedDict):

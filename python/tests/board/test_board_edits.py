@@ -213,3 +213,41 @@ def test_offers_of_rims_and_nothing() -> None:
     assert offered(rims, "C")["diameter C"] == "10"
     assert {"tangent C D", "equal C D", "concentric C D"} <= set(offered(rims, "C", "D"))
     assert offered(TRIANGLE) == {}
+
+
+# Labels, and dimensions that are only measured.
+
+MEASURED = TRIANGLE + "# reference distance S1.start S2.end; label 2 -3\n"
+
+
+def test_a_label_is_put_elsewhere() -> None:
+    assert lines(TRIANGLE, do="label", number=1, x=1.5, y=-12)[-1] == "length S1 40 # label 1.5 -12"
+    assert lines(MEASURED, do="label", number=-1, x=0, y=9.25)[-1] == (
+        "# reference distance S1.start S2.end; label 0 9.25")
+    for number in (2, 0, -2):
+        assert "doesn't stand" in trouble(MEASURED, do="label", number=number, x=0, y=0)
+
+
+def test_a_dimension_is_only_measured_and_asked_for_again() -> None:
+    text = edited(TRIANGLE, do="label", number=1, x=1.5, y=-12)["text"]
+    found = edited(text, do="reference", words=["length", "S1"], number=1)["text"]
+    assert found.splitlines()[4:] == ["# reference length S1; label 1.5 -12"]
+    again = lines(found, do="ask", words=["length", "S1"], value="41", reference=1)
+    assert again[3:] == ["length S1 41"]
+    assert "is no dimension" in trouble(TRIANGLE, do="reference", words=["length", "S1", "S2"])
+    assert "measures nothing" in trouble(TRIANGLE, do="reference", words=["wide", "S1"])
+
+
+def test_what_is_measured_goes_and_is_renamed() -> None:
+    assert lines(MEASURED, do="erase", references=[1]) == lines(TRIANGLE, do="erase")
+    assert lines(MEASURED, do="rename", old="S1", new="Base")[-1] == (
+        "# reference distance Base.start S2.end; label 2 -3")
+
+
+def test_the_marks_of_labels_and_of_what_is_measured() -> None:
+    """From (0, 0) to (20, 30) it is 36.06 mm."""
+    marks = edited(MEASURED, do="label", number=1, x=1.5, y=-12)["drawing"]["marks"]
+    assert marks[0] == {"bar": ((0, 0), (40, 0)), "text": "40", "number": 1, "label": (1.5, -12)}
+    assert marks[1] == {"bar": ((0, 0), (20, 30)), "text": "(36.06)", "number": -1,
+                        "words": ["distance", "S1.start", "S2.end"], "value": "36.06",
+                        "label": (2, -3)}

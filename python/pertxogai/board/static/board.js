@@ -59,6 +59,11 @@ export class Board {
    */
   grouped = new Set();
   /**
+   * Where a hand holds the label of a dimension.
+   * @type {import('./marks.js').Dragged}
+   */
+  dragged = new Map();
+  /**
    * The marks of what is proposed, each with its line.
    * @type {(Mark & { line: string })[]}
    */
@@ -134,12 +139,12 @@ export class Board {
   drawNow() {
     this.waits = false;
     const { drawing: { shapes, marks }, judgement } = this.overlay ? NOTHING : this.answer;
-    const { shown: { views, drawn }, plane } = this;
+    const { plane } = this;
     const isStill = this.isStill(shapes, judgement);
     /** @type {Record<string, Keyed[] | null>} */
     const made = {
       grid: this.grid(this.size()),
-      drawn: views.length && !judgement?.found ? stillMade(shapes, drawn, plane) : [],
+      drawn: this.faint(shapes, judgement),
       edges: isStill ? null : shapes.map((shape) => this.edge(shape)),
       other: this.other ? stillMade(shapes, this.other, plane) : [],
       proposed: this.proposedMarks(marks),
@@ -154,6 +159,17 @@ export class Board {
     for (const [kind, things] of Object.entries(made)) if (things) this.layers[kind].show(things);
     this.drawHand();
     this.node.dataset.drawn = String(Number(this.node.dataset.drawn ?? 0) + 1);
+  }
+
+  /**
+   * What is drawn, faint below what is placed; nothing of it while all is shown in a shape that was
+   * found.
+   * @param {Shape[]} shapes
+   * @param {Judgement | null | undefined} judgement
+   */
+  faint(shapes, judgement) {
+    const { shown: { views, drawn }, plane } = this;
+    return views.length && !judgement?.found ? stillMade(shapes, drawn, plane) : [];
   }
 
   /**
@@ -309,11 +325,14 @@ export class Board {
     const kinds = this.kindsOfMarks(judgement);
     const told = new Map((judgement?.excess ?? []).map((each) => [each.number, each.told]));
     const { scale, x, y } = this.plane;
-    const from = [scale, x, y, marks];
-    if (!this.isSame('places', from)) this.placed = new Marks(this.plane).all(marks);
-    if (this.isSame('marks', [...from, kinds.join(), JSON.stringify([...told])])) return null;
+    const from = [scale, x, y, marks, this.dragged];
+    if (!this.isSame('places', from)) this.placed = new Marks(this.plane, this.dragged).all(marks);
+    const measured = [...this.selection.numbers].filter((each) => each < 0).join();
+    const all = [...from, kinds.join(), measured, JSON.stringify([...told])];
+    if (this.isSame('marks', all)) return null;
     return this.placed.map((mark, place) => markMade(
-      mark, place, kinds[mark.number - 1], told.get(mark.number)));
+      mark, place, kinds[mark.number - 1] ?? this.kindOfReference(mark.number),
+      told.get(mark.number)));
   }
 
   /**
@@ -341,6 +360,22 @@ export class Board {
     if (String(numbers) === String([...this.grouped])) return;
     this.grouped = new Set(numbers);
     this.draw();
+  }
+
+  /**
+   * The classes of the mark of a dimension that is only measured.
+   * @param {number} number
+   */
+  kindOfReference(number) {
+    return `markgroup reference ${this.selection.numbers.has(number) ? 'selectedmark' : ''}`;
+  }
+
+  /**
+   * The mark of a dimension where it was placed, by its number.
+   * @param {number} number
+   */
+  markOf(number) {
+    return this.placed.find((each) => each.number === number && !each.sign);
   }
 
   /**
@@ -461,6 +496,17 @@ export class Board {
     const isBeside = (/** @type {number[]} */ [left, low, right, high]) => left < 0 || low < 0
       || right > width || high > height;
     if (this.boxes().some(isBeside)) this.fit();
+  }
+
+  /**
+   * The box of all edges, in pixels: left, high, right, low; null where there is none.
+   * @returns {number[] | null}
+   */
+  edgeBox() {
+    const { node } = this.layers.edges;
+    if (!node.childElementCount) return null;
+    const { x, y, width, height } = /** @type {SVGGElement} */ (node).getBBox();
+    return [x, y, x + width, y + height];
   }
 
   /** The boxes of all edges, and of the other shape, in pixels: left, low, right, high. */

@@ -39,6 +39,25 @@ export function told(title, content) {
   });
 }
 
+/** What is given in the place of a value where it is only to be measured. */
+export const MEASURED = Symbol('measured');
+
+/**
+ * The value of a dimension that is typed at a place of the board, in pixels, or that it is only to
+ * be measured; null where it is given up.
+ * @param {string} label
+ * @param {string} value
+ * @param {import('./page').Place} place
+ * @returns {Promise<string | typeof MEASURED | null>}
+ */
+export async function dimension(label, value, place) {
+  byId('measure').hidden = false;
+  const answer = await typed(label, value, place);
+  byId('measure').hidden = true;
+  const isMeasured = nodeOf('value', HTMLDialogElement).returnValue === 'measured';
+  return isMeasured ? MEASURED : answer;
+}
+
 /**
  * The value that is typed at a place of the board, in pixels; null where it is given up.
  * @param {string} label

@@ -6,18 +6,21 @@ import { apart, pathOf } from './shapes.js';
 import { namesOf } from './selection.js';
 import { Sequence } from './sequence.js';
 import { Guesses, signOf } from './guesses.js';
+import { boxMade, boxOf, taken } from './box.js';
 import { Copies } from './copies.js';
 import { Dragging } from './dragging.js';
+import { Pointing } from './pointing.js';
 import { figurePath } from './outlines.js';
 
 /** @typedef {import('./page').Place} Place */
 /** @typedef {import('./protocol').Edit} Edit */
 
 /**
- * What was pressed, where it was first and last, whether it pans, whether it was moved, and the
- * edit that it makes, with what is guessed of it.
- * @typedef {{ at: Place, last: Place, thing: Thing, pans: boolean, moved: boolean,
- *   follows?: boolean, edit: Edit | null, guesses: import('./guesses.js').Guess[] }} Pressed
+ * What was pressed, where it was first and last, whether it pans or draws a box, whether it was
+ * moved, whether what is open follows, and the edit that it makes, with what is guessed of it.
+ * @typedef {{ at: Place, last: Place, thing: Thing, pans: boolean, boxes: boolean,
+ *   moved: boolean, follows?: boolean, edit: Edit | null,
+ *   guesses: import('./guesses.js').Guess[] }} Pressed
  */
 /** @typedef {import('./guesses.js').Aim} Aim */
 /**
@@ -54,6 +57,13 @@ export class Gestures {
   last = [[0, 0], NONE_HELD];
   /** What was done while the server had a click to answer. */
   sequence = new Sequence();
+  /** Whether a key is held by which the hand pans. */
+  pans = false;
+  /**
+   * The dimension whose label a hand holds, and where that stood in pixels.
+   * @type {{ number: number, from: Place } | null}
+   */
+  grip = null;
 
   /**
    * @param {import('./board.js').Board} board
@@ -71,10 +81,14 @@ export class Gestures {
     this.guesses = new Guesses(board);
     this.dragging = new Dragging(board, paper, selection, tell);
     this.copies = new Copies(board, paper, selection, hand, tell);
+    this.pointing = new Pointing(board);
     this.hears('pointerdown', (event, at) => this.down(event, at));
     this.hears('pointermove', (event, at) => this.move(event, at));
     this.hears('pointerup', (event, at) => this.up(event, at));
     this.hears('pointercancel', () => this.cancel());
+    board.node.addEventListener('pointerleave', () => this.point(null, [0, 0]));
+    board.node.addEventListener('contextmenu', (event) => event.preventDefault());
+    selection.addEventListener('change', () => this.tellPoint());
     board.node.addEventListener('wheel', (event) => this.wheel(event), { passive: false });
   }
 
@@ -132,11 +146,12 @@ export class Gestures {
    * @param {Place} at
    */
   down(event, at) {
-    if (event.button > 1 || !(event.target instanceof Element)) return;
+    if (event.button > 2 || !(event.target instanceof Element)) return;
     this.board.node.setPointerCapture(event.pointerId);
     const thing = this.touched(event.target, at);
-    const pans = event.button === 1 || (!thing && !this.hand.draws);
-    this.pressed = { at, last: at, thing, pans, moved: false, edit: null, guesses: [] };
+    const pans = event.button > 0 || this.pans;
+    const boxes = !pans && !thing && !this.hand.draws;
+    this.pressed = { at, last: at, thing, pans, boxes, moved: false, edit: null, guesses: [] };
   }
 
   /**
@@ -159,21 +174,37 @@ export class Gestures {
    * @param {Place} at
    */
   move(event, at) {
-    const { pressed, board } = this;
+    const { pressed } = this;
     if (pressed && !event.buttons) this.up(event, at);
     if (!pressed || !event.buttons) {
-      this.hover(at, heldOf(event));
+      this.hover(at, heldOf(event), event.target);
       return;
     }
     pressed.moved ||= apart(at, pressed.at) > SLACK;
     if (!pressed.moved) return;
+    this.carry(pressed, event, at);
+    pressed.last = at;
+  }
+
+  /**
+   * What was pressed goes with the hand: the board, a box, what is dragged, a label.
+   * @param {Pressed} pressed
+   * @param {PointerEvent} event
+   * @param {Place} at
+   */
+  carry(pressed, event, at) {
+    const { board } = this;
     if (pressed.pans) {
       board.plane.pan(at[0] - pressed.last[0], at[1] - pressed.last[1]);
       board.draw();
+    } else if (pressed.boxes) {
+      board.preview = () => [boxMade(boxOf(pressed.at, at))];
+      board.drawHand();
     } else if (!this.hand.draws && typeof pressed.thing === 'string') {
       this.drag(pressed, pressed.thing, at, heldOf(event));
+    } else if (!this.hand.draws && typeof pressed.thing === 'number') {
+      this.hold(pressed.thing, at, pressed.at);
     } else this.hover(at, heldOf(event));
-    pressed.last = at;
   }
 
   /**
@@ -200,6 +231,50 @@ export class Gestures {
   }
 
   /**
+   * Holds the label of a dimension at a place in pixels.
+   * @param {number} number
+   * @param {Place} at
+   * @param {Place} from
+   */
+  hold(number, at, from) {
+    const label = this.labelAt(number, at, from);
+    this.board.dragged = new Map(label ? [[number, label]] : []);
+    this.board.draw();
+  }
+
+  /**
+   * How far the label of a dimension stands from where it is measured, in millimetres, once it was
+   * dragged from one place in pixels to another; null of a sign.
+   * @param {number} number
+   * @param {Place} at
+   * @param {Place} from
+   * @returns {Place | null}
+   */
+  labelAt(number, [x, y], [u, v]) {
+    const { board, board: { plane } } = this;
+    const base = board.markOf(number)?.base;
+    if (!base) return null;
+    this.grip ??= { number, from: /** @type {Place} */ (board.markPlace(number)) };
+    const [a, b] = plane.toPlane([this.grip.from[0] + x - u, this.grip.from[1] + y - v]);
+    return [rounded(a - base[0], 1000), rounded(b - base[1], 1000)];
+  }
+
+  /**
+   * The label of a dimension is let go where it is held.
+   * @param {number} number
+   * @param {Place} at
+   * @param {Place} from
+   */
+  async label(number, at, from) {
+    const { board, paper } = this;
+    const label = this.labelAt(number, at, from);
+    this.grip = null;
+    if (label) await paper.edit({ do: 'label', number, x: label[0], y: label[1] });
+    board.dragged = new Map();
+    board.draw();
+  }
+
+  /**
    * Where something is dropped at a place in pixels: a point of what is open on another, in the
    * middle of a segment or on an edge; all else on the grid.
    * @param {string} name
@@ -209,7 +284,7 @@ export class Gestures {
    */
   drop(name, pixels, { ctrlKey }) {
     const { board, guesses, paper: { answer } } = this;
-    const isPoint = board.shown.at(name) && !DATUM.includes(name);
+    const isPoint = board.shown.at(name) && !DATUM.includes(name) && !this.isGroup(name);
     if (ctrlKey || !isPoint || answer?.judgement?.placed) return guesses.plain(pixels);
     const aim = guesses.aim(pixels, this.moving(name));
     if (!('point' in aim.spot)) return aim;
@@ -239,6 +314,7 @@ export class Gestures {
    */
   dragged(name, from, [x, y]) {
     if (DATUM.includes(name)) return null;
+    if (this.isGroup(name)) return this.shifted(from, [x, y]);
     const { shown, answer: { drawing } } = this.board;
     if (shown.at(name)) return { do: 'move', points: [{ of: name, x, y }] };
     const centre = shown.at(`${name}.centre`);
@@ -248,6 +324,35 @@ export class Gestures {
     }
     const [u, v] = this.onGrid(from);
     return { do: 'shift', shapes: [name], dx: rounded(x - u, 1000), dy: rounded(y - v, 1000) };
+  }
+
+  /**
+   * Whether a thing is one of several that are selected: then all of them move with it.
+   * @param {string} name
+   */
+  isGroup(name) {
+    const { names } = this.selection;
+    return names.size > 1 && names.has(name);
+  }
+
+  /**
+   * The edit by which all that is selected is shifted, from a place in pixels to one in
+   * millimetres.
+   * @param {Place} from
+   * @param {Place} to
+   * @returns {Edit}
+   */
+  shifted(from, [x, y]) {
+    const [u, v] = this.onGrid(from);
+    const way = { dx: rounded(x - u, 1000), dy: rounded(y - v, 1000) };
+    return { do: 'shift', ...this.movable(), ...way };
+  }
+
+  /** The points and shapes that are selected, without the datum. */
+  movable() {
+    const names = [...this.selection.names].filter((name) => !DATUM.includes(name));
+    return { points: names.filter((name) => this.board.shown.at(name)),
+      shapes: names.filter((name) => !this.board.shown.at(name)) };
   }
 
   /**
@@ -261,10 +366,27 @@ export class Gestures {
     if (!pressed) return;
     if (pressed.follows) this.letGo(pressed);
     else if (pressed.edit) this.land(pressed.edit, pressed);
+    else if (pressed.boxes && pressed.moved) this.box(pressed.at, at, heldOf(event));
     else if (event.button === 0 && !(pressed.pans && pressed.moved)) {
       this.release(pressed, at, heldOf(event));
     }
     this.clicked = pressed.moved ? null : pressed.thing;
+  }
+
+  /**
+   * Selects what a box takes; with Shift adds it, with Ctrl what is selected in it goes.
+   * @param {Place} from
+   * @param {Place} to
+   * @param {Held} held
+   */
+  box(from, to, { shiftKey, ctrlKey }) {
+    const { board, selection } = this;
+    board.preview = null;
+    const names = taken(board, boxOf(from, to));
+    if (ctrlKey) selection.turn(names);
+    else selection.set(shiftKey ? [...selection.names, ...names] : names,
+      shiftKey ? selection.numbers : []);
+    this.tell(names.length ? `${[...selection.names].join(', ')} selected` : this.hand.hint);
   }
 
   /**
@@ -299,7 +421,8 @@ export class Gestures {
     this.sequence.do(() => {
       const [start, end] = [plane.toScreen(first), plane.toScreen(last)];
       if (this.hand.draws) return this.act(end, held);
-      if (!moved) return this.select(thing, held.shiftKey);
+      if (!moved) return this.select(thing, held.shiftKey || held.ctrlKey);
+      if (typeof thing === 'number') return this.label(thing, end, start);
       if (typeof thing !== 'string') return null;
       const aim = this.drop(thing, end, held);
       if (this.dragging.begin(thing, start, held.altKey)) {
@@ -313,7 +436,9 @@ export class Gestures {
   /** The browser takes the pointer away: what was dragged stays where it was. */
   cancel() {
     this.pressed = null;
+    this.grip = null;
     this.board.preview = null;
+    this.board.dragged = new Map();
     this.dragging.drop();
     this.paper.drop();
   }
@@ -415,16 +540,21 @@ export class Gestures {
   }
 
   /**
-   * Shows what a click would draw, and ask for.
+   * Shows what a click would draw, and ask for; where it would select, what lies there.
    * @param {Place} pixels
    * @param {Held} held
+   * @param {EventTarget | null} [target]
    */
-  hover(pixels, held) {
+  hover(pixels, held, target = null) {
     const { board, hand } = this;
     this.last = [pixels, held];
+    if (!hand.draws) {
+      this.point(target instanceof Element ? this.touched(target, pixels) : null, pixels);
+      return;
+    }
     if (!hand.figure) {
       board.preview = this.previewOf(pixels, held);
-      if (hand.draws) board.drawHand();
+      board.drawHand();
       return;
     }
     const { at, isPoint, guesses } = this.aim(pixels, held);
@@ -440,6 +570,19 @@ export class Gestures {
         svg('circle', { class: kind, cx, cy, r }), ...this.signs(guesses)];
     };
     board.drawHand();
+  }
+
+  /**
+   * Has what lies under the hand stand out, with its name.
+   * @param {Thing} thing
+   * @param {Place} pixels
+   */
+  point(thing, pixels) {
+    const { board, hand } = this;
+    if (hand.draws || this.pressed) return;
+    const had = board.preview;
+    board.preview = thing ? () => this.pointing.made(thing, pixels) : null;
+    if (had || thing) board.drawHand();
   }
 
   /**
@@ -539,10 +682,8 @@ export class Gestures {
    */
   shift(dx, dy) {
     const step = this.board.plane.step() / 2;
-    const names = [...this.selection.names].filter((name) => !DATUM.includes(name));
-    const points = names.filter((name) => this.board.shown.at(name));
-    const shapes = names.filter((name) => !this.board.shown.at(name));
-    if (!names.length) return;
+    const { points, shapes } = this.movable();
+    if (points.length + shapes.length === 0) return;
     this.paper.edit({ do: 'shift', points, shapes, dx: dx * step, dy: dy * step });
   }
 
@@ -557,7 +698,24 @@ export class Gestures {
     const place = last ? names.indexOf(last) : Math.min(0, -step);
     const name = names.at((place + step) % names.length);
     if (name) this.selection.take(name, more);
-    this.tell(`${[...this.selection.names].join(', ')} selected`);
+    this.tell(`${[...this.selection.names].map((each) => this.named(each)).join(', ')} selected`);
+  }
+
+  /**
+   * A name, of a point with its place.
+   * @param {string} name
+   */
+  named(name) {
+    const at = this.board.shown.at(name);
+    return at ? `${name} at ${at.map((each) => rounded(each, 1000)).join(' ')} mm` : name;
+  }
+
+  /** Tells the place of a point that is selected alone. */
+  tellPoint() {
+    const [name, ...more] = this.selection.names;
+    if (name && !more.length && !this.hand.draws && this.board.shown.at(name)) {
+      this.tell(`${this.named(name)} selected`);
+    }
   }
 }
 

@@ -22,6 +22,9 @@ export class Keys {
     document.addEventListener('keydown', (event) => {
       if (this.does(event)) event.preventDefault();
     });
+    document.addEventListener('keyup', ({ key }) => {
+      if (key === ' ') this.page.gestures.pans = false;
+    });
   }
 
   /**
@@ -51,8 +54,20 @@ export class Keys {
     else if (event.altKey) return pressed(`Alt+${key}`);
     else if (ZOOMS[key]) this.page.board.zoomBy(ZOOMS[key]);
     else if (key === 'Escape') this.page.escape();
-    else if (key === 'Enter' && onBoard(event)) this.enter(shift);
+    else if (onBoard(event) && this.onBoard(key, shift)) return true;
     else return pressed(key);
+    return true;
+  }
+
+  /**
+   * Does what a key says on the board alone; false where it says nothing.
+   * @param {string} key
+   * @param {boolean} shift
+   */
+  onBoard(key, shift) {
+    if (key === ' ') this.page.gestures.pans = true;
+    else if (key === 'Enter') this.enter(shift);
+    else return false;
     return true;
   }
 

@@ -44,7 +44,7 @@ export class Page {
     const { paper, selection, hand } = this;
     this.board = new Board(nodeOf('board', SVGSVGElement), selection);
     this.gestures = new Gestures(this.board, paper, selection, hand, hint);
-    this.offers = new Offers(paper, this.board, selection);
+    this.offers = new Offers(paper, this.board, selection, hint);
     this.verdict = new Verdict(byId('verdict'), paper, selection, this.board);
     this.verdict.node.addEventListener('other', (event) => {
       if (event instanceof CustomEvent) {
@@ -98,6 +98,8 @@ export class Page {
   /** Listens to the parts, and shows what was kept. */
   begin() {
     const { paper, keeping } = this;
+      alike: () => this.selection.alike(this.board.answer.drawing),
+      all: () => this.selection.set(this.board.answer.drawing.shapes.map((each) => each.name)),
     paper.when('begin', () => this.leave());
     paper.when('answer', (answer) => this.show(answer));
     paper.when('trouble', (text) => hint(text, 'trouble'));

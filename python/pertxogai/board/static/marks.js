@@ -30,6 +30,20 @@ const ROW = 15;
 /** Pixels within which two bars that run one way lie over each other. */
 const ASIDE = 9;
 
+/** How far in pixels the text of a rim may stand beside it, and how far round. */
+const LEADERS = [26, 44, 62, 84, 110];
+const ROUND = [0, 90, 270, 180, 30, -30, 60, -60].map((each) => each * Math.PI / 180);
+/** How far in pixels the arc of an angle may lie from its corner. */
+const ARCS = [30, 46, 62, 78, 94, 110, 126];
+/** So far in pixels a text goes aside where it finds no other place. */
+const FURTHER = [36, 54, 72, 90, 108, 126, 144, 162, 180];
+
+/**
+ * Where the labels of dimensions stand while a hand drags one, by the numbers of their marks.
+ * @typedef {Map<number, Place>} Dragged
+ */
+/** @typedef {Omit<PlacedMark, 'number'>} Made */
+
 /** Finds places for the marks of an answer; those that are taken make the next one step aside. */
 export class Marks {
   /**
@@ -43,41 +57,80 @@ export class Marks {
    */
   bars = [];
 
-  /** @param {import('./view.js').View} plane */
-  constructor(plane) {
+  /**
+   * @param {import('./view.js').View} plane
+   * @param {Dragged} [dragged]
+   */
+  constructor(plane, dragged = new Map()) {
     this.plane = plane;
+    this.dragged = dragged;
   }
 
   /**
-   * All marks with their places, bars first.
+   * All marks with their places: those whose place the drawing says first, then bars.
    * @param {(Mark & { line?: string })[]} marks
    * @returns {PlacedMark[]}
    */
   all(marks) {
-    const bars = marks.filter((mark) => mark.bar);
-    return [...bars, ...marks.filter((mark) => !mark.bar)].map((mark) => {
-      const placed = mark.bar ? this.bar(mark, mark.bar) : this.tag(mark);
+    const told = marks.filter((mark) => this.labelOf(mark));
+    const bars = marks.filter((mark) => mark.bar && !told.includes(mark));
+    const others = marks.filter((mark) => !mark.bar && !told.includes(mark));
+    return [...told, ...bars, ...others].map((mark) => {
+      const placed = this.made(mark);
       this.take(placed.at, placed.text);
       return { number: mark.number, sign: mark.sign, line: mark.line, ...placed };
     });
   }
 
   /**
+   * A mark at its place.
+   * @param {Mark} mark
+   * @returns {Made}
+   */
+  made(mark) {
+    if (mark.bar) return this.bar(mark, mark.bar);
+    if (mark.centre) return this.leader(mark, mark.centre);
+    return mark.turn ? this.angle(mark, mark.turn) : this.tag(mark);
+  }
+
+  /**
+   * Where the drawing says that a label stands, or a hand holds it, in pixels from where its
+   * dimension is measured; null where it stands by itself.
+   * @param {Mark} mark
+   * @returns {Place | null}
+   */
+  labelOf({ number, label, sign }) {
+    const told = sign ? undefined : this.dragged.get(number) ?? label;
+    return told ? [told[0] * this.plane.scale, -told[1] * this.plane.scale] : null;
+  }
+
+  /**
    * A bar between two places, beside what it measures, with its text.
    * @param {Mark} mark
    * @param {[Place, Place]} bar
+   * @returns {Made}
    */
-  bar({ text = '' }, bar) {
+  bar(mark, bar) {
+    const { text = '' } = mark;
     const [start, end] = [this.plane.toScreen(bar[0]), this.plane.toScreen(bar[1])];
     const length = Math.hypot(end[0] - start[0], end[1] - start[1]) || 1;
     /** @type {Place} */
     const way = [(end[0] - start[0]) / length, (end[1] - start[1]) / length];
     const beside = ends(start, end, way);
-    const free = AWAYS.map(beside).find(([a, b]) => this.isOpen(a, b, way, length, text));
+    const label = this.labelOf(mark);
+    const free = label ? beside(label[1] * way[0] - label[0] * way[1])
+      : AWAYS.map(beside).find(([a, b]) => this.isOpen(a, b, way, length, text));
     const [a, b] = free ?? beside(AWAYS[0]);
     this.bars.push([a, b]);
-    const path = `M${start}L${a}M${end}L${b}M${a}L${b}${tip(a, way)}${tip(b, [-way[0], -way[1]])}`;
-    return { path, text, at: middleOf([a, b]) };
+    const along = label ? label[0] * way[0] + label[1] * way[1]
+      : length < 2 * width(text) + 20 ? length / 2 + width(text) + 6 : 0;
+    const [x, y] = middleOf([a, b]);
+    /** @type {Place} */
+    const at = [x + way[0] * along, y + way[1] * along];
+    const reach = Math.abs(along) > length / 2 ? `M${a}L${at}` : '';
+    const path = `M${start}L${a}M${end}L${b}M${a}L${b}${reach}`
+      + `${tip(a, way)}${tip(b, [-way[0], -way[1]])}`;
+    return { path, text, at, base: middleOf(bar) };
   }
 
   /**
@@ -95,19 +148,77 @@ export class Marks {
   }
 
   /**
+   * A text beside a rim, with a leader to it.
+   * @param {Mark} mark
+   * @param {Place} centre
+   * @returns {Made}
+   */
+  leader(mark, centre) {
+    const { text = '', at: base = centre } = mark;
+    const [middle, rim] = [this.plane.toScreen(centre), this.plane.toScreen(base)];
+    const radius = Math.hypot(rim[0] - middle[0], rim[1] - middle[1]) || 1;
+    const turn = Math.atan2(rim[1] - middle[1], rim[0] - middle[0]);
+    const label = this.labelOf(mark);
+    const places = LEADERS.flatMap((away) => (mark.whole ? ROUND : [0]).map(
+      (round) => aboutAt(middle, radius + away, turn + round)));
+    /** @type {Place} */
+    const at = label ? [rim[0] + label[0], rim[1] + label[1]]
+      : places.find((each) => this.isFree(each, text)) ?? this.further(rim, text);
+    const foot = mark.whole
+      ? aboutAt(middle, radius, Math.atan2(at[1] - middle[1], at[0] - middle[0])) : rim;
+    const long = Math.hypot(at[0] - foot[0], at[1] - foot[1]) || 1;
+    /** @type {Place} */
+    const way = [(at[0] - foot[0]) / long, (at[1] - foot[1]) / long];
+    return { path: `M${foot}L${at}${tip(foot, way)}`, text, at, base };
+  }
+
+  /**
+   * A text at an arc about a corner.
+   * @param {Mark} mark
+   * @param {Place} turn
+   * @returns {Made}
+   */
+  angle(mark, [first, sweep]) {
+    const { text = '', at: base = [0, 0] } = mark;
+    const corner = this.plane.toScreen(base);
+    const label = this.labelOf(mark);
+    const middle = -(first + sweep / 2);
+    const beside = (/** @type {number} */ r) => aboutAt(corner, r + 6 + width(text) / 2, middle);
+    const free = ARCS.find((each) => this.isFree(beside(each), text)) ?? ARCS[0];
+    const radius = label ? Math.max(12, Math.hypot(...label) - 6 - width(text) / 2) : free;
+    /** @type {Place} */
+    const at = label ? [corner[0] + label[0], corner[1] + label[1]] : beside(radius);
+    const [start, end] = [-first, -(first + sweep)].map((each) => aboutAt(corner, radius, each));
+    const bow = `M${start}A${radius} ${radius} 0 ${sweep > Math.PI ? 1 : 0} 0 ${end}`;
+    return { path: `${bow}L${end}`, text, at, base, isOpen: true };
+  }
+
+  /**
    * A text or a sign near a place.
    * @param {Mark} mark
+   * @returns {Made}
    */
   tag(mark) {
-    const radius = (mark.radius ?? 0) * this.plane.scale;
     const text = mark.text ?? mark.sign ?? '';
-    const [x, y] = this.plane.toScreen(mark.at ?? [0, 0]);
-    const [u, v] = radius ? [x + radius * 0.7071 + 18, y - radius * 0.7071 - 12] : [x, y];
+    const base = mark.at ?? [0, 0];
+    const [x, y] = this.plane.toScreen(base);
+    const label = this.labelOf(mark);
+    if (label) return { path: null, text, at: [x + label[0], y + label[1]], base };
     /** @type {Place[]} */
-    const places = stepsOf(mark, radius).map(([dx, dy]) => [u + dx, v + dy]);
-    /** @type {Place} */
-    const at = places.find((each) => this.isFree(each, text)) ?? [u, v - 24];
-    return { path: null, text, at };
+    const places = stepsOf(mark).map(([dx, dy]) => [x + dx, y + dy]);
+    const at = places.find((each) => this.isFree(each, text)) ?? this.further([x, y], text);
+    return { path: null, text, at, base };
+  }
+
+  /**
+   * A place further from another, where no text stands.
+   * @param {Place} place
+   * @param {string} text
+   */
+  further(place, text) {
+    const places = FURTHER.flatMap((away) => ROUND.map(
+      (turn) => aboutAt(place, away, turn - Math.PI / 2)));
+    return places.find((each) => this.isFree(each, text)) ?? places[0];
   }
 
   /**
@@ -134,15 +245,24 @@ export class Marks {
 }
 
 /**
+ * A place so far from a centre, in a direction.
+ * @param {Place} centre
+ * @param {number} away
+ * @param {number} turn
+ * @returns {Place}
+ */
+function aboutAt([x, y], away, turn) {
+  return [x + away * Math.cos(turn), y + away * Math.sin(turn)];
+}
+
+/**
  * The steps by which a text or a sign may go aside.
  * @param {Mark} mark
- * @param {number} radius
  * @returns {Place[]}
  */
-function stepsOf(mark, radius) {
+function stepsOf(mark) {
   if (mark.way) return beside(mark.way);
-  if (mark.sign) return SIGN_STEPS;
-  return radius ? [[0, 0], ...TEXT_STEPS] : TEXT_STEPS;
+  return mark.sign ? SIGN_STEPS : TEXT_STEPS;
 }
 
 /**
@@ -201,9 +321,9 @@ function beside([dx, dy]) {
  * @param {string} [told]
  * @returns {import('./page').Keyed}
  */
-export function markMade({ number, sign, path, text, at: [x, y] }, key, kind, told) {
+export function markMade({ number, sign, path, text, at: [x, y], isOpen }, key, kind, told) {
   return [key, 'g', { class: kind, 'data-constraint': number }, told && ['title', {}, told],
-    path && ['path', { class: 'mark', d: path }],
+    path && ['path', { class: isOpen ? 'mark open' : 'mark', d: path }],
     ['text', { x, y, class: sign ? 'sign' : 'value' }, text]];
 }
 

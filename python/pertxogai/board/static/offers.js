@@ -2,12 +2,15 @@
 /** The bar of what can be done with the selection. Which constraints fit it, the server says. */
 import { html, byId } from './nodes.js';
 import { middleOf } from './shapes.js';
-import { typed } from './dialogs.js';
+import { dimension, MEASURED, typed } from './dialogs.js';
+import { namesIn } from './pointing.js';
 
 /** @typedef {import('./page').Place} Place */
 /** @typedef {import('./protocol').Offer} Offer */
 
 const LETTERS = 'qwertyuiopasdfgh';
+/** So many of those that go with something are told by their words. */
+const MOST_TOLD = 5;
 
 /** Offers constraints, and asks for the value of those that take one. */
 export class Offers {
@@ -21,11 +24,13 @@ export class Offers {
    * @param {import('./paper.js').Paper} paper
    * @param {import('./board.js').Board} board
    * @param {import('./selection.js').Selection} selection
+   * @param {(text: string) => void} tell
    */
-  constructor(paper, board, selection) {
+  constructor(paper, board, selection, tell) {
     this.paper = paper;
     this.board = board;
     this.selection = selection;
+    this.tell = tell;
     selection.addEventListener('change', () => this.show());
     paper.when('answer', () => { if (!selection.isEmpty) this.show(); });
   }
@@ -74,11 +79,15 @@ export class Offers {
   bar() {
     const { shapes, numbers } = this.selected();
     const isHelp = shapes.every((shape) => shape.construction);
-    byId('revalue').hidden = numbers.length !== 1 || !this.constraint(numbers[0])?.value;
+    const [number] = numbers;
+    byId('revalue').hidden = numbers.length !== 1
+      || !(this.constraint(number)?.value || this.reference(number)?.words);
     byId('construct').hidden = !shapes.length;
     byId('construct').textContent = isHelp ? 'Edge' : 'Construction';
-    byId('rename').hidden = shapes.length + numbers.length !== 1;
+    byId('rename').hidden = shapes.length + numbers.length !== 1 || number < 0;
     byId('erase').hidden = shapes.length + numbers.length === 0;
+    byId('alike').hidden = shapes.length + numbers.length === 0;
+    byId('erase').title = `${goingTold(this.going())} (Delete)`;
     byId('nothing-selected').hidden = !this.selection.isEmpty;
   }
 
@@ -118,22 +127,58 @@ export class Offers {
    */
   async ask(offer) {
     const { words, value: drawn } = offer;
-    const value = drawn === null ? '' : await typed(words.join(' '), drawn, this.place());
-    if (value === null) return;
-    if (offer.do === 'ask') await this.paper.edit({ do: 'ask', words, ...(value && { value }) });
-    else await this.paper.edit(cornerEdit(words, value));
+    if (offer.do === 'corner') {
+      const size = await typed(words.join(' '), offer.value, this.place());
+      if (size !== null) await this.paper.edit(cornerEdit(words, size));
+      return;
+    }
+    const value = drawn === null ? '' : await dimension(words.join(' '), drawn, this.place());
+    if (value === MEASURED) await this.paper.edit({ do: 'reference', words });
+    else if (value !== null) {
+      await this.paper.edit({ do: 'ask', words, ...(value && { value }) });
+    }
   }
 
   /**
-   * Gives a constraint another value.
+   * Gives a dimension another value, or has it only measured; of one that was only measured asks
+   * for a value.
    * @param {number} number
    */
   async change(number) {
+    if (number < 0) {
+      await this.demand(number);
+      return;
+    }
     const constraint = this.constraint(number);
     if (!constraint?.value) return;
     const text = this.paper.answer?.text;
-    const value = await typed(constraint.called, constraint.value, this.place(number));
-    if (value !== null) await this.paper.edit({ do: 'value', number, value }, text);
+    const value = await dimension(constraint.called, constraint.value, this.place(number));
+    if (value === MEASURED) {
+      const words = constraint.words.slice(0, -constraint.value.length).trim().split(' ');
+      await this.paper.edit({ do: 'reference', words, number }, text);
+    } else if (value !== null) await this.paper.edit({ do: 'value', number, value }, text);
+  }
+
+  /**
+   * Asks for the value that is typed of a dimension that was only measured.
+   * @param {number} number
+   */
+  async demand(number) {
+    const mark = this.reference(number);
+    if (!mark?.words || mark.value === undefined) return;
+    const { words } = mark;
+    const value = await typed(words.join(' '), mark.value, this.place(number));
+    if (value !== null) {
+      await this.paper.edit({ do: 'ask', words, value, reference: -number });
+    }
+  }
+
+  /**
+   * The mark of a dimension that is only measured.
+   * @param {number} number
+   */
+  reference(number) {
+    return this.paper.answer?.drawing?.marks.find((each) => each.number === number);
   }
 
   /** Gives what is selected another name. */
@@ -167,12 +212,30 @@ export class Offers {
     this.paper.edit({ do: 'construction', shapes: names, construction });
   }
 
-  /** Takes away what is selected: shapes, single points, constraints. */
-  erase() {
+  /** Takes away what is selected: shapes, single points, constraints; and tells what goes. */
+  async erase() {
     const { shapes, numbers } = this.selected();
+    const told = goingTold(this.going());
     this.selection.set([]);
     const names = shapes.map((shape) => shape.name);
-    this.paper.edit({ do: 'erase', shapes: names, constraints: numbers });
+    const constraints = numbers.filter((each) => each > 0);
+    const references = numbers.filter((each) => each < 0).map((each) => -each);
+    if (await this.paper.edit({ do: 'erase', shapes: names, constraints, references })) {
+      this.tell(`${told}. Ctrl+Z takes it back.`);
+    }
+  }
+
+  /** What goes when what is selected is taken away, and what of it goes with its shapes. */
+  going() {
+    const { shapes, numbers } = this.selected();
+    const names = new Set(shapes.map((shape) => shape.name));
+    const all = this.paper.answer?.drawing?.constraints ?? [];
+    const chosen = all.filter((each) => numbers.includes(each.number));
+    const going = all.filter((each) => !numbers.includes(each.number)
+      && namesIn(each).some((name) => names.has(name.split('.')[0])));
+    const measured = numbers.flatMap((each) => this.reference(each)?.words?.join(' ') ?? []);
+    return { things: [...names, ...chosen.map((each) => each.called), ...measured],
+      going: going.map((each) => each.name ?? each.words) };
   }
 
   /**
@@ -189,6 +252,16 @@ export class Offers {
     return this.board.markPlace(number)
       ?? middleOf(places.length ? places : [[width / 2, height / 2]]);
   }
+}
+
+/**
+ * What goes, in words.
+ * @param {{ things: string[], going: string[] }} what
+ */
+function goingTold({ things, going }) {
+  const more = going.length > MOST_TOLD ? `, and ${going.length - MOST_TOLD} more` : '';
+  const told = going.length ? `; with it: ${going.slice(0, MOST_TOLD).join(', ')}${more}` : '';
+  return `Takes away ${things.join(', ')}${told}`;
 }
 
 /**

@@ -20,7 +20,10 @@ export interface Read extends Judged {
   drawing: Drawing;
 }
 
-/** A mark at its place in pixels; of what is proposed with its line. */
+/**
+ * A mark at its place in pixels; of what is proposed with its line. base: where its dimension is
+ * measured, in millimetres. isOpen: whether its path has no inside.
+ */
 export interface PlacedMark {
   number: number;
   line?: string;
@@ -28,6 +31,8 @@ export interface PlacedMark {
   path: string | null;
   text: string;
   at: Place;
+  base: Place;
+  isOpen?: boolean;
 }
 
 /** What a hand let go at a dead point, and where it had taken hold. */

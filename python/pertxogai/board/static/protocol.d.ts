@@ -189,15 +189,24 @@ export interface Constraint {
   value: string | null;
 }
 
-/** A mark of the constraint that has a number. */
+/**
+ * A mark of the constraint that has a number; of a dimension that is only measured the number
+ * is negative, its place among those, and its words without a value stand beside. label: how far
+ * the text stands from where the dimension is measured, where the drawing says so.
+ */
 export interface Mark {
   text?: string;
   sign?: string;
   bar?: [[number, number], [number, number]];
   at?: [number, number];
   way?: [number, number];
-  radius?: number | null;
+  centre?: [number, number];
+  whole?: boolean;
+  turn?: [number, number];
   number: number;
+  words?: string[];
+  value?: string;
+  label?: [number, number];
 }
 
 /** What is drawn. */
@@ -276,18 +285,47 @@ export interface ShiftEdit {
   dy: number;
 }
 
-/** Takes shapes away, and constraints by their numbers. */
+/**
+ * Takes shapes away, constraints by their numbers, and dimensions that are only measured by
+ * their places among those.
+ */
 export interface EraseEdit {
   do: 'erase';
   shapes?: string[];
   constraints?: number[];
+  references?: number[];
 }
 
-/** Asks for a constraint. */
+/**
+ * Asks for a constraint. reference: the dimension that was only measured before, by its place
+ * among those.
+ */
 export interface AskEdit {
   do: 'ask';
   words: string[];
   value?: string;
+  reference?: number;
+}
+
+/**
+ * Measures a dimension, by its words without a value, and asks nothing. number: the constraint
+ * that asked for it before.
+ */
+export interface ReferenceEdit {
+  do: 'reference';
+  words: string[];
+  number?: number;
+}
+
+/**
+ * Puts the label of a dimension, by the number of its mark, so far from where it is
+ * measured.
+ */
+export interface LabelEdit {
+  do: 'label';
+  number: number;
+  x: number;
+  y: number;
 }
 
 /** Asks for what each of some lines says. */
@@ -395,9 +433,9 @@ export interface PasteEdit {
 export interface AboutEdit {
   text: string;
   left_out?: string[];
-  edit: DrawEdit | MoveEdit | ShiftEdit | EraseEdit | AskEdit | LinesEdit | ValueEdit | CallEdit |
-    RenameEdit | ConstructionEdit | CornerEdit | TrimEdit | ExtendEdit | MirrorEdit | RowEdit |
-    RingEdit | OffsetEdit | PasteEdit;
+  edit: DrawEdit | MoveEdit | ShiftEdit | EraseEdit | AskEdit | ReferenceEdit | LabelEdit |
+    LinesEdit | ValueEdit | CallEdit | RenameEdit | ConstructionEdit | CornerEdit | TrimEdit |
+    ExtendEdit | MirrorEdit | RowEdit | RingEdit | OffsetEdit | PasteEdit;
   knows?: boolean;
 }
 
@@ -701,9 +739,9 @@ export interface Answer {
 
 export type Spot = PointSpot | FreeSpot;
 
-export type Edit = DrawEdit | MoveEdit | ShiftEdit | EraseEdit | AskEdit | LinesEdit | ValueEdit |
-    CallEdit | RenameEdit | ConstructionEdit | CornerEdit | TrimEdit | ExtendEdit | MirrorEdit |
-    RowEdit | RingEdit | OffsetEdit | PasteEdit;
+export type Edit = DrawEdit | MoveEdit | ShiftEdit | EraseEdit | AskEdit | ReferenceEdit |
+    LabelEdit | LinesEdit | ValueEdit | CallEdit | RenameEdit | ConstructionEdit | CornerEdit |
+    TrimEdit | ExtendEdit | MirrorEdit | RowEdit | RingEdit | OffsetEdit | PasteEdit;
 
 export type Offer = ConstraintOffer | CornerOffer;
 

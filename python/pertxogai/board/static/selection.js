@@ -44,6 +44,29 @@ export class Selection extends EventTarget {
   }
 
   /**
+   * Adds those of some names that aren't selected, and takes away those that are.
+   * @param {string[]} more
+   */
+  turn(more) {
+    const names = new Set(this.names);
+    for (const each of more) toggle(names, each);
+    this.set(names, this.numbers);
+  }
+
+  /**
+   * Selects all that is of the kind of something that is selected: shapes of one kind, edges or
+   * lines of help, and constraints of one word.
+   * @param {Drawing} drawing
+   */
+  alike({ shapes, constraints }) {
+    const kinds = new Set(shapes.filter((each) => this.names.has(each.name)).map(kindOf));
+    const words = new Set(constraints.filter((each) => this.numbers.has(each.number)).map(wordOf));
+    const names = shapes.filter((each) => kinds.has(kindOf(each))).map((each) => each.name);
+    const numbers = constraints.filter((each) => words.has(wordOf(each)));
+    this.set([...this.names, ...names], numbers.map((each) => each.number));
+  }
+
+  /**
    * Forgets what no longer stands; where there are more or fewer constraints, their numbers too.
    * @param {Drawing} drawing
    */
@@ -57,6 +80,22 @@ export class Selection extends EventTarget {
     const had = this.names.size + this.numbers.size;
     if (names.length + numbers.length < had) this.set(names, numbers);
   }
+}
+
+/**
+ * The kind of a shape.
+ * @param {Drawing['shapes'][number]} shape
+ */
+function kindOf({ kind, construction, outer }) {
+  return `${kind} ${construction} ${outer}`;
+}
+
+/**
+ * The word of a constraint.
+ * @param {Drawing['constraints'][number]} constraint
+ */
+function wordOf({ words }) {
+  return words.split(' ')[0];
 }
 
 /**

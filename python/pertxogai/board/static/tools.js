@@ -21,8 +21,8 @@ import { apart } from './shapes.js';
  * @type {Record<Tool, string[]>}
  */
 const HINTS = {
-  select: ['Click selects, Shift adds, dragging moves. Drag the empty board to pan, the wheel '
-    + 'zooms.'],
+  select: ['Click selects, Shift adds, dragging moves. Drag on the empty board for a box; the '
+    + 'right button pans, the wheel zooms.'],
   point: ['Point: click where it lies.'],
   segment: ['Segment: click its start. A point that stands is shared.',
     'Click its end; Shift keeps it level or upright, Ctrl leaves out what is guessed. Escape ends '

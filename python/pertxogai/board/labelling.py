@@ -1,0 +1,45 @@
+"""Where the label of a dimension stands, and dimensions that are only measured: edits of the notes
+that tell them."""
+from __future__ import annotations
+
+from dataclasses import dataclass
+from fractions import Fraction
+
+from pertxogai.board.removal import without
+from pertxogai.drawing import Drawing, WordFault
+from pertxogai.drawing.labels import labelled, labels, references, relabelled, with_reference
+
+
+@dataclass(frozen=True)
+class Measure:
+    """Measures what a line says without its value, as `length Bottom`, and asks nothing. number:
+    the constraint, by its place from 1, that asked for it before, and goes."""
+
+    words: tuple[str, ...]
+    number: int | None = None
+
+    def on(self, drawing: Drawing) -> Drawing:
+        """The drawing that measures it."""
+        label = None if self.number is None else labels(drawing).get(self.number)
+        gone = frozenset(() if self.number is None else {self.number})
+        return with_reference(without(drawing, frozenset(), gone), list(self.words), label)
+
+
+@dataclass(frozen=True)
+class Label:
+    """Puts the label of a dimension so far from where it is measured, in micrometres. number: its
+    place, from 1; negative among those that are only measured."""
+
+    number: int
+    x_um: Fraction
+    y_um: Fraction
+
+    def on(self, drawing: Drawing) -> Drawing:
+        """The drawing with it there."""
+        label = self.x_um, self.y_um
+        count = (len(drawing.constraints) if self.number > 0
+                 else len(list(references(drawing))))
+        if not 1 <= abs(self.number) <= count:
+            raise WordFault(f"dimension {self.number}", "doesn't stand")
+        of = labelled if self.number > 0 else relabelled
+        return of(drawing, abs(self.number), label)

@@ -1,0 +1,131 @@
+"""The board in a real browser: dimensions are placed and moved by dragging, stand beside each other
+at first, and may be only measured."""
+from __future__ import annotations
+
+import re
+from itertools import combinations
+
+import pytest
+
+pytest.importorskip("flask", reason="the board needs Debian's python3-flask")
+pytest.importorskip("selenium", reason="the browser is driven by Debian's python3-selenium")
+
+from boards import CHROMIUM, DRIVER, drawing, wait_for  # noqa: E402
+from browsing import Page  # noqa: E402
+from selenium.webdriver.common.by import By  # noqa: E402
+from selenium.webdriver.common.keys import Keys  # noqa: E402
+
+if not (CHROMIUM and DRIVER):
+    pytest.skip("Debian's chromium and chromium-driver aren't there", allow_module_level=True)
+
+PLATE = """segment A 0 0 80 0
+segment B A.end 80 50
+segment D A.start 50 40
+circle C 30 30 8
+coincident A.start Origin
+horizontal A
+length A 80
+length B 50
+angle A B 100deg
+angle A D 40deg
+radius C 8
+"""
+
+
+def centre(page: Page, number: int) -> tuple[float, float]:
+    """The middle of the text of a dimension, in pixels of the board."""
+    x, y = page.driver.execute_script(
+        "const b = document.getElementById('board').getBoundingClientRect();"
+        "const r = document.querySelector(`.marks [data-constraint='${arguments[0]}'] text`)"
+        "  .getBoundingClientRect();"
+        "return [r.x + r.width / 2 - b.x, r.y + r.height / 2 - b.y];", number)
+    return x, y
+
+
+def boxes(page: Page) -> list[list[float]]:
+    """The boxes of all texts of dimensions."""
+    found = page.driver.execute_script(
+        "return [...document.querySelectorAll('.marks .value')].map((each) => {"
+        "  const r = each.getBoundingClientRect(); return [r.left, r.top, r.right, r.bottom]; });")
+    assert isinstance(found, list)
+    return found
+
+
+def overlap(one: list[float], other: list[float]) -> bool:
+    """Whether two boxes lie over each other, by more than two pixels."""
+    return (min(one[2], other[2]) - max(one[0], other[0]) > 2
+            and min(one[3], other[3]) - max(one[1], other[1]) > 2)
+
+
+def test_a_label_goes_where_it_is_dragged_and_is_kept_in_the_text(page: Page) -> None:
+    page.begin(PLATE, "open")
+    x, y = centre(page, 3)
+    page.press(x, y, to=(x + 30, y + 24))
+    wait_for("a note", lambda: re.search(r"length A 80 # label -?[\d.]+ -[\d.]+\n", page.text()))
+    page.settled()
+    u, v = centre(page, 3)
+    assert abs(u - x - 30) < 2 and abs(v - y - 24) < 2
+    page.click("#undo")
+    wait_for("one step", lambda: "label" not in page.text())
+    page.settled()
+    assert centre(page, 3) == pytest.approx((x, y), abs=1)
+
+
+def test_leaders_and_arcs_go_with_their_labels(page: Page) -> None:
+    """Constraint 5 is an angle, and 7 the radius of a circle."""
+    page.begin(PLATE, "open")
+    for count, number in enumerate((5, 7), 1):
+        path = f".marks [data-constraint='{number}'] path"
+        assert "A" in page.driver.find_element(By.CSS_SELECTOR, path).get_attribute("d") or (
+            number == 7)
+        x, y = centre(page, number)
+        page.press(x, y, to=(x + 20, y - 18))
+        wait_for("a note", lambda: page.text().count(" # label") == count)
+        page.settled()
+        assert centre(page, number) == pytest.approx((x + 20, y - 18), abs=2)
+    assert page.text().count("# label") == 2 and page.faults() == []
+
+
+@pytest.mark.parametrize("name", ["flange", "bracket", "plate-with-four-holes", "slotted-plate"])
+def test_no_dimension_stands_over_another_at_first(page: Page, name: str) -> None:
+    page.begin(drawing(name), "well")
+    for zoom in ("", "-", "--"):
+        page.keys(*zoom)
+        page.settled()
+        over = [pair for pair in combinations(boxes(page), 2) if overlap(*pair)]
+        assert over == [], f"{name} {zoom}"
+
+
+def test_a_dimension_is_only_measured(page: Page) -> None:
+    page.begin("segment A 0 0 30 0\nsegment B A.end 30 40\n", "open")
+    page.select("A.start", "B.end")
+    page.wait("an offer", "return document.querySelector('#offers [data-word=distance]')")
+    page.click("#offers [data-word=distance]")
+    page.wait("the button", "return document.querySelector('#value[open] #measure:not([hidden])')")
+    page.click("#measure")
+    wait_for("a note", lambda: "# reference distance A.start B.end\n" in page.text())
+    page.wait("in brackets", "return document.querySelector('.marks .reference text')"
+                             ".textContent === '(50)'")
+    page.keys(Keys.ESCAPE)
+    page.press(*page.at("B.end"), to=page.at("B"))
+    wait_for("another value", lambda: page.driver.execute_script(
+        "return document.querySelector('.marks .reference text').textContent") != "(50)")
+    page.press(*centre(page, -1))
+    page.keys(Keys.DELETE)
+    wait_for("it is gone", lambda: "reference" not in page.text())
+
+
+def test_a_dimension_that_is_asked_for_may_be_measured_instead_and_back(page: Page) -> None:
+    page.begin("segment A 0 0 30 0\nlength A 30\n", "well")
+    page.press(*centre(page, 1))
+    page.keys(Keys.ENTER)
+    page.wait("the button", "return document.querySelector('#value[open] #measure:not([hidden])')")
+    page.click("#measure")
+    wait_for("a note", lambda: page.text().endswith("segment A 0 0 30 0\n# reference length A\n"))
+    page.press(*centre(page, -1))
+    page.keys(Keys.ENTER)
+    field = page.wait("a value", "return document.querySelector('#value[open] input')")
+    field.send_keys(Keys.CONTROL, "a")
+    field.send_keys("32", Keys.ENTER)
+    wait_for("a line", lambda: page.text().endswith("length A 32\n"))
+    assert page.faults() == []
