@@ -19,6 +19,10 @@ import { Files } from './files.js';
 import { Keeping } from './keeping.js';
 import { Groups } from './groups.js';
 import { Keys } from './keys.js';
+import { Pinch } from './pinch.js';
+import { Sheet } from './sheet.js';
+import { Speaking } from './speaking.js';
+import { Toolbars } from './toolbars.js';
 
 /** @typedef {import('./protocol').Judged} Judged */
 /** @typedef {import('./tools.js').Tool} Tool */
@@ -59,6 +63,10 @@ export class Page {
     this.files = new Files(paper, this.keeping, () => this.board.fit());
     this.groups = new Groups(this.board, selection);
     this.keys = new Keys(this);
+    this.pinch = new Pinch(this.gestures);
+    this.speaking = new Speaking();
+    this.sheet = new Sheet(this.board, paper, hint);
+    this.toolbars = new Toolbars();
     this.tabs = new Tabs();
     this.acts = this.buttons();
   }
@@ -79,6 +87,10 @@ export class Page {
       help: () => closed(nodeOf('keys', HTMLDialogElement)),
       construction: (button) => sequence.do(() => this.construct(button)),
       fit: () => board.fit(),
+      print: () => this.sheet.print(),
+      fold: () => fold(!document.body.classList.contains('folded')),
+      'zoom-in': () => board.zoomBy(1.25),
+      'zoom-out': () => board.zoomBy(0.8),
       complete: () => proposals.takeAll(),
       'redraw-all': () => paper.redraw([]),
       revalue: () => this.keys.enter(false),
@@ -86,6 +98,8 @@ export class Page {
       rename: () => offers.rename(),
       erase: () => offers.erase(),
       copy: () => this.gestures.copies.copy(),
+      alike: () => this.selection.alike(this.board.answer.drawing),
+      all: () => this.selection.set(this.board.answer.drawing.shapes.map((each) => each.name)),
       back: () => steps.go(-1),
       on: () => steps.go(1),
       play: () => steps.play(),
@@ -98,8 +112,6 @@ export class Page {
   /** Listens to the parts, and shows what was kept. */
   begin() {
     const { paper, keeping } = this;
-      alike: () => this.selection.alike(this.board.answer.drawing),
-      all: () => this.selection.set(this.board.answer.drawing.shapes.map((each) => each.name)),
     paper.when('begin', () => this.leave());
     paper.when('answer', (answer) => this.show(answer));
     paper.when('trouble', (text) => hint(text, 'trouble'));
@@ -117,6 +129,9 @@ export class Page {
     for (const what of /** @type {const} */ (['sides', 'count'])) this.option(what);
     this.board.node.addEventListener('mouseup', (event) => this.pressed(event.detail));
     this.take('select');
+    const narrow = matchMedia('(max-width: 900px), (max-height: 480px)');
+    narrow.addEventListener('change', () => fold(narrow.matches));
+    fold(narrow.matches);
     /** @type {Partial<import('./keeping.js').Kept>} */
     const kept = keeping.kept() ?? {};
     const { text = '', name = 'drawing', saved = '', leftOut = [] } = kept;
@@ -253,12 +268,22 @@ export class Page {
         : answer.judgement });
     }
     this.verdict.show(answer);
+    this.speaking.changed();
     this.texts.show(answer);
     buttonOf('undo').ariaDisabled = String(!paper.history.can(-1));
     buttonOf('redo').ariaDisabled = String(!paper.history.can(1));
     buttonOf('redraw-all').disabled = !answer.judgement?.placed;
     document.title = `${paper.name}, a drawing board`;
   }
+}
+
+/**
+ * Folds the panel beside the board, or opens it.
+ * @param {boolean} isFolded
+ */
+function fold(isFolded) {
+  document.body.classList.toggle('folded', isFolded);
+  byId('fold').ariaExpanded = String(!isFolded);
 }
 
 /**

@@ -1,0 +1,152 @@
+// @ts-check
+/**
+ * The sheet that is printed: the drawing at a scale, with its dimensions, a title and a scale bar,
+ * on A4 across. The browser prints it, or writes it as PDF.
+ */
+import { byId, nodeOf, svg } from './nodes.js';
+import { Marks } from './marks.js';
+import { kindOf, pathOf } from './shapes.js';
+import { typed } from './dialogs.js';
+import { View } from './view.js';
+
+/** @typedef {import('./page').Place} Place */
+
+/** So many pixels of a browser's print are a millimetre of paper. */
+const MM = 96 / 25.4;
+/** The room for the drawing and its dimensions on A4 across, in millimetres. */
+const WIDTH = 277;
+const HEIGHT = 168;
+/** The room around the drawing for its dimensions, in millimetres. */
+const ROOM = 26;
+/** The height of the title below it. */
+const TITLE = 18;
+/** Scales that are usual, the largest first. */
+const SCALES = [10, 5, 2, 1, 1 / 2, 1 / 5, 1 / 10, 1 / 20, 1 / 50, 1 / 100, 1 / 200, 1 / 500];
+
+/** Makes the sheet of what a board shows, and has it printed. */
+export class Sheet {
+  node = nodeOf('paper', SVGSVGElement);
+
+  /**
+   * @param {import('./board.js').Board} board
+   * @param {import('./paper.js').Paper} paper
+   * @param {(text: string, kind?: string) => void} tell
+   */
+  constructor(board, paper, tell) {
+    this.board = board;
+    this.paper = paper;
+    this.tell = tell;
+  }
+
+  /** Asks for the scale, makes the sheet, and has the browser print it. */
+  async print() {
+    const fitting = this.fitting();
+    const { width, height } = this.board.size();
+    const told = await typed('scale', scaleText(fitting), [width / 2, height / 3]);
+    if (told === null) return;
+    const scale = scaleOf(told);
+    if (!scale) this.tell(`'${told}' is no scale: write one as 1:2 or 2:1`, 'trouble');
+    else if (this.make(scale)) window.print();
+  }
+
+  /**
+   * Makes the sheet at a scale; gives whether there is something on it.
+   * @param {number} scale
+   */
+  make(scale) {
+    const { answer: { drawing }, shown } = this.board;
+    const box = this.box();
+    if (!box) {
+      this.tell('Nothing is drawn that could be printed.');
+      return false;
+    }
+    if (scale > this.most()) this.tell('At this scale it is larger than a sheet of A4.');
+    const plane = new View();
+    plane.scale = scale * MM;
+    plane.x = WIDTH * MM / 2 - (box.left + box.right) / 2 * plane.scale;
+    plane.y = HEIGHT * MM / 2 + (box.low + box.high) / 2 * plane.scale;
+    const edges = drawing.shapes.map((shape) => svg('path', {
+      class: kindOf(shape), d: pathOf(shape, shown.viewOf(shape), plane) ?? '' }));
+    const marks = new Marks(plane).all(drawing.marks).map(({ path, text, at: [x, y], sign }) => svg(
+      'g', { class: 'markgroup' }, path && ['path', { class: 'mark', d: path }],
+      ['text', { x, y, class: sign ? 'sign' : 'value' }, text]));
+    this.node.replaceChildren(...edges, ...marks, ...this.title(scale));
+    return true;
+  }
+
+  /**
+   * The frame, the name, the scale with its bar, and what is judged.
+   * @param {number} scale
+   */
+  title(scale) {
+    const [top, width] = [HEIGHT * MM, WIDTH * MM];
+    const bar = barOf(scale);
+    const long = bar * scale * MM;
+    const [y, x] = [top + TITLE * MM * 0.72, width - 12 - long];
+    const verdict = byId('verdict').querySelector('h2')?.textContent ?? '';
+    return [
+      svg('rect', { class: 'frame', x: 0.5, y: 0.5, width: width - 1,
+        height: top + TITLE * MM - 1 }),
+      svg('path', { class: 'frame', d: `M0 ${top}H${width}` }),
+      svg('text', { class: 'title', x: 12, y: top + 26 }, this.paper.name),
+      svg('text', { class: 'told', x: 12, y: top + 50 },
+        `${verdict}; lengths in mm; those in brackets are measured`),
+      svg('text', { class: 'told scale', x: width / 2, y: top + 36 }, `scale ${scaleText(scale)}`),
+      svg('path', { class: 'bar', d: `M${x} ${y - 5}v10M${x} ${y}h${long}M${x + long} ${y - 5}v10`,
+        'data-bar': bar }),
+      svg('text', { class: 'told bar-text', x: x + long / 2, y: y - 12 }, `${bar} mm`),
+    ];
+  }
+
+  /** The scale that fits, of those that are usual. */
+  fitting() {
+    const most = this.most();
+    return SCALES.find((each) => each <= most) ?? SCALES[SCALES.length - 1];
+  }
+
+  /** The largest scale at which all is on the sheet. */
+  most() {
+    const { left, right, low, high } = this.box() ?? { left: 0, right: 1, low: 0, high: 1 };
+    return Math.min((WIDTH - 2 * ROOM) / Math.max(right - left, 1e-3),
+      (HEIGHT - 2 * ROOM) / Math.max(high - low, 1e-3));
+  }
+
+  /** The box of all that is shown, in millimetres; null where nothing is drawn. */
+  box() {
+    const boxes = this.board.edgeBox();
+    if (!boxes) return null;
+    const [left, high] = this.board.plane.toPlane([boxes[0], boxes[1]]);
+    const [right, low] = this.board.plane.toPlane([boxes[2], boxes[3]]);
+    return { left, right, low, high };
+  }
+}
+
+/**
+ * A scale as it is written.
+ * @param {number} scale
+ */
+function scaleText(scale) {
+  const part = (/** @type {number} */ value) => Math.round(value * 1000) / 1000;
+  return scale >= 1 ? `${part(scale)}:1` : `1:${part(1 / scale)}`;
+}
+
+/**
+ * The scale that is written; 0 where it is none.
+ * @param {string} text
+ */
+function scaleOf(text) {
+  const [, one, other] = /^\s*(\d+(?:\.\d+)?)\s*[:/]\s*(\d+(?:\.\d+)?)\s*$/.exec(text) ?? [];
+  const scale = Number(one) / Number(other);
+  return Number.isFinite(scale) ? scale : 0;
+}
+
+/**
+ * How many millimetres the bar of a scale stands for: 1, 2 or 5 times a power of ten, about four
+ * centimetres of paper.
+ * @param {number} scale
+ */
+function barOf(scale) {
+  const most = 50 / scale;
+  const power = 10 ** Math.floor(Math.log10(most));
+  return [5, 2, 1].map((each) => each * power).find((each) => each <= most) ?? power;
+}

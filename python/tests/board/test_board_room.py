@@ -1,0 +1,231 @@
+"""The board in a real browser: how much room it has, how it is reached by fingers and keys, what is
+said of it, its contrasts, and the sheet that is printed."""
+from __future__ import annotations
+
+import base64
+import re
+import shutil
+import subprocess
+from itertools import groupby
+from pathlib import Path
+
+import pytest
+
+pytest.importorskip("flask", reason="the board needs Debian's python3-flask")
+pytest.importorskip("selenium", reason="the browser is driven by Debian's python3-selenium")
+
+from boards import CHROMIUM, DRIVER, wait_for  # noqa: E402
+from browsing import Page  # noqa: E402
+from conftest import TOP  # noqa: E402
+from selenium.webdriver.common.by import By  # noqa: E402
+from selenium.webdriver.common.keys import Keys  # noqa: E402
+
+if not (CHROMIUM and DRIVER):
+    pytest.skip("Debian's chromium and chromium-driver aren't there", allow_module_level=True)
+
+PLATE = """rectangle R 0 0 100 60
+coincident RBottom.start Origin
+length RBottom 100
+length RRight 60
+"""
+STYLE = TOP / "python/pertxogai/board/static/style.css"
+
+
+@pytest.fixture
+def resized(page: Page):
+    """Gives the window another size; it is as it was behind the test."""
+    def size(width: int, height: int) -> None:
+        page.driver.execute_cdp_cmd("Emulation.setDeviceMetricsOverride", {
+            "width": width, "height": height, "deviceScaleFactor": 1, "mobile": False})
+        page.settled()
+    yield size
+    page.driver.execute_cdp_cmd("Emulation.clearDeviceMetricsOverride", {})
+    page.settled()
+
+
+def board_box(page: Page) -> list[float]:
+    found = page.driver.execute_script(
+        "const r = document.getElementById('board').getBoundingClientRect();"
+        "return [r.x, r.y, r.width, r.height, innerWidth, innerHeight];")
+    assert isinstance(found, list)
+    return found
+
+
+@pytest.mark.parametrize("width, height, share", [
+    (1280, 720, 2 / 3), (640, 360, 2 / 3), (390, 844, 1 / 2), (1920, 1080, 2 / 3)])
+def test_the_board_has_its_share_of_the_window(page: Page, resized, width: int, height: int,
+                                               share: float) -> None:
+    """640 by 360 is what 1280 by 720 has at 200 %."""
+    page.begin(PLATE, "well")
+    resized(width, height)
+    *_, wide, high, inner_width, inner_height = board_box(page)
+    assert (inner_width, inner_height) == (width, height)
+    assert wide * high >= share * width * height
+    folded = page.driver.execute_script("return document.body.classList.contains('folded')")
+    assert folded is (width < 900 or height < 480)
+    assert page.driver.find_element(By.CSS_SELECTOR, "#verdict h2").is_displayed()
+
+
+def test_bars_dont_move_the_board(page: Page) -> None:
+    page.begin(PLATE, "well")
+    before = board_box(page)
+    page.select("RBottom", "RRight")
+    page.wait("offers", "return document.querySelectorAll('#fitting button').length > 2")
+    assert board_box(page) == before
+    page.keys("n")
+    page.settled()
+    assert board_box(page) == before
+
+
+def test_the_panel_folds(page: Page) -> None:
+    page.begin(PLATE, "well")
+    before = board_box(page)[2]
+    page.click("#fold")
+    page.settled()
+    assert board_box(page)[2] > before + 200
+    assert page.count("#fold[aria-expanded=false]") == 1
+    page.click("#fold")
+    page.settled()
+    assert board_box(page)[2] == before
+
+
+def test_two_fingers_pan_and_zoom(page: Page) -> None:
+    page.begin(PLATE, "well")
+    x, u = page.at("RBottom.start")[0], page.at("RRight.end")[0]
+    left, top = board_box(page)[:2]
+
+    def touch(kind: str, *places: tuple[float, float]) -> None:
+        page.driver.execute_cdp_cmd("Input.dispatchTouchEvent", {"type": kind, "touchPoints": [
+            {"x": left + a, "y": top + b, "id": number}
+            for number, (a, b) in enumerate(places)]})
+    touch("touchStart", (300, 300))
+    touch("touchStart", (300, 300), (400, 300))
+    touch("touchMove", (300, 300), (450, 300))
+    touch("touchMove", (300, 300), (500, 300))
+    touch("touchEnd")
+    page.settled()
+    a, c = page.at("RBottom.start")[0], page.at("RRight.end")[0]
+    assert (c - a) / (u - x) == pytest.approx(2, rel=0.02)
+    assert a == pytest.approx(300 + (x - 300) * 2, abs=3) and page.faults() == []
+    assert page.text().splitlines()[-2:] == PLATE.splitlines()[-2:]
+
+
+def test_zoom_buttons(page: Page) -> None:
+    page.begin(PLATE, "well")
+    before = page.at("RRight.end")[0] - page.at("RBottom.start")[0]
+    page.click("#zoom-in")
+    page.settled()
+    assert page.at("RRight.end")[0] - page.at("RBottom.start")[0] == pytest.approx(
+        before * 1.25, rel=0.01)
+    page.click("#zoom-out")
+    page.settled()
+    assert page.at("RRight.end")[0] - page.at("RBottom.start")[0] == pytest.approx(
+        before, rel=0.01)
+
+
+def test_arrows_go_through_a_toolbar(page: Page) -> None:
+    def focused() -> str:
+        return str(page.driver.execute_script("return document.activeElement.dataset.tool"))
+    page.driver.execute_script("document.querySelector('[data-tool=point]').focus()")
+    for key, tool in ((Keys.ARROW_RIGHT, "segment"), (Keys.ARROW_LEFT, "point"),
+                      (Keys.HOME, "select"), (Keys.ARROW_RIGHT, "point")):
+        page.driver.switch_to.active_element.send_keys(key)
+        assert focused() == tool
+
+
+def test_what_has_changed_is_said_and_no_time(page: Page) -> None:
+    page.begin(PLATE, "well")
+    wait_for("it is said", lambda: "well" in page.driver.execute_script(
+        "return document.getElementById('said').textContent"))
+    page.type(PLATE + "length RTop 100\n")
+    page.verdict("over")
+    said = str(page.driver.execute_script("return document.getElementById('said').textContent"))
+    assert said.startswith("over") and " ms" not in said
+    assert page.count("#verdict[aria-live]") == 0
+
+
+def test_a_point_that_is_selected_is_read_out_with_its_place(page: Page) -> None:
+    page.begin(PLATE, "well")
+    page.select("RRight.end")
+    wait_for("its place", lambda: "RRight.end at 100 60 mm selected" in page.told("hint"))
+
+
+def luminance(colour: str) -> float:
+    """The relative luminance of a colour, as WCAG 2.2 reckons it."""
+    parts = [int(colour[place:place + 2], 16) / 255 for place in (1, 3, 5)]
+    red, green, blue = (each / 12.92 if each <= 0.04045 else ((each + 0.055) / 1.055) ** 2.4
+                        for each in parts)
+    return 0.2126 * red + 0.7152 * green + 0.0722 * blue
+
+
+@pytest.mark.parametrize("scheme", [0, 1], ids=["light", "dark"])
+def test_borders_of_controls_have_a_contrast_of_three_to_one(scheme: int) -> None:
+    style = STYLE.read_text()
+    colours = {name: re.findall(rf"--{name}: (#[0-9a-f]{{6}})", style)[scheme]
+               for name in ("border", "paper", "panel")}
+    for ground in ("paper", "panel"):
+        lights = sorted((luminance(colours["border"]), luminance(colours[ground])), reverse=True)
+        assert (lights[0] + 0.05) / (lights[1] + 0.05) >= 3, ground
+
+
+def test_the_pressed_tool_shows_in_forced_colours(page: Page) -> None:
+    page.driver.execute_cdp_cmd("Emulation.setEmulatedMedia", {
+        "features": [{"name": "forced-colors", "value": "active"}]})
+    pressed, other = (page.driver.execute_script(
+        "return getComputedStyle(document.querySelector(arguments[0])).backgroundColor",
+        f"[data-tool={tool}]") for tool in ("select", "point"))
+    page.driver.execute_cdp_cmd("Emulation.setEmulatedMedia", {"features": []})
+    assert pressed != other
+
+
+# The sheet.
+
+def printed(page: Page, folder: Path, scale: str | None) -> Path:
+    """The PDF of a drawing at a scale, as the browser prints it."""
+    page.driver.execute_script("window.print = () => { window.isPrinted = true; };")
+    page.click("#export summary")
+    page.click("#print")
+    field = page.wait("a scale", "return document.querySelector('#value[open] input')")
+    if scale is not None:
+        field.send_keys(Keys.CONTROL, "a")
+        field.send_keys(scale)
+    field.send_keys(Keys.ENTER)
+    page.wait("it is printed", "return window.isPrinted")
+    told = page.driver.execute_cdp_cmd("Page.printToPDF", {"preferCSSPageSize": True})
+    path = folder / "sheet.pdf"
+    path.write_bytes(base64.b64decode(told["data"]))
+    return path
+
+
+def dark_runs(path: Path, dots: int) -> set[int]:
+    """How long the dark ways across the only page of a PDF are, in dots of so many to an inch."""
+    stem = path.with_suffix("")
+    subprocess.run(["pdftoppm", "-gray", "-r", str(dots), path, stem], check=True)
+    (image,) = path.parent.glob("sheet-*.pgm")
+    _, size, _, pixels = image.read_bytes().split(b"\n", 3)
+    width, height = map(int, size.split())
+    return {len(list(run)) for row in range(height) for dark, run in groupby(
+        pixels[row * width:(row + 1) * width], lambda each: each < 128) if dark}
+
+
+@pytest.mark.skipif(not shutil.which("pdftoppm"), reason="without Debian's poppler-utils")
+@pytest.mark.parametrize("scale, millimetres", [("1:1", 100), ("1:2", 50), ("2:1", 200)])
+def test_the_sheet_is_printed_at_its_scale(page: Page, tmp_path: Path, scale: str,
+                                           millimetres: int) -> None:
+    """At 254 dots an inch a millimetre is ten dots; an edge is 0.5 mm wide and has round ends."""
+    page.begin(PLATE, "well")
+    path = printed(page, tmp_path, scale)
+    runs = dark_runs(path, 254)
+    assert any(abs(each - 10 * millimetres) <= 8 for each in runs), sorted(runs)[-12:]
+    told = subprocess.run(["pdftotext", path, "-"], capture_output=True, text=True, check=True)
+    words = told.stdout.split()
+    assert scale in words and "100" in words and "60" in words
+
+
+@pytest.mark.skipif(not shutil.which("pdftoppm"), reason="without Debian's poppler-utils")
+def test_the_scale_that_is_offered_fits(page: Page, tmp_path: Path) -> None:
+    """Of 225 mm by 116 for the drawing 100 by 60 takes 1:1, and not 2:1."""
+    page.begin(PLATE, "well")
+    told = subprocess.run(["pdftotext", printed(page, tmp_path, None), "-"],
+                          capture_output=True, text=True, check=True)
+    assert "1:1" in told.stdout.split()
