@@ -1,0 +1,192 @@
+"""The board in a real browser under a hand that does anything: no error in the console, no drawing
+that is lost, no answer that is stale. PERTXOGAI_SEEDS and PERTXOGAI_ACTIONS have it do more:
+`PERTXOGAI_SEEDS=10 PERTXOGAI_ACTIONS=300` takes some minutes a seed."""
+from __future__ import annotations
+
+import os
+import random
+import time
+from dataclasses import dataclass, field
+
+import pytest
+
+pytest.importorskip("flask", reason="the board needs Debian's python3-flask")
+pytest.importorskip("numpy", reason="copies are held by rank, by Debian's python3-numpy")
+pytest.importorskip("selenium", reason="the browser is driven by Debian's python3-selenium")
+
+from boards import CHROMIUM, DRIVER, drawing  # noqa: E402
+from browsing import Page  # noqa: E402
+from selenium.webdriver.common.action_chains import ActionChains  # noqa: E402
+from selenium.webdriver.common.by import By  # noqa: E402
+from selenium.webdriver.common.keys import Keys  # noqa: E402
+
+from pertxogai.board.calls import Desk  # noqa: E402
+from pertxogai.board.document import read_document  # noqa: E402
+from pertxogai.program import Program  # noqa: E402
+
+if not (CHROMIUM and DRIVER):
+    pytest.skip("Debian's chromium and chromium-driver aren't there", allow_module_level=True)
+
+SEEDS = range(int(os.environ.get("PERTXOGAI_SEEDS", "1")))
+ACTIONS = int(os.environ.get("PERTXOGAI_ACTIONS", "40"))
+BEGUN = ("", "plate-with-hole", "open-hinge", "slotted-plate", "over-hole-row")
+"""What a seed begins with: nothing, or a drawing of the gallery."""
+TOOLS = "psrkncablte"
+COPIES = "mwuo"
+PLAIN = ("v", "x", "y", "d", "0", "+", "-", "[", "]", Keys.ESCAPE, Keys.ENTER, Keys.DELETE,
+         Keys.ARROW_LEFT, Keys.ARROW_UP, Keys.CONTROL + "z", Keys.CONTROL + "z", Keys.CONTROL + "y",
+         Keys.CONTROL + "c", Keys.CONTROL + "v", Keys.CONTROL + "a", Keys.ALT + Keys.ARROW_RIGHT)
+VALUES = ("10", "25", "60deg", "1/2", "0.5 in", "-3", "", "forty", "7.25")
+
+
+@dataclass
+class Hand:
+    """A hand that does anything on a page, by chance."""
+
+    page: Page
+    chance: random.Random
+    done: list[str] = field(default_factory=list)
+
+    def act(self) -> None:
+        """Does one thing."""
+        if self.page.count("dialog[open]"):
+            self._answer()
+            return
+        what = self.chance.choices(
+            (self._click, self._drag, self._key, self._tool, self._copies, self._offer),
+            (9, 4, 6, 4, 2, 4))[0]
+        what()
+
+    def _place(self) -> tuple[int, int]:
+        return self.chance.randrange(70, 880), self.chance.randrange(90, 520)
+
+    def _held(self) -> str:
+        return self.chance.choice(("", "", "", Keys.SHIFT, Keys.CONTROL))
+
+    def _click(self) -> None:
+        place, held = self._place(), self._held()
+        self.done.append(f"click {place} {held!r}")
+        self.page.press(*place, held=held)
+
+    def _drag(self) -> None:
+        place, to, held = self._place(), self._place(), self._held()
+        self.done.append(f"drag {place} {to} {held!r}")
+        self.page.press(*place, to=to, held=held)
+
+    def _key(self) -> None:
+        key = self.chance.choice(PLAIN)
+        self.done.append(f"key {key!r}")
+        self._press(key)
+
+    def _tool(self) -> None:
+        key = self.chance.choice(TOOLS)
+        self.done.append(f"tool {key}")
+        self._press(key)
+
+    def _copies(self) -> None:
+        key = self.chance.choice(COPIES)
+        self.done.append(f"all, and {key}")
+        self._press("v")
+        self._press(self.chance.choice((Keys.CONTROL + "a", "]")))
+        self._press(key)
+
+    def _press(self, key: str) -> None:
+        """Presses a key, or several at once, on the board."""
+        self.page.driver.execute_script("document.getElementById('board').focus()")
+        chain = ActionChains(self.page.driver, duration=10)
+        *held, last = key
+        for each in held:
+            chain.key_down(each)
+        chain.send_keys(last)
+        for each in held:
+            chain.key_up(each)
+        chain.perform()
+
+    def _offer(self) -> None:
+        offers = self.page.driver.find_elements(By.CSS_SELECTOR, "#fitting button")
+        if offers:
+            number = self.chance.randrange(len(offers))
+            self.done.append(f"offer {number}")
+            self.page.driver.execute_script(
+                "document.querySelectorAll('#fitting button')[arguments[0]]?.click()", number)
+
+    def _answer(self) -> None:
+        """Types a value where one is asked for, or gives up."""
+        value = self.chance.choice(VALUES)
+        self.done.append(f"value {value!r}")
+        fields = self.page.driver.find_elements(By.CSS_SELECTOR, "#value[open] input")
+        if fields and self.chance.random() < 0.8:
+            fields[0].send_keys(Keys.CONTROL, "a")
+            fields[0].send_keys(value, Keys.ENTER)
+        else:
+            ActionChains(self.page.driver, duration=10).send_keys(Keys.ESCAPE).perform()
+
+
+def settle(page: Page) -> str:
+    """Waits until nothing has changed for a while; gives the text."""
+    last, since, ends = ("", ""), time.monotonic(), time.monotonic() + 90
+    while time.monotonic() - since < 1.5:
+        assert time.monotonic() < ends, "it doesn't come to rest"
+        now = page.text(), page.told()
+        if now != last:
+            last, since = now, time.monotonic()
+        time.sleep(0.1)
+    return last[0]
+
+
+def kind_of(answer: dict) -> str:
+    """The kind of the verdict on an answer, as the page shows it."""
+    judgement = answer.get("judgement")
+    if "refused" in answer or "trouble" in answer:
+        return "refused" if "refused" in answer else "trouble"
+    if judgement is None:
+        return "empty"
+    if judgement["failure"]:
+        return "fault"
+    is_unmet = judgement["verdict"] == "well" and not judgement["good"]
+    return "unmet" if is_unmet else str(judgement["verdict"])
+
+
+def shown(page: Page) -> set[str]:
+    """The names of the shapes that the board shows."""
+    return set(page.driver.execute_script(
+        "return [...document.querySelectorAll('.edges [data-name]')].map("
+        "(each) => each.dataset.name)"))
+
+
+@pytest.mark.parametrize("seed", SEEDS)
+def test_a_hand_that_does_anything(page: Page, program: Program, seed: int) -> None:
+    chance = random.Random(seed)
+    begun = chance.choice(BEGUN)
+    if begun:
+        page.type(drawing(begun))
+        page.wait("a drawing", "return document.querySelector('.edges [data-name]')")
+        page.keys("0")
+        page.settled()
+    hand = Hand(page, chance)
+    for _ in range(ACTIONS):
+        hand.act()
+    for _ in range(3):
+        ActionChains(page.driver, duration=10).send_keys(Keys.ESCAPE).perform()
+    text = settle(page)
+    last = f"seed {seed}, begun with {begun!r}: {hand.done[-25:]}\n{text}"
+    assert page.faults() == [], last
+    fresh = Desk(program).answer("judge", {"text": text})
+    assert page.driver.execute_script(
+        "return document.getElementById('verdict').dataset.verdict") == kind_of(fresh), last
+    assert shown(page) == {shape.name for shape in read_document(text).geometry}, last
+    kept(page, text)
+
+
+def kept(page: Page, text: str) -> None:
+    """Undoes all and does it again, and loads the page anew: the drawing is the same."""
+    for button in ("undo", "redo"):
+        for _ in range(ACTIONS + 40):
+            if page.count(f"#{button}[aria-disabled=true]"):
+                break
+            page.driver.execute_script(f"document.getElementById('{button}').click()")
+            page.settled()
+    assert settle(page) == text
+    page.driver.refresh()
+    page.wait("the page", "return document.getElementById('verdict').dataset.verdict")
+    assert settle(page) == text and page.faults() == []
