@@ -22,6 +22,9 @@ LEAST_SINGULAR = 1e-9
 """A singular value below this part of the greatest counts as 0 in a least step."""
 REGULAR = 1e-13
 """Takes the place of 0 in the sparse system of a least step, so that repeated rows do no harm."""
+FILLED = 8
+"""Where JJ' may have more than so many times the entries of J, a step is sought together with its
+multipliers."""
 
 
 def matrix_of(entries: Iterable[Entry], shape: tuple[int, int]) -> Matrix:
@@ -75,9 +78,11 @@ def damped_step(jacobian: Matrix, wanted: Array, damping: float) -> Array:
 
 
 def _damped_sparse_step(jacobian: Matrix, wanted: Array, damping: float) -> Array:
-    square = (jacobian @ jacobian.T).tocsc()
-    square = square + damping * sparse.identity(square.shape[0], format="csc")
     try:
+        if _fills_up(jacobian):
+            return _step_with_multipliers(jacobian, wanted, damping)
+        square = (jacobian @ jacobian.T).tocsc()
+        square = square + damping * sparse.identity(square.shape[0], format="csc")
         factor = splu(square, permc_spec="MMD_AT_PLUS_A", diag_pivot_thresh=0.0,
                       options={"SymmetricMode": True})
     except RuntimeError:  # It is singular.
@@ -86,22 +91,31 @@ def _damped_sparse_step(jacobian: Matrix, wanted: Array, damping: float) -> Arra
     return step
 
 
+def _fills_up(jacobian: Matrix) -> bool:
+    """Whether JJ' may have far more entries than J: those of a column, squared, at most."""
+    in_columns = np.bincount(jacobian.indices)
+    return bool(in_columns @ in_columns > FILLED * jacobian.nnz)
+
+
 def least_step(jacobian: Matrix, wanted: Array) -> Array:
     """The least step that does what is wanted as nearly as can be: by singular values, or by the
     sparse system of the step and its multipliers, which squares no condition either. No step where
     none can be reckoned."""
     try:
         if is_sparse(jacobian):
-            return _least_sparse_step(jacobian, wanted)
+            return _step_with_multipliers(jacobian, wanted, REGULAR)
         step: Array = np.linalg.lstsq(jacobian, wanted, rcond=LEAST_SINGULAR)[0]
         return step
     except (linalg.LinAlgError, RuntimeError):
         return np.zeros(jacobian.shape[1])
 
 
-def _least_sparse_step(jacobian: Matrix, wanted: Array) -> Array:
+def _step_with_multipliers(jacobian: Matrix, wanted: Array, damping: float) -> Array:
+    """A damped step by the sparse system of the step and its multipliers, which fills up less where
+    many rows speak of one unknown. Raises RuntimeError where it is singular."""
     rows, columns = jacobian.shape
     system = sparse.bmat([[sparse.identity(columns), jacobian.T],
-                          [jacobian, -REGULAR * sparse.identity(rows)]], format="csc")
-    solved: Array = splu(system).solve(np.concatenate([np.zeros(columns), wanted]))
+                          [jacobian, -damping * sparse.identity(rows)]], format="csc")
+    factor = splu(system, permc_spec="MMD_AT_PLUS_A")
+    solved: Array = factor.solve(np.concatenate([np.zeros(columns), wanted]))
     return solved[:columns]
