@@ -2,11 +2,12 @@
 said among them without a number."""
 from __future__ import annotations
 
-from collections.abc import Iterable, Iterator, Mapping as Names
+from collections.abc import Iterator, Mapping as Names
 from dataclasses import dataclass, replace
 
 from pertxogai.board.anchors import with_spot
 from pertxogai.board.mapping import Mapping, numbers
+from pertxogai.board.more_lines import with_shapes
 from pertxogai.board.new_names import Figure, free_name
 from pertxogai.drawing import (
     Anchor, AngleBetween, Arc, Circle, Coincident, Collinear, Concentric, Constraint, Drawing,
@@ -118,7 +119,7 @@ class Copy:
                 old = back[PointRef(shape.name, Which.CENTRE)].shape
                 shape = replace(shape, radius_um=drawing.drawn_radius_um(old))
             made.append(shape)
-        return behind(drawing, made)
+        return with_shapes(drawing, made)
 
     def _of_shape(self, ref: ShapeRef) -> ShapeRef:
         """The shape of the copy that a shape goes to; another than those that are copied stays."""
@@ -130,14 +131,6 @@ def _apart(constraint: Constraint) -> Constraint:
     if isinstance(constraint, (Tangent, Perpendicular)):
         return replace(constraint, at=None)
     return constraint
-
-
-def behind(drawing: Drawing, made: Iterable[Shape]) -> Drawing:
-    """A drawing with more shapes, behind all others."""
-    more, count = tuple(made), len(drawing.geometry)
-    notes = tuple(replace(note, before=note.before + len(more))
-                  if note.before >= count > 0 else note for note in drawing.notes)
-    return replace(drawing, geometry=(*drawing.geometry, *more), notes=notes)
 
 
 def _shape(drawing: Drawing, name: str) -> Shape:
@@ -174,7 +167,7 @@ class _Copying:
                 for shape in sorted(self.chosen, key=lambda each: not isinstance(each, Point))
                 if names[shape.name] != shape.name]
         before = frozenset(each.name for each in self.drawing.geometry)
-        return Copy(behind(self.drawing, made), names, self.mapping, levels, before)
+        return Copy(with_shapes(self.drawing, made), names, self.mapping, levels, before)
 
     def _names(self) -> dict[str, str]:
         """The names of the copies; a shape that stays where it is keeps its own."""

@@ -12,6 +12,7 @@ from pertxogai.board.corners import Corner
 from pertxogai.board.figures import centre_rectangle, polygon, slot, tangent_arc
 from pertxogai.board.labelling import Label, Measure
 from pertxogai.board.line_reader import asking, drawn, valued
+from pertxogai.board.more_lines import with_constraints, with_shapes
 from pertxogai.board.new_names import Figure, free_name
 from pertxogai.board.offsetting import Offset
 from pertxogai.board.pasting import Paste
@@ -50,11 +51,7 @@ class Draw:
         said = self._said(drawing, name)
         shapes = tuple(replace(shape, construction=shape.construction or self.construction)
                        for shape in said.shapes)
-        count = len(drawing.geometry)
-        notes = tuple(replace(note, before=note.before + len(shapes))
-                      if note.before >= count > 0 else note for note in drawing.notes)
-        whole = replace(drawing, geometry=(*drawing.geometry, *shapes),
-                        constraints=(*drawing.constraints, *said.constraints), notes=notes)
+        whole = with_constraints(with_shapes(drawing, shapes), said.constraints)
         return _asking(whole, ([_named(word, name) for word in each] for each in self.asks))
 
     def _said(self, drawing: Drawing, name: str) -> Expansion:

@@ -7,6 +7,7 @@ from dataclasses import replace
 from fractions import Fraction
 
 from pertxogai.board.line_reader import asking, drawn
+from pertxogai.board.mapping import rounded
 from pertxogai.drawing import (
     Anchor, Arc, Circle, Drawing, Place, PointRef, Segment, Shape, Which, WordFault, points_of)
 from pertxogai.drawing.geometry import Point
@@ -104,7 +105,7 @@ def tangent_arc(drawing: Drawing, name: str, spots: tuple[Anchor, ...]) -> Expan
     if abs(aside) <= STRAIGHT * away:
         raise WordFault(name, "would run straight on: draw a segment, or end it beside")
     size = away ** 2 / (2 * aside)
-    centre = _at(float(start.x_um) - v * size, float(start.y_um) + u * size)
+    centre = rounded(float(start.x_um) - v * size, float(start.y_um) + u * size)
     ends = spots if aside > 0 else spots[::-1]
     arc = Arc(name, centre, ends[0], ends[1])
     return _figure(drawing, [arc], [["tangent", edge.shape, name]])
@@ -159,12 +160,7 @@ def _slot_lines(name: str, centres: tuple[Anchor, ...], places: tuple[Place, Pla
 
 def _beside(place: Place, aside: tuple[float, float], side: int) -> Place:
     """A place beside another, to the next micrometre."""
-    return _at(float(place.x_um) + side * aside[0], float(place.y_um) + side * aside[1])
-
-
-def _at(x_um: float, y_um: float) -> Place:
-    """A place, to the next micrometre."""
-    return Place(Fraction(round(x_um)), Fraction(round(y_um)))
+    return rounded(float(place.x_um) + side * aside[0], float(place.y_um) + side * aside[1])
 
 
 def _place(drawing: Drawing, spot: Anchor) -> Place:

@@ -3,6 +3,7 @@ from __future__ import annotations
 
 from dataclasses import replace
 
+from pertxogai.board.more_lines import with_constraints
 from pertxogai.board.typed import value_word
 from pertxogai.drawing import (
     VALUED, Constraint, Drawing, NamedShapes, Shape, WordFault, asked_of, words_of)
@@ -28,11 +29,7 @@ def asked(drawing: Drawing, words: list[str]) -> tuple[Constraint, ...]:
 
 def asking(drawing: Drawing, words: list[str]) -> Drawing:
     """A drawing with the constraints of a line's words, the last of all. Raises WordFault."""
-    more = asked(drawing, words)
-    end = len(drawing.geometry) + len(drawing.constraints)
-    notes = tuple(replace(note, before=note.before + len(more)) if note.before >= end else note
-                  for note in drawing.notes)
-    return replace(drawing, constraints=(*drawing.constraints, *more), notes=notes)
+    return with_constraints(drawing, asked(drawing, words))
 
 
 def valued(drawing: Drawing, constraint: Constraint, value: str) -> Constraint:

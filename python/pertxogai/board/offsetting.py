@@ -8,11 +8,11 @@ from dataclasses import dataclass, replace
 from fractions import Fraction
 from itertools import pairwise
 
-from pertxogai.board.copying import behind
 from pertxogai.board.edges import Edge, Round, Straight, crossed, edge_of, way
 from pertxogai.board.held import Words, chosen, placed_by_numbers
 from pertxogai.board.line_reader import asked, asking
 from pertxogai.board.mapping import PointUm, numbers, rounded
+from pertxogai.board.more_lines import with_shapes
 from pertxogai.board.named_value import named
 from pertxogai.board.new_names import Figure, free_name
 from pertxogai.board.typed import value_word
@@ -110,11 +110,11 @@ class Offset:
         placed = _Beside(shown, outline, float(size) * side)
         placed.check()
         names = drawn.names()
-        scene = behind(replace(_outer(placed.drawing), constraints=()), placed.shapes(names))
+        scene = with_shapes(replace(_outer(placed.drawing), constraints=()), placed.shapes(names))
         orders = _orders(drawing, outline, names, mm_text(size), placed)
         found = min((chosen(scene, order) for order in orders), key=lambda each: each.left)
-        made, lines = named(behind(drawing, drawn.shapes(names)), found.lines, "distance", "Offset",
-                            value_word(self.size))
+        made = with_shapes(drawing, drawn.shapes(names))
+        made, lines = named(made, found.lines, "distance", "Offset", value_word(self.size))
         for words in lines:
             is_plain = words[0] == "distance" and lines is found.lines
             made = asking(made, [*words[:-1], *value_word(self.size).split()] if is_plain
@@ -142,7 +142,7 @@ class Offset:
         assert isinstance(old, Circle)
         circle = Circle(name, PointRef(rim.name, Which.CENTRE), radius, old.construction)
         told = f"radius {name} {mm_text(radius)}"
-        return asking(behind(drawing, [circle]), told.split())
+        return asking(with_shapes(drawing, [circle]), told.split())
 
     def _side(self, drawing: Drawing, outline: Outline) -> float:
         """The side of the outline on which the place lies: 1 to its left, -1 to its right."""
@@ -196,7 +196,7 @@ class _Beside:
             old = self._shape(run)
             kind = Figure.ARC if isinstance(old, Arc) else Figure.SEGMENT
             found.append(free_name(scratch, kind))
-            scratch = behind(scratch, [replace(old, name=found[-1])])
+            scratch = with_shapes(scratch, [replace(old, name=found[-1])])
         return found
 
     def shapes(self, names: Sequence[str]) -> list[Shape]:

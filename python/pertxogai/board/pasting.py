@@ -5,11 +5,12 @@ from __future__ import annotations
 from dataclasses import dataclass, replace
 from fractions import Fraction
 
-from pertxogai.board.copying import behind, copied
+from pertxogai.board.copying import copied
 from pertxogai.board.document import read_document
 from pertxogai.board.held import placed_by_numbers
 from pertxogai.board.line_reader import asking
 from pertxogai.board.mapping import shift
+from pertxogai.board.more_lines import with_shapes
 from pertxogai.drawing import VALUED, Constraint, Drawing, words_of
 
 
@@ -30,7 +31,7 @@ class Paste:
         taken = frozenset(each.name for each in (*drawing.geometry, *drawing.values))
         source = placed_by_numbers(read_document(self.source))
         copy = copied(source, self.shapes, shift(float(self.dx_um), float(self.dy_um)), True, taken)
-        made = behind(drawing, copy.shapes())
+        made = with_shapes(drawing, copy.shapes())
         for constraint in copy.all_said():
             said = constraint if source.values == drawing.values else _plain(constraint)
             made = asking(made, words_of(said).split())

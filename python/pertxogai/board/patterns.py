@@ -7,10 +7,11 @@ from collections.abc import Iterable, Iterator, Sequence
 from dataclasses import dataclass, replace
 from fractions import Fraction
 
-from pertxogai.board.copying import Copy, behind, copied
+from pertxogai.board.copying import Copy, copied
 from pertxogai.board.held import Held, Words, chosen, held, placed_by_numbers
 from pertxogai.board.line_reader import asking
 from pertxogai.board.mapping import Mapping, mirror, numbers, shift, turn
+from pertxogai.board.more_lines import with_shapes
 from pertxogai.board.named_value import Lines, named as named_value
 from pertxogai.board.new_names import Figure, free_name
 from pertxogai.board.removal import without
@@ -144,7 +145,7 @@ def _with_centre(drawing: Drawing, about: Anchor) -> tuple[Drawing, PointRef]:
     if isinstance(about, PointRef):
         return drawing, about
     name = free_name(drawing, Figure.POINT)
-    return behind(drawing, [Point(name, about, construction=True)]), PointRef(name)
+    return with_shapes(drawing, [Point(name, about, construction=True)]), PointRef(name)
 
 
 @dataclass(frozen=True)
@@ -238,7 +239,7 @@ class _Spoked:
         for ref, end in ends.items():
             name = found[ref] = free_name(placed, Figure.SEGMENT)
             spoke = Segment(name, centre, end, construction=True)
-            drawing, placed = behind(drawing, [spoke]), behind(placed, [spoke])
+            drawing, placed = with_shapes(drawing, [spoke]), with_shapes(placed, [spoke])
         return replace(self, drawing=drawing, placed=placed, spokes=found)
 
     def asking(self, found: Held) -> _Spoked:
