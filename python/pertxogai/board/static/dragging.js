@@ -126,29 +126,56 @@ export class Dragging {
   }
 
   /**
-   * The hand goes to a place in pixels: to what it aims at, where that is guessed; to the grid with
-   * a point that may go everywhere; else to the place itself. Gives whether something is held.
+   * The hand goes to a place in pixels. Gives whether something is held.
    * @param {import('./guesses.js').Aim} aim
    * @param {Place} pixels
    */
   follow(aim, pixels) {
-    const { held, board: { plane } } = this;
-    const isLoose = held?.names.length === 1 && this.isLoose(held.names[0]);
-    return this.to(aim.guesses.length || isLoose ? aim.at : plane.toPlane(pixels));
+    const { held } = this;
+    return held !== null && this.to(this.wish(held, aim, pixels));
   }
 
   /**
-   * Whether a point may go everywhere.
+   * Where a hand aims: at what is guessed there; with a point that may go everywhere at the grid;
+   * with shapes that may by whole steps of it; else at the place itself.
+   * @param {Held} held
+   * @param {import('./guesses.js').Aim} aim
+   * @param {Place} pixels
+   * @returns {Place}
+   */
+  wish({ names, begin: [u, v] }, aim, pixels) {
+    const { plane, shown } = this.board;
+    const [x, y] = plane.toPlane(pixels);
+    if (aim.guesses.length) return aim.at;
+    if (!names.every((each) => this.isLoose(each))) return [x, y];
+    if (names.length === 1 && shown.at(names[0])) return aim.at;
+    const [dx, dy] = plane.rounded([x - u, y - v]);
+    return [u + dx, v + dy];
+  }
+
+  /**
+   * Whether a point may go everywhere, or all points of a shape; a rim by itself only grows.
    * @param {string} name
    */
   isLoose(name) {
-    const { places, moves } = this.paper.answer?.judgement?.found ?? {};
+    const shape = this.paper.answer?.drawing?.shapes.find((each) => each.name === name);
+    const isRim = shape && shape.radius !== undefined && this.held?.names.length === 1;
+    const points = shape ? Object.keys(shape.points) : [name];
+    return !isRim && points.every((each) => this.isLoosePoint(each));
+  }
+
+  /**
+   * Whether a point may go everywhere, by itself or with the whole.
+   * @param {string} name
+   */
+  isLoosePoint(name) {
+    const { places, moves, freedoms } = this.paper.answer?.judgement?.found ?? {};
     const mine = places?.points[name];
     const own = (moves ?? []).filter(({ point }) => {
       const at = places?.points[point];
       return mine && at && Math.hypot(at[0] - mine[0], at[1] - mine[1]) < SAME;
     });
-    return own.length > 1;
+    return own.length > 1 || (!own.length && (freedoms?.of_the_whole ?? 0) > 1);
   }
 
   /**

@@ -30,6 +30,8 @@ export class Proposals {
    * @type {number | undefined}
    */
   timer = undefined;
+  /** What is asked, one after the other. */
+  asked = Promise.resolve();
 
   /**
    * @param {import('./paper.js').Paper} paper
@@ -59,17 +61,27 @@ export class Proposals {
     if (!isKnown || live) this.show(NONE);
     clearTimeout(this.timer);
     if (lacks(judgement) && !refused && !live && !isKnown) {
-      this.timer = window.setTimeout(() => this.ask(text), REST);
+      this.timer = window.setTimeout(() => this.askBehind(text), REST);
     }
   }
 
   /**
-   * Asks what completes a text, and shows it if that still stands.
+   * Asks once the answer before has come, so that there is room for all else.
+   * @param {string} text
+   */
+  askBehind(text) {
+    const ask = () => this.ask(text);
+    this.asked = this.asked.then(ask, ask);
+  }
+
+  /**
+   * Asks what completes a text, and shows it, while that stands.
    * @param {string} text
    */
   async ask(text) {
-    const found = await this.paper.about('complete', { text }).catch(ended);
-    if (!found?.proposals || this.paper.text !== text || this.paper.live) return;
+    const stands = () => this.paper.text === text && !this.paper.live;
+    const found = stands() ? await this.paper.about('complete', { text }).catch(ended) : null;
+    if (!found?.proposals || !stands()) return;
     this.show({ text, proposals: found.proposals, why: found.why ?? '' });
   }
 
