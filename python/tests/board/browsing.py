@@ -79,9 +79,10 @@ class Page:
         return len(self.driver.find_elements(By.CSS_SELECTOR, selector))
 
     def faults(self) -> list[str]:
-        """What the browser complained of, but for a server that is stopped."""
+        """What the browser complained of, but for a server that is stopped, or tells it to wait."""
+        mine = "ERR_CONNECTION", "status of 503"
         return [each["message"] for each in self.driver.get_log("browser")
-                if each["level"] == "SEVERE" and "ERR_CONNECTION" not in each["message"]]
+                if each["level"] == "SEVERE" and not any(it in each["message"] for it in mine)]
 
     @contextmanager
     def held(self, call: str) -> Iterator[None]:
