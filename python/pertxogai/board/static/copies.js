@@ -7,6 +7,7 @@ import { svg } from './nodes.js';
 import { apart, pathOf, ring } from './shapes.js';
 import { rounded } from './tools.js';
 import { typed } from './dialogs.js';
+import { Work } from './work.js';
 import { carriedPath, mirroredIn, shiftedBy, turnedAbout } from './outlines.js';
 
 /** @typedef {import('./outlines.js').Carried} Carried */
@@ -32,24 +33,9 @@ export class Clip {
 }
 
 /** Draws what is selected once more. */
-export class Copies {
+export class Copies extends Work {
   /** What was copied to be pasted. */
   clip = new Clip();
-
-  /**
-   * @param {import('./board.js').Board} board
-   * @param {import('./paper.js').Paper} paper
-   * @param {import('./selection.js').Selection} selection
-   * @param {import('./tools.js').Hand} hand
-   * @param {(text: string, kind?: string) => void} tell
-   */
-  constructor(board, paper, selection, hand, tell) {
-    this.board = board;
-    this.paper = paper;
-    this.selection = selection;
-    this.hand = hand;
-    this.tell = tell;
-  }
 
   /** The shapes that are drawn again: those that are selected, or were copied. */
   shapes() {

@@ -4,6 +4,8 @@
  * that.
  */
 
+import { Work } from './work.js';
+
 /** @typedef {import('./page').Place} Place */
 /** @typedef {import('./protocol').Dragged} Dragged */
 /** @typedef {import('./protocol').Found} Found */
@@ -37,7 +39,7 @@ const DATUM = ['Origin', 'XAxis', 'YAxis'];
 const DRAGS = { do: 'move' };
 
 /** Has what is open follow a hand, while all that is asked of it holds. */
-export class Dragging {
+export class Dragging extends Work {
   /** @type {Held | null} */
   held = null;
   /** How many drags have begun, and how many frames were shown. */
@@ -46,17 +48,9 @@ export class Dragging {
   /** Tells the drags of this page from those of others. */
   page = Math.random().toString(36).slice(2);
 
-  /**
-   * @param {import('./board.js').Board} board
-   * @param {import('./paper.js').Paper} paper
-   * @param {import('./selection.js').Selection} selection
-   * @param {(text: string, kind?: string) => void} tell
-   */
-  constructor(board, paper, selection, tell) {
-    this.board = board;
-    this.paper = paper;
-    this.selection = selection;
-    this.tell = tell;
+  /** @param {import('./work.js').Means} means */
+  constructor(means) {
+    super(means);
     document.addEventListener('keydown', (event) => this.key(event), { capture: true });
   }
 

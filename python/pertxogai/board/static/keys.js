@@ -50,7 +50,7 @@ export class Keys {
     const proposed = proposedAt(event);
     if (proposed && key === 'Enter') this.page.proposals.change(proposed);
     else if (proposed && key === ' ') this.page.proposals.take(proposed);
-    else if (BRACKETS[key]) this.page.gestures.next(BRACKETS[key], shift || '{}'.includes(key));
+    else if (BRACKETS[key]) this.page.cross.next(BRACKETS[key], shift || '{}'.includes(key));
     else if (event.altKey) return pressed(`Alt+${key}`);
     else if (ZOOMS[key]) this.page.board.zoomBy(ZOOMS[key]);
     else if (key === 'Escape') this.page.escape();
@@ -77,13 +77,13 @@ export class Keys {
    * @param {boolean} chord
    */
   arrow(event, chord) {
-    const { gestures } = this.page;
+    const { cross } = this.page;
     const [dx, dy] = ARROWS[event.key];
     const far = event.shiftKey ? 10 : 1;
-    if (event.altKey && !chord) gestures.shift(dx, dy);
+    if (event.altKey && !chord) cross.shift(dx, dy);
     else if (!onBoard(event)) return false;
-    else if (chord) gestures.pan(dx, dy);
-    else gestures.step(dx * far, dy * far);
+    else if (chord) cross.pan(dx, dy);
+    else cross.step(dx * far, dy * far);
     return true;
   }
 
@@ -93,10 +93,10 @@ export class Keys {
    * @param {boolean} shift
    */
   enter(shift) {
-    const { gestures, hand, offers, selection: { numbers } } = this.page;
+    const { cross, hand, offers, selection: { numbers } } = this.page;
     const [number] = numbers;
     if (number && !hand.draws) offers.change(number);
-    else gestures.enter(shift);
+    else cross.enter(shift);
   }
 }
 

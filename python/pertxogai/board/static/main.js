@@ -7,6 +7,7 @@ import { Paper } from './paper.js';
 import { Selection } from './selection.js';
 import { Board, NOTHING } from './board.js';
 import { Gestures } from './gestures.js';
+import { Cross } from './cross.js';
 import { Hand, isTool } from './tools.js';
 import { Offers } from './offers.js';
 import { Verdict } from './verdict.js';
@@ -47,7 +48,8 @@ export class Page {
     this.paper = new Paper(this.server);
     const { paper, selection, hand } = this;
     this.board = new Board(nodeOf('board', SVGSVGElement), selection);
-    this.gestures = new Gestures(this.board, paper, selection, hand, hint);
+    this.gestures = new Gestures({ board: this.board, paper, selection, hand, tell: hint });
+    this.cross = new Cross(this.gestures);
     this.offers = new Offers(paper, this.board, selection, hint);
     this.verdict = new Verdict(byId('verdict'), paper, selection, this.board);
     this.verdict.node.addEventListener('other', (event) => {
@@ -97,7 +99,7 @@ export class Page {
       construct: () => offers.construct(),
       rename: () => offers.rename(),
       erase: () => offers.erase(),
-      copy: () => this.gestures.copies.copy(),
+      copy: () => this.gestures.drafting.copies.copy(),
       alike: () => this.selection.alike(this.board.answer.drawing),
       all: () => this.selection.set(this.board.answer.drawing.shapes.map((each) => each.name)),
       back: () => steps.go(-1),
@@ -213,7 +215,7 @@ export class Page {
    */
   take(tool) {
     this.hand.take(tool);
-    if (this.hand.copy && !this.gestures.copies.isReady()) this.hand.take('select');
+    if (this.hand.copy && !this.gestures.drafting.copies.isReady()) this.hand.take('select');
     else hint(this.hand.hint);
     tool = this.hand.tool;
     byId('option-sides').hidden = tool !== 'polygon';
