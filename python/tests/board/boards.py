@@ -1,4 +1,4 @@
-"""A board that is served for tests, and a browser that opens it."""
+"""A board that is served for tests. A module that imports this is passed over without Flask."""
 from __future__ import annotations
 
 import shutil
@@ -9,10 +9,14 @@ from contextlib import contextmanager
 from dataclasses import dataclass, field
 from pathlib import Path
 
-from pertxogai.board.guard import Guard
-from pertxogai.board.serve import listening, server_at
-from pertxogai.board.workers import Bounds, Workers
-from pertxogai.program import Program
+import pytest
+
+pytest.importorskip("flask", reason="the board needs Debian's python3-flask")
+
+from pertxogai.board.guard import Guard  # noqa: E402
+from pertxogai.board.serve import listening, server_at  # noqa: E402
+from pertxogai.board.workers import Bounds, Workers  # noqa: E402
+from pertxogai.program import Program  # noqa: E402
 
 DRAWINGS = Path(__file__).resolve().parents[1] / "drawings"
 FILES = DRAWINGS.parent / "files"

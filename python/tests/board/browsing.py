@@ -1,4 +1,5 @@
-"""The board in a real browser: Debian's Chromium, without a window."""
+"""The board in a real browser: Debian's Chromium, without a window. A module that imports this is
+passed over where the browser isn't there, or Flask, or what drives it."""
 from __future__ import annotations
 
 import json
@@ -8,13 +9,20 @@ from contextlib import contextmanager
 from dataclasses import dataclass
 from pathlib import Path
 
-from boards import CHROMIUM, DRIVER, Served, wait_for
-from selenium import webdriver
-from selenium.webdriver.chrome.options import Options
-from selenium.webdriver.chrome.service import Service
-from selenium.webdriver.common.action_chains import ActionChains
-from selenium.webdriver.common.by import By
-from selenium.webdriver.common.keys import Keys
+import pytest
+
+pytest.importorskip("selenium", reason="the browser is driven by Debian's python3-selenium")
+
+from boards import CHROMIUM, DRIVER, Served, wait_for  # noqa: E402
+from selenium import webdriver  # noqa: E402
+from selenium.webdriver.chrome.options import Options  # noqa: E402
+from selenium.webdriver.chrome.service import Service  # noqa: E402
+from selenium.webdriver.common.action_chains import ActionChains  # noqa: E402
+from selenium.webdriver.common.by import By  # noqa: E402
+from selenium.webdriver.common.keys import Keys  # noqa: E402
+
+if not (CHROMIUM and DRIVER):
+    pytest.skip("Debian's chromium and chromium-driver aren't there", allow_module_level=True)
 
 PICTURES = os.environ.get("PERTXOGAI_PICTURES")
 """Where the pictures of docs/BOARD.md are kept anew, where that is asked for."""

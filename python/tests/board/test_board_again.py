@@ -4,19 +4,14 @@ from __future__ import annotations
 
 import pytest
 
-pytest.importorskip("flask", reason="the board needs Debian's python3-flask")
+from boards import wait_for
+from browsing import Page
+from selenium.webdriver.common.by import By
+from selenium.webdriver.common.keys import Keys
+
+from pertxogai.board.protocol import Point
+
 pytest.importorskip("numpy", reason="copies are held by rank, by Debian's python3-numpy")
-pytest.importorskip("selenium", reason="the browser is driven by Debian's python3-selenium")
-
-from boards import CHROMIUM, DRIVER, wait_for  # noqa: E402
-from browsing import Page  # noqa: E402
-from selenium.webdriver.common.by import By  # noqa: E402
-from selenium.webdriver.common.keys import Keys  # noqa: E402
-
-from pertxogai.board.protocol import Point  # noqa: E402
-
-if not (CHROMIUM and DRIVER):
-    pytest.skip("Debian's chromium and chromium-driver aren't there", allow_module_level=True)
 
 HOLE = "circle C 20 10 4\nradius C 4\nx C 20\ny C 10\n"
 

@@ -6,20 +6,15 @@ import time
 
 import pytest
 
-pytest.importorskip("flask", reason="the board needs Debian's python3-flask")
+from boards import wait_for
+from browsing import Page
+from selenium.webdriver.common.by import By
+from selenium.webdriver.common.keys import Keys
+
+from pertxogai.board.calls import Desk
+from pertxogai.program import Program
+
 pytest.importorskip("numpy", reason="copies are held by rank, by Debian's python3-numpy")
-pytest.importorskip("selenium", reason="the browser is driven by Debian's python3-selenium")
-
-from boards import CHROMIUM, DRIVER, wait_for  # noqa: E402
-from browsing import Page  # noqa: E402
-from selenium.webdriver.common.by import By  # noqa: E402
-from selenium.webdriver.common.keys import Keys  # noqa: E402
-
-from pertxogai.board.calls import Desk  # noqa: E402
-from pertxogai.program import Program  # noqa: E402
-
-if not (CHROMIUM and DRIVER):
-    pytest.skip("Debian's chromium and chromium-driver aren't there", allow_module_level=True)
 
 SECONDS = 120
 """A bracket is to be drawn within two minutes, where the machine is free."""
@@ -60,6 +55,7 @@ def test_a_bracket_with_two_fillets_and_four_holes(page: Page, program: Program)
     page.keys("r")
     page.press(x, y)
     page.press(x + 420, y - 260)
+    page.wait("a plate", "return document.querySelector('[data-name=R1Bottom] .hit')")
     page.keys("v")
     page.select("R1Bottom")
     page.ask("length", "100")

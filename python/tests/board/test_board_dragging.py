@@ -2,22 +2,15 @@
 the mouse. What each frame shows is what the server told; lengths are worked out by hand."""
 from __future__ import annotations
 
-
-
 from math import atan2, cos, hypot, radians, sin
 
 import pytest
 
-pytest.importorskip("flask", reason="the board needs Debian's python3-flask")
-pytest.importorskip("selenium", reason="the browser is driven by Debian's python3-selenium")
 pytest.importorskip("scipy", reason="what is dragged is reckoned by Debian's python3-scipy")
 
-from boards import CHROMIUM, DRIVER, Served, wait_for  # noqa: E402
-from browsing import Page  # noqa: E402
-from selenium.webdriver.common.keys import Keys  # noqa: E402
-
-if not (CHROMIUM and DRIVER):
-    pytest.skip("Debian's chromium and chromium-driver aren't there", allow_module_level=True)
+from boards import Served, wait_for
+from browsing import Page
+from selenium.webdriver.common.keys import Keys
 
 Place = tuple[float, float]
 FOUR_BAR = """drawing 1

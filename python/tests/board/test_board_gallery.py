@@ -11,24 +11,18 @@ from itertools import combinations
 
 import pytest
 
-pytest.importorskip("flask", reason="the board needs Debian's python3-flask")
-pytest.importorskip("selenium", reason="the browser is driven by Debian's python3-selenium")
+from boards import drawing, wait_for
+from browsing import Page
+from selenium.webdriver.common.by import By
+from selenium.webdriver.common.keys import Keys
 
-from boards import CHROMIUM, DRIVER, drawing, wait_for  # noqa: E402
-from browsing import Page  # noqa: E402
-from selenium.webdriver.common.by import By  # noqa: E402
-from selenium.webdriver.common.keys import Keys  # noqa: E402
-
-from pertxogai.board.calls import Desk  # noqa: E402
-from pertxogai.drawing import (  # noqa: E402
+from pertxogai.board.calls import Desk
+from pertxogai.drawing import (
     VALUED, AngleBetween, Arc, Circle, Constraint, Drawing, PointRef, Segment, Shape, ShapeRef,
     Which, XDistance, YDistance, points_of, read_drawing, spot_of, value_text, words_of,
     write_drawing)
-from pertxogai.drawing.mentions import refs_of  # noqa: E402
-from pertxogai.program import Program  # noqa: E402
-
-if not (CHROMIUM and DRIVER):
-    pytest.skip("Debian's chromium and chromium-driver aren't there", allow_module_level=True)
+from pertxogai.drawing.mentions import refs_of
+from pertxogai.program import Program
 
 NAMES = ("plate-with-hole", "bracket", "chamfered-and-filleted", "slotted-plate", "cam", "keyhole",
          "dovetail", "belt-drive", "t-slot", "mirrored-holes")
@@ -66,15 +60,27 @@ class Draughtsman:
     # Where things lie.
 
     def _make_room(self) -> None:
-        """Zooms out until all of the drawing is in sight."""
+        """Pans and zooms until all of the drawing is in sight, as large as that goes."""
         places = [self._place(ref) for ref in self.drawing.points()]
-        for _ in range(12):
+        for _ in range(20):
             self._look()
-            xs, ys = zip(*map(self._pixels, places))
-            if min(xs) > 50 and max(xs) < 910 and min(ys) > 90 and max(ys) < 540:
+            key = self._way(places)
+            if key is None:
                 return
-            self.page.keys("-")
+            self.page.keys(key)
         raise AssertionError("there is no room for the drawing")
+
+    def _way(self, places: list[tuple[float, float]]) -> str | None:
+        """The key that brings places nearer to the middle of the board, or lets them fill it; None
+        where they do."""
+        xs, ys = zip(*map(self._pixels, places))
+        x, y = (min(xs) + max(xs)) / 2 - 480, (min(ys) + max(ys)) / 2 - 315
+        if abs(x) > 65:
+            return Keys.CONTROL + (Keys.ARROW_RIGHT if x > 0 else Keys.ARROW_LEFT)
+        if abs(y) > 45:
+            return Keys.CONTROL + (Keys.ARROW_DOWN if y > 0 else Keys.ARROW_UP)
+        share = max((max(xs) - min(xs)) / 860, (max(ys) - min(ys)) / 450)
+        return "-" if share > 1 else "+" if share < 0.75 else None
 
     def _look(self) -> None:
         """Finds where the origin lies and how large a millimetre is, by the cross."""

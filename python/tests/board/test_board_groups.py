@@ -3,16 +3,10 @@ from __future__ import annotations
 
 import pytest
 
-pytest.importorskip("flask", reason="the board needs Debian's python3-flask")
-pytest.importorskip("selenium", reason="the browser is driven by Debian's python3-selenium")
-
-from boards import CHROMIUM, DRIVER, wait_for  # noqa: E402
-from browsing import Page  # noqa: E402
-from selenium.webdriver.common.action_chains import ActionChains  # noqa: E402
-from selenium.webdriver.common.by import By  # noqa: E402
-
-if not (CHROMIUM and DRIVER):
-    pytest.skip("Debian's chromium and chromium-driver aren't there", allow_module_level=True)
+from boards import wait_for
+from browsing import Page
+from selenium.webdriver.common.action_chains import ActionChains
+from selenium.webdriver.common.by import By
 
 PLATE = """rectangle R 0 0 100 60
 circle H 40 30 5

@@ -6,19 +6,13 @@ import re
 
 import pytest
 
-pytest.importorskip("flask", reason="the board needs Debian's python3-flask")
-pytest.importorskip("selenium", reason="the browser is driven by Debian's python3-selenium")
+from boards import wait_for
+from browsing import Page
+from selenium.webdriver.common.keys import Keys
 
-from boards import CHROMIUM, DRIVER, wait_for  # noqa: E402
-from browsing import Page  # noqa: E402
-from selenium.webdriver.common.keys import Keys  # noqa: E402
-
-from pertxogai.board.marks import _SIGNS  # noqa: E402
-from pertxogai.board.protocol import Point  # noqa: E402
-from conftest import TOP  # noqa: E402
-
-if not (CHROMIUM and DRIVER):
-    pytest.skip("Debian's chromium and chromium-driver aren't there", allow_module_level=True)
+from pertxogai.board.marks import _SIGNS
+from pertxogai.board.protocol import Point
+from conftest import TOP
 
 EDGE = "segment E 0 0 80 0\n"
 LEANING = "segment E 0 0 80 30\n"

@@ -7,16 +7,10 @@ from itertools import combinations
 
 import pytest
 
-pytest.importorskip("flask", reason="the board needs Debian's python3-flask")
-pytest.importorskip("selenium", reason="the browser is driven by Debian's python3-selenium")
-
-from boards import CHROMIUM, DRIVER, drawing, wait_for  # noqa: E402
-from browsing import Page  # noqa: E402
-from selenium.webdriver.common.by import By  # noqa: E402
-from selenium.webdriver.common.keys import Keys  # noqa: E402
-
-if not (CHROMIUM and DRIVER):
-    pytest.skip("Debian's chromium and chromium-driver aren't there", allow_module_level=True)
+from boards import drawing, wait_for
+from browsing import Page
+from selenium.webdriver.common.by import By
+from selenium.webdriver.common.keys import Keys
 
 PLATE = """segment A 0 0 80 0
 segment B A.end 80 50

@@ -6,15 +6,9 @@ from contextlib import contextmanager
 
 import pytest
 
-pytest.importorskip("flask", reason="the board needs Debian's python3-flask")
-pytest.importorskip("selenium", reason="the browser is driven by Debian's python3-selenium")
-
-from boards import CHROMIUM, DRIVER, wait_for  # noqa: E402
-from browsing import Page  # noqa: E402
-from selenium.webdriver.common.keys import Keys  # noqa: E402
-
-if not (CHROMIUM and DRIVER):
-    pytest.skip("Debian's chromium and chromium-driver aren't there", allow_module_level=True)
+from boards import wait_for
+from browsing import Page
+from selenium.webdriver.common.keys import Keys
 
 CIRCLES = "circle K 0 0 8\ncircle L 30 0 8\ncircle M 60 0 8\n"
 SIGNS = """segment A 0 0 40 0

@@ -10,22 +10,17 @@ from dataclasses import dataclass, field
 
 import pytest
 
-pytest.importorskip("flask", reason="the board needs Debian's python3-flask")
+from boards import drawing
+from browsing import Page
+from selenium.webdriver.common.action_chains import ActionChains
+from selenium.webdriver.common.by import By
+from selenium.webdriver.common.keys import Keys
+
+from pertxogai.board.calls import Desk
+from pertxogai.board.document import read_document
+from pertxogai.program import Program
+
 pytest.importorskip("numpy", reason="copies are held by rank, by Debian's python3-numpy")
-pytest.importorskip("selenium", reason="the browser is driven by Debian's python3-selenium")
-
-from boards import CHROMIUM, DRIVER, drawing  # noqa: E402
-from browsing import Page  # noqa: E402
-from selenium.webdriver.common.action_chains import ActionChains  # noqa: E402
-from selenium.webdriver.common.by import By  # noqa: E402
-from selenium.webdriver.common.keys import Keys  # noqa: E402
-
-from pertxogai.board.calls import Desk  # noqa: E402
-from pertxogai.board.document import read_document  # noqa: E402
-from pertxogai.program import Program  # noqa: E402
-
-if not (CHROMIUM and DRIVER):
-    pytest.skip("Debian's chromium and chromium-driver aren't there", allow_module_level=True)
 
 SEEDS = range(int(os.environ.get("PERTXOGAI_SEEDS", "1")))
 ACTIONS = int(os.environ.get("PERTXOGAI_ACTIONS", "40"))

@@ -1,18 +1,10 @@
 """The board in a real browser: what the bar makes of a corner; trim, extend and the slot."""
 from __future__ import annotations
 
-import pytest
-
-pytest.importorskip("flask", reason="the board needs Debian's python3-flask")
-pytest.importorskip("selenium", reason="the browser is driven by Debian's python3-selenium")
-
-from boards import CHROMIUM, DRIVER, wait_for  # noqa: E402
-from browsing import Page  # noqa: E402
-from selenium.webdriver.common.by import By  # noqa: E402
-from selenium.webdriver.common.keys import Keys  # noqa: E402
-
-if not (CHROMIUM and DRIVER):
-    pytest.skip("Debian's chromium and chromium-driver aren't there", allow_module_level=True)
+from boards import wait_for
+from browsing import Page
+from selenium.webdriver.common.by import By
+from selenium.webdriver.common.keys import Keys
 
 PLATE = """rectangle R 0 0 100 60
 coincident RBottom.start Origin

@@ -1,19 +1,11 @@
 """The board in a real browser: what is well and not good is shown so, whatever the reason."""
 from __future__ import annotations
 
-import pytest
-
-pytest.importorskip("flask", reason="the board needs Debian's python3-flask")
-pytest.importorskip("selenium", reason="the browser is driven by Debian's python3-selenium")
-
-from boards import CHROMIUM, DRIVER, FILES, wait_for  # noqa: E402
-from browsing import Page  # noqa: E402
-from selenium.webdriver.common.by import By  # noqa: E402
-from selenium.webdriver.common.keys import Keys  # noqa: E402
-from test_board_good import PLATE, TURNED, WIDE  # noqa: E402
-
-if not (CHROMIUM and DRIVER):
-    pytest.skip("Debian's chromium and chromium-driver aren't there", allow_module_level=True)
+from boards import FILES, wait_for
+from browsing import Page
+from selenium.webdriver.common.by import By
+from selenium.webdriver.common.keys import Keys
+from test_board_good import PLATE, TURNED, WIDE
 
 
 def test_a_constraint_that_isnt_met_is_named_and_marked(page: Page) -> None:
