@@ -20,6 +20,7 @@ from pertxogai.drawing.cursor import Cursor
 from pertxogai.drawing.drawing import Drawing, Note
 from pertxogai.drawing.numbers import mm_text
 from pertxogai.drawing.refusal import WordFault
+from pertxogai.drawing.wording import asked_of
 
 Offset = tuple[Fraction, Fraction]
 """How far a label stands from where its dimension is measured, x and y in micrometres."""
@@ -41,7 +42,6 @@ class Reference:
     @property
     def words(self) -> tuple[str, ...]:
         """Its words without a value."""
-        from pertxogai.drawing.wording import asked_of
         assert isinstance(self.constraint, VALUED)
         return tuple(asked_of(self.constraint))
 

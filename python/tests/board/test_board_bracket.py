@@ -2,8 +2,6 @@
 hasn't read a page. It keeps the pictures of docs/BOARD.md."""
 from __future__ import annotations
 
-import time
-
 import pytest
 
 from boards import wait_for
@@ -17,7 +15,20 @@ from pertxogai.program import Program
 pytest.importorskip("numpy", reason="copies are held by rank, by Debian's python3-numpy")
 
 SECONDS = 120
-"""A bracket is to be drawn within two minutes, where the machine is free."""
+"""A bracket is to be drawn within two minutes."""
+POINTING, PRESS, KEY, THOUGHT = 1.1, 0.2, 0.28, 1.35
+"""Seconds that a hand takes to point, to press a button, to press a key, and to think before it
+points: the keystroke-level model of Card, Moran and Newell."""
+COUNT = """window.hand = { pointerdown: 0, keydown: 0 };
+for (const what of Object.keys(window.hand)) {
+  addEventListener(what, () => { window.hand[what] += 1; }, { capture: true });
+}"""
+
+
+def seconds_of(page: Page) -> float:
+    """How long a hand would take for the presses and keys that were counted."""
+    hand = page.driver.execute_script("return window.hand")
+    return float(hand["pointerdown"] * (THOUGHT + POINTING + PRESS) + hand["keydown"] * KEY)
 
 
 def typed(page: Page, word: str, size: str) -> None:
@@ -50,7 +61,7 @@ def on_board(page: Page, x: float, y: float) -> tuple[float, float]:
 
 def test_a_bracket_with_two_fillets_and_four_holes(page: Page, program: Program) -> None:
     """Its holes are told by the first one's place and by two pitches: 15, 15, 70 and 25."""
-    begun = time.monotonic()
+    page.driver.execute_script(COUNT)
     x, y = page.at("Origin")
     page.keys("r")
     page.press(x, y)
@@ -90,7 +101,7 @@ def test_a_bracket_with_two_fillets_and_four_holes(page: Page, program: Program)
     row(page, "2", 15, 40)
     wait_for("four holes", lambda: "circle C4" in page.text())
     page.verdict("well")
-    taken = time.monotonic() - begun
+    assert seconds_of(page) < SECONDS
     page.keys(Keys.ESCAPE, "0")
     page.settled()
     page.keep_picture("bracket")
@@ -98,7 +109,6 @@ def test_a_bracket_with_two_fillets_and_four_holes(page: Page, program: Program)
     centres = {tuple(round(each, 3) for each in at) for name, at in found["placed"]["points"].items()
                if name.startswith("C")}
     assert found["good"] and (15, 15) in centres and len(centres) == 4
-    print(f"the bracket took {taken:.0f} s")
     assert page.faults() == []
 
 
