@@ -396,6 +396,22 @@ def test_a_hand_that_jumps_far_is_followed_step_by_step() -> None:
     assert hypot(*np.subtract(held.at("Coupler.end"), (38, 27))) < 5
 
 
+@pytest.mark.parametrize("steps", [1, 2, 5, 9])
+def test_what_is_only_late_comes_and_isnt_told_to_stay(
+        monkeypatch: pytest.MonkeyPatch, steps: int) -> None:
+    monkeypatch.setattr(pulling, "FRAME_STEPS", steps)
+    monkeypatch.setattr(pulling, "FRAME_SECONDS", 0.0)
+    dragged = Dragged(four_bar(40, 15, 34, 26, [(8, 12), (38, 27)]), "Crank.end")
+    goal = 15 * cos(radians(235)), 15 * sin(radians(235))
+    frame = dragged.to(*goal)
+    for _ in range(200):
+        if frame.reach is not Reach.COMES:
+            break
+        frame = dragged.to(*goal)
+    assert frame.reach in (Reach.THERE, Reach.BESIDE)
+    assert dragged.at("Crank.end") == pytest.approx(goal, abs=0.01)
+
+
 def test_an_angle_between_bars_is_kept() -> None:
     text = """segment A 0 0 30 0
 segment B 0 0 0 30

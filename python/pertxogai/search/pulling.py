@@ -59,9 +59,11 @@ LEAST_MOTION = 1e-12
 """What moves by less doesn't move, in motions of length 1."""
 HALVES = 5
 """How often the steps of a frame are halved."""
-STEPS = 25
-"""The most steps of one descent."""
-FRAME_STEPS, FRAME_SECONDS = 150, 0.04
+LEAST_PART = 0.5 ** HALVES
+"""No step is a smaller part of what it might be."""
+STEPS, STEP_SECONDS = 25, 0.5
+"""The most steps of one descent, and the seconds of a processor after which it is given up."""
+FRAME_STEPS, FRAME_SECONDS = 60, 0.04
 """The most steps of a frame, and the seconds of a processor after which no more are begun."""
 
 
@@ -109,7 +111,7 @@ class Pull:
         self._ease[easy] = EASY
         self._pulled = self.x[held]
         self._way = np.zeros(len(self.x))
-        self._bend = 1.0
+        self._bend, self._part = 1.0, 1.0
 
     def to(self, place: Array) -> Pulled:
         """The hand pulls what is held to a place: the wanted value of each held unknown."""
@@ -117,6 +119,8 @@ class Pull:
         most_nm = max(CHASE * moved_nm, LEAST_CHASE * self._system.size_nm)
         self._pulled = place
         reach = self._go(place, most_nm, Budget(FRAME_STEPS, FRAME_SECONDS))
+        if reach is not Reach.COMES:
+            self._part = 1.0
         left_nm = self._left_nm(place)
         return Pulled(self.x, left_nm, Reach.THERE if left_nm <= THERE_NM else reach)
 
@@ -146,25 +150,34 @@ class Pull:
         return found
 
     def _go(self, goal: Array, most_nm: float, budget: Budget) -> Reach:
-        """Goes to a goal step by step, so far at most."""
-        part, halves, tangent = 1.0, 0, self._towards(goal)
+        """Goes to a goal step by step, so far at most. A step is tried however late it is, and the
+        next frame goes on with steps of the same part."""
+        halves, tangent = 0, self._towards(goal)
         while not self._is_near(goal, tangent):
-            if halves > HALVES or self._is_dead(tangent):
+            if halves > HALVES or self._part < LEAST_PART or self._is_dead(tangent):
                 return Reach.STAYS
-            if most_nm <= 0 or budget.is_spent():
-                return Reach.STAYS if halves else Reach.COMES
-            length = part * self._length(goal, tangent, most_nm)
-            step = self._step(goal, length * tangent, budget)
+            if most_nm <= 0:
+                return Reach.COMES
+            budget.spend()
+            length = self._part * self._length(goal, tangent, most_nm)
+            step = self._step(goal, length * tangent)
             if step is None:
-                part, halves = part / 2, halves + 1
-                continue
-            most_nm -= float(np.linalg.norm((step.x - self.x)[self._held]))
-            self.x, self._way = step.x, step.way
-            last, tangent = tangent, self._towards(goal)
-            self._learn(last[self._held], tangent[self._held], length)
-            part = min(1.0, 2 * part)
+                self._part, halves = self._part / 2, halves + 1
+            else:
+                most_nm -= float(np.linalg.norm((step.x - self.x)[self._held]))
+                tangent = self._taken(step, goal, tangent, length)
+            if budget.is_spent():
+                return Reach.COMES
         is_held = self._left_nm(goal) > THERE_NM and self._share(self._motion()) < LEAST_SHARE
         return Reach.STAYS if is_held else Reach.BESIDE
+
+    def _taken(self, step: _Step, goal: Array, tangent: Array, length: float) -> Array:
+        """Takes a step of that length along a tangent; gives the tangent from there."""
+        self.x, self._way = step.x, step.way
+        after = self._towards(goal)
+        self._learn(tangent[self._held], after[self._held], length)
+        self._part = min(1.0, 2 * self._part)
+        return after
 
     def _left_nm(self, goal: Array) -> float:
         return self._left_nm_at(self.x, goal)
@@ -206,14 +219,14 @@ class Pull:
         left = float(before @ after) / float(before @ before)
         self._bend = min(max((1.0 - left) / length, LEAST_BEND), MOST_BEND)
 
-    def _step(self, goal: Array, tangent: Array, budget: Budget) -> _Step | None:
+    def _step(self, goal: Array, tangent: Array) -> _Step | None:
         """A step along a tangent; None where it doesn't come nearer to the goal, leaps, or turns.
         One that the last leads to is looked at where that ends elsewhere: of two branches it is
         taken which goes on as the last did."""
-        plain, led = self._mended(goal, tangent, budget), self._led(tangent)
+        plain, led = self._mended(goal, tangent), self._led(tangent)
         if led is None or plain and _is_close(plain.x - self.x, led):
             return plain
-        other = self._mended(goal, led, budget)
+        other = self._mended(goal, led)
         if plain is None or other is None:
             return plain or other
         apart = other.x - plain.x
@@ -222,9 +235,10 @@ class Pull:
             return plain
         return max(plain, other, key=lambda each: _cosine(each.x - self.x, self._way))
 
-    def _mended(self, goal: Array, start: Array, budget: Budget) -> _Step | None:
+    def _mended(self, goal: Array, start: Array) -> _Step | None:
         """Where a step ends that begins so."""
         before_nm = self._left_nm(goal)
+        budget = Budget(STEPS, STEP_SECONDS)
         end = descend(self._system, self.x + start, budget, steps=STEPS, ease=self._ease)
         if not end.is_met() or float(np.linalg.norm(goal - end.x[self._held])) >= before_nm:
             return None
