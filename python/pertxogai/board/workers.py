@@ -43,10 +43,11 @@ class WorkerLost(Exception):
 
 @dataclass
 class Worker:
-    """A process that answers calls, one after the other."""
+    """A process that answers calls, one after the other. drag: the drag that it knows best."""
 
     process: subprocess.Popen[bytes]
     seconds: float
+    drag: str = ""
     rest: bytearray = field(default_factory=bytearray)
 
     @staticmethod
@@ -108,7 +109,8 @@ class Worker:
 
 class Workers:
     """The workers of a server. Those that are free are taken last in, first out, so that calls
-    that follow each other come to the one that remembers."""
+    that follow each other come to the one that remembers; the frames of a drag come to the one that
+    had the frame before, where that is free."""
 
     def __init__(self, program: str, bounds: Bounds) -> None:
         self._program, self.bounds = program, bounds
@@ -118,8 +120,9 @@ class Workers:
 
     def text(self, call: str, given: object) -> str:
         """What a free worker answers, as JSON. Raises Busy."""
+        drag = _drag_of(given)
         try:
-            worker = self._taken()
+            worker = self._taken(drag)
         except WorkerLost as error:
             return json.dumps(trouble("stopped", str(error)))
         try:
@@ -132,16 +135,17 @@ class Workers:
             worker.stop()
             self._back(None)
             raise
+        worker.drag = drag or worker.drag
         self._back(worker)
         return found
 
-    def _taken(self) -> Worker:
+    def _taken(self, drag: str = "") -> Worker:
         with self._lock:
             if self._busy >= MOST_AT_ONCE:
                 raise Busy
             self._busy += 1
             while self._free:
-                worker = self._free.pop()
+                worker = self._next(drag)
                 if worker.process.poll() is None:
                     return worker
                 worker.stop()
@@ -151,6 +155,12 @@ class Workers:
             self._back(None)
             why = error.strerror
             raise WorkerLost(f"no process could be started for the call: {why}") from None
+
+    def _next(self, drag: str) -> Worker:
+        """Of those that are free, the one that knows a drag; else the last that became so."""
+        places = range(len(self._free) - 1, -1, -1)
+        place = next((each for each in places if drag and self._free[each].drag == drag), -1)
+        return self._free.pop(place)
 
     def _back(self, worker: Worker | None) -> None:
         with self._lock:
@@ -163,3 +173,9 @@ class Workers:
         with self._lock:
             while self._free:
                 self._free.pop().stop()
+
+
+def _drag_of(given: object) -> str:
+    """The name of the drag that a call is of; empty of all others."""
+    drag = given.get("drag") if isinstance(given, dict) else None
+    return drag if isinstance(drag, str) else ""

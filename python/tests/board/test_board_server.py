@@ -195,6 +195,15 @@ def test_what_was_asked_in_a_call_is_not_asked_again(tmp_path) -> None:
     assert runs.read_text().count("run") == 4
 
 
+def test_a_drag_comes_to_the_worker_that_had_its_last_frame() -> None:
+    workers = Workers("sketch", Bounds())
+    mine, other, last = (Worker(None, 1.0, drag=drag) for drag in ("mine", "other", ""))
+    workers._free += [mine, other, last]
+    assert workers._next("mine") is mine
+    assert workers._next("mine") is last, "which became free last"
+    assert workers._next("") is other
+
+
 def test_a_program_that_takes_too_long_is_stopped(tmp_path, workers) -> None:
     slow = workers(script(tmp_path / "slow", "exec sleep 60\n"), Bounds(0.5, 0))
     began = time.monotonic()
