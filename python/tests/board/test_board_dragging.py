@@ -33,8 +33,8 @@ const { fetch } = window;
 window.fetch = async (path, options) => {
   const response = await fetch(path, options);
   if (path === 'call/drag') {
-    const { x, y } = JSON.parse(options.body);
-    window.frames_.push({ asked: [x, y], ...await response.clone().json() });
+    const { x, y } = JSON.parse(options.body), told = await response.clone().json();
+    if (!told.lost) window.frames_.push({ asked: [x, y], ...told });
   }
   return response;
 };
@@ -140,7 +140,11 @@ def test_a_linkage_is_whole_and_what_is_free_stands_out(page: Page) -> None:
     assert page.count(".joints circle") == 0
     page.click("#pieces")
     page.settled()
-    assert page.count(".joints circle") == 4
+    assert page.count(".joints circle") == 1, "about the origin, as the list says"
+    colours = page.driver.execute_script(
+        "return [...document.querySelectorAll('.edges .shape')].map("
+        "(edge) => getComputedStyle(edge).stroke);")
+    assert len(set(colours)) == 4, "four bars are four pieces"
 
 
 def test_the_trial_of_a_linkage(page: Page) -> None:
@@ -404,5 +408,3 @@ def test_two_tabs_drag_beside_each_other(page: Page, board: Served) -> None:
     hand.frames()
     hand.points["Base.end"] = (40.0, 0.0)
     assert hand.length("Coupler.end", "Base.end") == pytest.approx(26, abs=1e-6)
-
-
