@@ -118,7 +118,7 @@ class BoardDrawing:
             found = searched_within(self.drawing, SEARCH_SECONDS)
         except MissingLibrary:
             return None
-        return found if found.found.is_solved() else None
+        return found if found.is_met() else None
 
     @cached_property
     def finding(self) -> Finding | None:

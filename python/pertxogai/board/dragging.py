@@ -28,6 +28,8 @@ MOST_DRAGS = 2
 """How many drags are kept: a page has one."""
 FIXED = "nothing is free here: its constraints fix it"
 NO_OTHER = "no other shape is near: drag it to a dead point, where two shapes meet"
+OFF = ("constraints that repeat others are off by less than a nanometre, so nothing follows the "
+       "hand: leave out what repeats")
 NO_SHAPE = "no shape holds all that is asked, so nothing follows the hand: see the verdict"
 
 
@@ -88,6 +90,8 @@ class Drags:
         given. Raises FieldRefused, WordFault."""
         if judged.searched is None:
             return {"fixed": NO_SHAPE if judged.judgement.solution is None else FIXED}
+        if not judged.searched.found.is_solved():
+            return {"fixed": OFF}
         from pertxogai.search.dragging import NothingFree
         name = given.text("drag")
         dragged = self._kept.pop(name, None)

@@ -313,7 +313,8 @@ def test_a_rectangle_of_no_size_keeps_its_angles(page: Page) -> None:
 
 def test_a_piece_at_the_origin_turns_about_it(page: Page) -> None:
     text = ("drawing 1\nsegment A 0 0 30 0\nsegment B A.end 30 20\nsegment C B.end A.start\n"
-            "coincident A.start Origin\nlength A 30\nlength B 20\nlength C 36\n")
+            "point P 50 0\ncoincident A.start Origin\nlength A 30\nlength B 20\nlength C 36\n"
+            "on P XAxis\nx P 50\n")
     hand = dragged(page, text, "A.end", [(30 * cos(t), 30 * sin(t)) for t in (0.1, 0.2, 0.4)])
     assert hand.points["A.end"] == pytest.approx((30 * cos(0.4), 30 * sin(0.4)), abs=1)
     assert hand.length("A.end", "B.end") == pytest.approx(20, abs=1e-6)

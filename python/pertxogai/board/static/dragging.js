@@ -25,6 +25,7 @@ import { Work } from './work.js';
 
 const NOTHING_FREE = 'Nothing is free here: all is fixed by its dimensions. Hold Alt to move only '
   + 'where it is drawn.';
+const JUST_JUDGED = 'The drawing is being judged: drag again in a moment.';
 const STAYS = 'It stays: a dead point, or the end of its way. It goes no farther there; F goes '
   + 'through to the other shape.';
 /** So many frames at most follow once a hand has let go. */
@@ -65,20 +66,20 @@ export class Dragging extends Work {
   }
 
   /**
-   * Takes hold of a thing at a place in pixels, and of all that is selected with it. Gives whether
-   * that is for this to do: not where Alt is held, or no shape is known that could follow; then
-   * only the drawing is moved.
+   * Takes hold of a thing at a place in pixels, and of all that is selected with it; where the text
+   * that stands isn't judged yet, as the last that was. Gives whether that is for this to do: not
+   * where Alt is held, or no shape is known that could follow; then only the drawing is moved.
    * @param {string} name
    * @param {Place} from
    * @param {boolean} isRough
    */
   begin(name, from, isRough) {
     const { paper, selection: { names: selected } } = this;
-    const { answer, text } = paper;
-    const judgement = paper.refused || answer?.text !== text ? null : answer?.judgement;
+    const { answer } = paper;
+    const judgement = paper.refused ? null : answer?.judgement;
     if (isRough || !answer || !(judgement?.placed || judgement?.found)) return false;
     if (!judgement.found || DATUM.includes(name)) {
-      this.tell(NOTHING_FREE, 'trouble');
+      this.tell(answer.text === paper.text ? NOTHING_FREE : JUST_JUDGED, 'trouble');
       return true;
     }
     this.count += 1;
@@ -86,6 +87,7 @@ export class Dragging extends Work {
     const names = (selected.has(name) ? [...selected] : [name]).filter(
       (each) => !DATUM.includes(each));
     const begin = this.beginOf(name, from);
+    const text = answer.text ?? paper.text;
     this.held = { drag: `${this.page} ${this.count}`, text, answer, names, begin, wish: begin,
       done: null, waits: false, places: judgement.found.places,
       marks: answer.drawing?.marks ?? [], reach: 'there' };
