@@ -163,6 +163,11 @@ def test_the_trial_of_a_linkage(page: Page) -> None:
     page.tells("1 degree of freedom (by numbers).")
     page.keys("0")
     page.settled()
+    shares = page.driver.execute_script(
+        "const [edges, board] = ['.edges', '#board'].map("
+        "(each) => document.querySelector(each).getBoundingClientRect());"
+        "return [edges.width / board.width, edges.height / board.height];")
+    assert max(shares) > 0.6, "it fills the board, wherever it is drawn"
     x, y = page.at("S3.end")
     before = page.text()
     page.press(x, y, to=(x - 60, y + 30))
@@ -206,6 +211,7 @@ def test_what_is_let_go_is_drawn_as_it_was_shown(page: Page) -> None:
     hand.to((-5, 14))
     hand.let_go((-5, 14))
     page.settled()
+    wait_for("the tool's hint again", lambda: page.told("hint").startswith("Click selects"))
     line = next(each for each in page.text().splitlines() if "segment Crank" in each)
     drawn = tuple(map(float, line.split()[-2:]))
     assert drawn == pytest.approx(hand.points["Crank.end"], abs=5.1e-4), "to the micrometre"

@@ -483,8 +483,9 @@ export class Board {
     this.drawNow();
     const corners = this.boxes().flatMap(([left, low, right, high]) => [
       this.plane.toPlane([left, low]), this.plane.toPlane([right, high])]);
-    const { between: shown, drawn } = this.shown;
-    const points = [...Object.values(shown.points), ...Object.values(drawn.points)];
+    const { between: shown, drawn, free } = this.shown;
+    const hidden = free ? {} : drawn.points;
+    const points = [...Object.values(shown.points), ...Object.values(hidden)];
     this.plane.fit(corners.length ? [...points, ...corners] : points.slice(1), this.size());
     this.draw();
   }

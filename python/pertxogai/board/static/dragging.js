@@ -229,12 +229,14 @@ export class Dragging extends Work {
   }
 
   /**
-   * Offers the other shape behind a drag that ended at a dead point.
+   * Offers the other shape behind a drag that ended at a dead point; behind all others the hint of
+   * the tool is shown again.
    * @param {Held} held
    * @param {boolean | null} isDone
    */
   offer({ names, begin, reach }, isDone) {
     if (isDone && reach === 'stays') this.paper.tell('dead', { names, begin });
+    else if (isDone && !this.held) this.tell(this.hand.hint);
     return isDone;
   }
 
