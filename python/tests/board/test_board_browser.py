@@ -352,6 +352,8 @@ def test_a_point_is_dragged_and_a_dimension_changed(page: Page) -> None:
     page.wait("moved", "return !document.getElementById('text').value.includes('circle C 20 20')")
     page.select("C")
     page.ask("diameter", "12")
+    page.wait("shown", "return document.querySelector(\".marks [data-constraint='1'] text\")")
+    page.keys("0")
     page.settled()
     page.press_twice(".marks [data-constraint='1'] text")
     page.wait("asked", "return document.querySelector('#value[open] input')")
