@@ -80,10 +80,12 @@ def test_leaders_and_arcs_go_with_their_labels(page: Page) -> None:
     assert page.text().count("# label") == 2 and page.faults() == []
 
 
-@pytest.mark.parametrize("name", ["flange", "bracket", "plate-with-four-holes", "slotted-plate"])
-def test_no_dimension_stands_over_another_at_first(page: Page, name: str) -> None:
-    page.begin(drawing(name), "well")
-    for zoom in ("", "-", "--"):
+@pytest.mark.parametrize("name, verdict", [
+    ("flange", "well"), ("bracket", "well"), ("plate-with-four-holes", "well"),
+    ("slotted-plate", "well"), ("door-with-grille", "well"), ("open-bracket", "open")])
+def test_no_dimension_stands_over_another_at_first(page: Page, name: str, verdict: str) -> None:
+    page.begin(drawing(name), verdict)
+    for zoom in ("", "-", "-", "--"):
         page.keys(*zoom)
         page.settled()
         over = [pair for pair in combinations(boxes(page), 2) if overlap(*pair)]

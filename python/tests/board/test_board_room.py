@@ -127,6 +127,17 @@ def test_arrows_go_through_a_toolbar(page: Page) -> None:
         assert focused() == tool
 
 
+def test_tab_leaves_a_toolbar(page: Page) -> None:
+    """Behind the tools comes the board; before them the toolbar above, at its last button."""
+    focused = "return document.activeElement.id"
+    page.driver.execute_script("document.querySelector('[data-tool=segment]').focus()")
+    page.driver.switch_to.active_element.send_keys(Keys.TAB)
+    assert page.driver.execute_script(focused) == "board"
+    page.driver.switch_to.active_element.send_keys(Keys.SHIFT, Keys.TAB)
+    page.driver.switch_to.active_element.send_keys(Keys.SHIFT, Keys.TAB)
+    assert page.driver.execute_script(focused) == "help"
+
+
 def test_what_has_changed_is_said_and_no_time(page: Page) -> None:
     page.begin(PLATE, "well")
     wait_for("it is said", lambda: "well" in page.driver.execute_script(

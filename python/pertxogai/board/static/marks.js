@@ -7,7 +7,7 @@ import { middleOf } from './shapes.js';
 /** @typedef {import('./protocol').Mark} Mark */
 
 /** How far in pixels a bar may stand beside what it measures. */
-const AWAYS = [24, 43, 62, 81, 100, 119, 138];
+const AWAYS = Array.from({ length: 15 }, (_, place) => 24 + 19 * place);
 /**
  * How far in pixels a text may stand from its place.
  * @type {Place[]}
@@ -43,6 +43,11 @@ const FURTHER = [36, 54, 72, 90, 108, 126, 144, 162, 180];
  * @typedef {Map<number, Place>} Dragged
  */
 /** @typedef {Omit<PlacedMark, 'number'>} Made */
+/**
+ * Which way a bar runs, how long it is in pixels, how far along from its middle its text stands,
+ * and that text.
+ * @typedef {{ way: Place, length: number, along: number, text: string }} Bar
+ */
 
 /** Finds places for the marks of an answer; those that are taken make the next one step aside. */
 export class Marks {
@@ -107,44 +112,50 @@ export class Marks {
   /**
    * A bar between two places, beside what it measures, with its text.
    * @param {Mark} mark
-   * @param {[Place, Place]} bar
+   * @param {[Place, Place]} measured
    * @returns {Made}
    */
-  bar(mark, bar) {
+  bar(mark, measured) {
     const { text = '' } = mark;
-    const [start, end] = [this.plane.toScreen(bar[0]), this.plane.toScreen(bar[1])];
+    const [start, end] = [this.plane.toScreen(measured[0]), this.plane.toScreen(measured[1])];
     const length = Math.hypot(end[0] - start[0], end[1] - start[1]) || 1;
     /** @type {Place} */
     const way = [(end[0] - start[0]) / length, (end[1] - start[1]) / length];
     const beside = ends(start, end, way);
     const label = this.labelOf(mark);
-    const free = label ? beside(label[1] * way[0] - label[0] * way[1])
-      : AWAYS.map(beside).find(([a, b]) => this.isOpen(a, b, way, length, text));
-    const [a, b] = free ?? beside(AWAYS[0]);
-    this.bars.push([a, b]);
     const along = label ? label[0] * way[0] + label[1] * way[1]
       : length < 2 * width(text) + 20 ? length / 2 + width(text) + 6 : 0;
-    const [x, y] = middleOf([a, b]);
-    /** @type {Place} */
-    const at = [x + way[0] * along, y + way[1] * along];
+    const bar = { way, length, along, text };
+    const [a, b] = label ? beside(label[1] * way[0] - label[0] * way[1])
+      : this.open(AWAYS.map(beside), bar);
+    this.bars.push([a, b]);
+    const at = textAt([a, b], bar);
     const reach = Math.abs(along) > length / 2 ? `M${a}L${at}` : '';
     const path = `M${start}L${a}M${end}L${b}M${a}L${b}${reach}`
       + `${tip(a, way)}${tip(b, [-way[0], -way[1]])}`;
-    return { path, text, at, base: middleOf(bar) };
+    return { path, text, at, base: middleOf(measured) };
   }
 
   /**
-   * Whether a bar between two places, and its text, lie over no other.
+   * The first of some places of a bar where it and its text lie over no other; else where the text
+   * does.
+   * @param {[Place, Place][]} places
+   * @param {Bar} bar
+   */
+  open(places, bar) {
+    const free = places.filter((each) => this.isFree(textAt(each, bar), bar.text));
+    return free.find(([a, b]) => this.isAlone(a, b, bar)) ?? free[0] ?? places[0];
+  }
+
+  /**
+   * Whether a bar between two places lies over no other.
    * @param {Place} a
    * @param {Place} b
-   * @param {Place} way
-   * @param {number} length
-   * @param {string} text
+   * @param {Bar} bar
    */
-  isOpen(a, b, way, length, text) {
+  isAlone(a, b, { way, length }) {
     const within = box(a, b, ASIDE);
-    return this.isFree(middleOf([a, b]), text)
-      && this.bars.every((bar) => isBeside(bar, within) || isAcross(bar, a, way, length));
+    return this.bars.every((bar) => isBeside(bar, within) || isAcross(bar, a, way, length));
   }
 
   /**
@@ -253,6 +264,17 @@ export class Marks {
  */
 function aboutAt([x, y], away, turn) {
   return [x + away * Math.cos(turn), y + away * Math.sin(turn)];
+}
+
+/**
+ * Where the text of a bar between two places stands.
+ * @param {[Place, Place]} ends
+ * @param {Bar} bar
+ * @returns {Place}
+ */
+function textAt(ends, { way, along }) {
+  const [x, y] = middleOf(ends);
+  return [x + way[0] * along, y + way[1] * along];
 }
 
 /**

@@ -9,7 +9,9 @@ export class Toolbars {
   constructor() {
     for (const bar of document.querySelectorAll('[role="toolbar"]')) {
       bar.addEventListener('keydown', (event) => {
-        if (event instanceof KeyboardEvent && this.goes(bar, event)) {
+        if (!(event instanceof KeyboardEvent)) return;
+        if (event.key === 'Tab') this.leave(bar);
+        else if (this.goes(bar, event)) {
           event.preventDefault();
           event.stopPropagation();
         }
@@ -26,6 +28,18 @@ export class Toolbars {
     const all = [...bar.querySelectorAll('button:not(:disabled), summary')];
     return all.filter((each) => each instanceof HTMLElement && each.offsetParent !== null)
       .map((each) => /** @type {HTMLElement} */ (each));
+  }
+
+  /**
+   * Tab goes to none of a bar's buttons: it leaves the bar.
+   * @param {Element} bar
+   */
+  leave(bar) {
+    const others = this.buttons(bar).filter((each) => each !== document.activeElement);
+    for (const each of others) each.tabIndex = -1;
+    setTimeout(() => {
+      for (const each of others) each.tabIndex = 0;
+    });
   }
 
   /**
