@@ -104,8 +104,10 @@ def test_a_dimension_is_only_measured(page: Page) -> None:
                              ".textContent === '(50)'")
     page.keys(Keys.ESCAPE)
     page.press(*page.at("B.end"), to=page.at("B"))
-    wait_for("another value", lambda: page.driver.execute_script(
-        "return document.querySelector('.marks .reference text').textContent") != "(50)")
+    wait_for("the end where it is let go", lambda: "30 40\n" not in page.text())
+    page.settled()
+    assert page.driver.execute_script(
+        "return document.querySelector('.marks .reference text').textContent") != "(50)"
     page.press(*centre(page, -1))
     page.keys(Keys.DELETE)
     wait_for("it is gone", lambda: "reference" not in page.text())
