@@ -126,8 +126,8 @@ def test_a_row_that_leans_a_little(page: Page, board_of) -> None:
     page.select("C")
     page.keys("w")
     option(page, "count", "2")
-    page.press(*at((22.5, 40)), held=Keys.CONTROL)
-    asks(page, "x C.centre C1.centre 2.5", "y C.centre C1.centre 30", "equal C C1")
+    page.press(*at((22, 40)), held=Keys.CONTROL)
+    asks(page, "x C.centre C1.centre 2", "y C.centre C1.centre 30", "equal C C1")
 
 
 def test_a_ring_of_holes(page: Page, board_of) -> None:
