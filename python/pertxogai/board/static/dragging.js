@@ -171,7 +171,7 @@ export class Dragging extends Work {
       const at = places?.points[point];
       return mine && at && Math.hypot(at[0] - mine[0], at[1] - mine[1]) < SAME;
     });
-    return own.length > 1 || (!own.length && (freedoms?.of_the_whole ?? 0) > 1);
+    return own.length + (freedoms?.of_the_whole ?? 0) > 1;
   }
 
   /**
