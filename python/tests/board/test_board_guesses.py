@@ -138,10 +138,9 @@ def test_a_segment_that_touches_a_circle(page: Page, board_of) -> None:
     page.keys("s")
     page.press(*at((10, 58)))
     # From (10, 58) the tangent's foot: by Pythagoras the tangent is sqrt(30^2 + 28^2 - 20^2) =
-    # 35.83 long; turned from the way to the centre by asin(20 / 41.04) = 29.17 degrees: (44.79,
-    # 49.42).
-    shows(page, at((45.2, 49.3)), "tangent * C ◠")
-    page.press(*at((45.2, 49.3)))
+    # 35.83 long; turned from the way to the centre by asin(20 / 41.04) = 29.17 degrees.
+    shows(page, at((44.79, 49.42)), "tangent * C ◠")
+    page.press(*at((44.79, 49.42)))
     wait_for("a segment", lambda: "S1" in page.text())
     assert lines(page, 1) == ["tangent S1 C"]
 

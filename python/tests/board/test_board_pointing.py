@@ -95,7 +95,7 @@ def test_no_sign_takes_the_clicks_of_its_edge(page: Page) -> None:
     page.begin(SIGNS, "open")
     for name in "ABCDE":
         for share in (0.1, 0.12, 0.46, 0.5, 0.54):
-            for aside in (-4, 0, 4):
+            for aside in (-5, 0, 5):
                 page.press(*_beside(page, name, share, aside))
                 assert selected(page) == [name], (share, aside)
 
@@ -128,11 +128,11 @@ def test_a_sign_that_lies_on_another_edge_leaves_it_its_clicks(page: Page) -> No
     page.keys("v")
     wait_for("an edge", lambda: page.text().count("segment") == 2)
     page.settled()
-    _, edge = page.at("S1")
-    assert abs(edge - y) < 7, "the sign lies on it"
-    page.press(x, edge)
+    _, level = page.at("S1")
+    assert abs(level - y) < 8, "it lies over the sign"
+    page.press(x, level)
     assert selected(page) == ["S1"]
-    page.press(x, y + (6 if edge <= y else -6))
+    page.press(x, y + (6 if level <= y else -6))
     assert selected(page) == ["1"]
 
 

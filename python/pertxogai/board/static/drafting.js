@@ -6,14 +6,13 @@ import { pathOf } from './shapes.js';
 import { Guesses, signOf } from './guesses.js';
 import { Copies } from './copies.js';
 import { figurePath } from './outlines.js';
+import { NEAR_EDGE } from './board.js';
 import { Work } from './work.js';
 
 /** @typedef {import('./page').Place} Place */
 /** @typedef {import('./guesses.js').Aim} Aim */
 /** @typedef {import('./gestures.js').Held} Held */
 
-/** So near in pixels an edge is the one that is cut. */
-const NEAR_EDGE = 7;
 const NOTHING_DRAWN = 'Nothing is drawn: its places are one, or lie on one line. Choose others.';
 
 /** Draws by clicks. */

@@ -161,7 +161,8 @@ export class Dragging extends Work {
   }
 
   /**
-   * Whether a point may go everywhere, by itself or with the whole.
+   * Whether a point may go everywhere, by its own freedoms and those of the whole: two in all are
+   * enough.
    * @param {string} name
    */
   isLoosePoint(name) {

@@ -2,6 +2,7 @@
 /** The mouse, the pen and the fingers on the board. */
 import { apart } from './shapes.js';
 import { Sequence } from './sequence.js';
+import { NEAR_EDGE } from './board.js';
 import { boxMade, boxOf, taken } from './box.js';
 import { Drafting } from './drafting.js';
 import { Dragging } from './dragging.js';
@@ -102,14 +103,15 @@ export class Gestures extends Work {
   }
 
   /**
-   * What lies under the hand. A sign leaves an edge that it lies on its clicks.
+   * What lies under the hand. An edge that a sign lies on has its clicks, and so has one that
+   * something proposed lies over.
    * @param {Element} node
    * @param {Place} at
    * @returns {Thing}
    */
   touched(node, at) {
     const proposed = Number(node.closest('[data-proposed]')?.getAttribute('data-proposed'));
-    if (proposed) return (node.matches('.sign') && this.board.edgeAt(at)) || { proposed };
+    if (proposed) return this.board.edgeAt(at, NEAR_EDGE) ?? { proposed };
     const number = Number(node.closest('[data-constraint]')?.getAttribute('data-constraint'));
     if (!number) return node.closest('[data-name]')?.getAttribute('data-name') ?? null;
     return (node.matches('.sign') && this.board.edgeAt(at)) || number;
