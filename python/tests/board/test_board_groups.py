@@ -35,15 +35,14 @@ def rest_on(page: Page, selector: str) -> None:
 
 @pytest.mark.parametrize("away", ["60", "55"], ids=["repeats", "contradicts"])
 def test_its_group_stands_out_while_it_is_pointed_at_or_chosen(page: Page, away: str) -> None:
-    """The hole's distance from the right side follows from the width and its x, and from nothing
-    of the height or the sizes."""
+    """The hole's distance from the right side follows from the width, its x, and that this side is
+    vertical, and from nothing of the height or the sizes."""
     page.begin(f"{PLATE}distance H RRight {away}\n", "over")
     page.wait("it is weighed", "return document.querySelector('#verdict [data-spare=\"11\"]')")
     assert grouped(page) == set()
-    rest_on(page, "#verdict [data-spare='11']")
-    wait_for("its group", lambda: {"6", "8"} <= grouped(page))
-    group = grouped(page)
-    assert not group & {"7", "9", "10", "11"}
+    group = {"2", "6", "8"}
+    wait_for("its group, once the list stands", lambda: (
+        rest_on(page, "#verdict [data-spare='11']"), grouped(page) == group)[1])
     rest_on(page, "#name")
     wait_for("nothing", lambda: grouped(page) == set())
     page.click("#tab-asked")
