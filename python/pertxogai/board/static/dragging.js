@@ -3,7 +3,7 @@
  * Dragging what is open: the server says where all lies, frame by frame, and the board shows just
  * that.
  */
-
+import { DATUM } from './selection.js';
 import { Work } from './work.js';
 
 /** @typedef {import('./page').Place} Place */
@@ -32,7 +32,6 @@ const STAYS = 'It stays: a dead point, or the end of its way. It goes no farther
 const MOST_LAST = 20;
 /** So near in millimetres two points are in one place. */
 const SAME = 1e-5;
-const DATUM = ['Origin', 'XAxis', 'YAxis'];
 /**
  * What a paper is told to show while a hand drags.
  * @type {MoveEdit}

@@ -2,14 +2,13 @@
 /** What a drag makes of the drawing: a point goes elsewhere, a rim grows, shapes are shifted. */
 import { rounded } from './tools.js';
 import { apart } from './shapes.js';
+import { DATUM } from './selection.js';
 import { Work } from './work.js';
 
 /** @typedef {import('./page').Place} Place */
 /** @typedef {import('./protocol').Edit} Edit */
 /** @typedef {import('./guesses.js').Aim} Aim */
 /** @typedef {import('./gestures.js').Held} Held */
-
-const DATUM = ['Origin', 'XAxis', 'YAxis'];
 
 /** Makes edits of drags. */
 export class Moving extends Work {

@@ -6,6 +6,9 @@
 
 /** @typedef {import('./protocol').Drawing} Drawing */
 
+/** What no edit moves: the origin and the axes. */
+export const DATUM = ['Origin', 'XAxis', 'YAxis'];
+
 export class Selection extends EventTarget {
   /** @type {Set<string>} */
   names = new Set();
@@ -114,5 +117,5 @@ function toggle(things, thing) {
  */
 export function namesOf(shapes) {
   const names = shapes.flatMap((shape) => [shape.name, ...Object.keys(shape.points)]);
-  return [...new Set(names), 'Origin', 'XAxis', 'YAxis'];
+  return [...new Set(names), ...DATUM];
 }
