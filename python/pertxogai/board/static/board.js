@@ -19,11 +19,11 @@ import { awayFrom, kindOf, pathOf, shapeMade, pointMade, stillMade, moveMade, mi
 
 const LAYERS = ['grid', 'drawn', 'edges', 'other', 'proposed', 'marks', 'dots', 'moves', 'names',
   'joints', 'faults'];
-/** So near in pixels a click is one on the edge itself. */
+/** Pixels within which a click is one on the edge itself. */
 const NEAR = 3.5;
-/** So near in pixels an edge is the one that is meant, where no sign lies on it. */
+/** Pixels within which an edge is the one that is meant, where no sign lies on it. */
 export const NEAR_EDGE = 7;
-/** So near in pixels a click is one on a point. */
+/** Pixels within which a click is one on a point. */
 const NEAR_POINT = 10;
 /** @type {Read} */
 export const NOTHING = { drawing: { shapes: [], constraints: [], marks: [] }, judgement: null };

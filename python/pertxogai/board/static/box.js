@@ -9,7 +9,7 @@ import { svg } from './nodes.js';
 /** @typedef {import('./protocol').Shape} Shape */
 /** @typedef {{ left: number, right: number, high: number, low: number, touches: boolean }} Box */
 
-/** So many straight pieces stand for a rim. */
+/** The straight pieces that stand for a rim. */
 const PIECES = 48;
 
 /**

@@ -28,9 +28,9 @@ const NOTHING_FREE = 'Nothing is free here: all is fixed by its dimensions. Hold
 const JUST_JUDGED = 'The drawing is being judged: drag again in a moment.';
 const STAYS = 'It stays: a dead point, or the end of its way. It goes no farther there; F goes '
   + 'through to the other shape.';
-/** So many frames at most follow once a hand has let go. */
+/** The most frames that follow once a hand has let go. */
 const MOST_LAST = 20;
-/** So near in millimetres two points are in one place. */
+/** Millimetres within which two points are in one place. */
 const SAME = 1e-5;
 /**
  * What a paper is told to show while a hand drags.

@@ -9,7 +9,7 @@ import { namesIn } from './pointing.js';
 /** @typedef {import('./protocol').Offer} Offer */
 
 const LETTERS = 'qwertyuiopasdfgh';
-/** So many of those that go with something are told by their words. */
+/** The most of those that go with something that are told by their words. */
 const MOST_TOLD = 5;
 
 /** Offers constraints, and asks for the value of those that take one. */

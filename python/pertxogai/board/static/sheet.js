@@ -11,7 +11,7 @@ import { View } from './view.js';
 
 /** @typedef {import('./page').Place} Place */
 
-/** So many pixels of a browser's print are a millimetre of paper. */
+/** The pixels of a browser's print in a millimetre of paper. */
 const MM = 96 / 25.4;
 /** The room for the drawing and its dimensions on A4 across, in millimetres. */
 const WIDTH = 277;

@@ -4,7 +4,7 @@ import { byId } from './nodes.js';
 
 /** @typedef {import('./protocol').Judged} Judged */
 
-/** So many lines that are new are said. */
+/** The most new lines that are said. */
 const MOST = 3;
 
 /** Says in a line what an answer tells that the one before didn't. */
