@@ -173,14 +173,22 @@ def test_a_hand_that_does_anything(page: Page, program: Program, seed: int) -> N
     kept(page, text)
 
 
+def again(page: Page, button: str) -> None:
+    """Clicks a button of the history, and waits until that is answered."""
+    page.driver.execute_script(f"document.getElementById('{button}').click()")
+    page.settled()
+
+
 def kept(page: Page, text: str) -> None:
-    """Undoes all and does it again, and loads the page anew: the drawing is the same."""
-    for button in ("undo", "redo"):
-        for _ in range(ACTIONS + 40):
-            if page.count(f"#{button}[aria-disabled=true]"):
-                break
-            page.driver.execute_script(f"document.getElementById('{button}').click()")
-            page.settled()
+    """Undoes all, and does as much again: the hand may have undone its last changes itself, and
+    these stay undone. Then loads the page anew. The drawing is the same each time."""
+    undone = 0
+    while undone < ACTIONS + 40 and not page.count("#undo[aria-disabled=true]"):
+        again(page, "undo")
+        undone += 1
+    settle(page)
+    for _ in range(undone):
+        again(page, "redo")
     assert settle(page) == text
     page.driver.refresh()
     page.wait("the page", "return document.getElementById('verdict').dataset.verdict")
