@@ -2,17 +2,20 @@
 
 import math
 import zipfile
+from dataclasses import replace
 from fractions import Fraction
 from pathlib import Path
 
 import pytest
 
 from pertxogai.drawing import (
-    Arc, Circle, Coincident, Degrees, Diameter, PointRef, Radius, Segment, Which, XDistance,
-    YDistance)
+    Arc, Circle, Coincident, Degrees, Diameter, Length, PointRef, Radius, Segment, ShapeRef, Which,
+    XDistance, YDistance, line_of, read_drawing, read_expression, with_values, write_drawing)
 from pertxogai.drawing.soundness import faults
 from pertxogai.files.contents import FileRefusal, FileSketch, NotDrivingCause
 from pertxogai.files.freecad import read_freecad
+from pertxogai.files.freecad.expressions import Bound
+from pertxogai.files.freecad.markup import Kept, Node
 from pertxogai.files.kinds import read_inputs
 from pertxogai.judging.measure import Solution, Unit, greatest, measure
 
@@ -423,3 +426,70 @@ def test_a_zip_of_too_many_members_is_refused(tmp_path: Path) -> None:
         for number in range(70):
             archive.writestr(f"{number}-" + "x" * 65_000, "")
     assert "no sound zip" in refused(path)
+
+
+def test_a_named_constraint_that_an_expression_uses_is_a_value() -> None:
+    drawing = found("named").drawing
+    assert [each.line() for each in drawing.values] == ["value width 48mm"]
+    lines = [line_of(each) for each in drawing.constraints]
+    assert "width: x Line1.start Line1.end +width" in lines
+    assert "height: y Line2.start Line2.end +(width * 3 / 8)" in lines
+    assert read_drawing(write_drawing(drawing)) == drawing
+    # 64 * 3 / 8 = 24
+    wider = with_values(drawing, {"width": read_expression("64mm")})
+    height, = (each for each in wider.constraints if each.name == "height")
+    assert isinstance(height, YDistance) and height.value_um == 24_000
+
+
+def test_an_expression_in_inches_is_kept() -> None:
+    lines = [line_of(each) for each in found("inches").drawing.constraints]
+    assert "Constraint10: x Line1.start Line1.end +(2.5in)" in lines
+    assert "Constraint11: y Line2.start Line2.end +(1.125in)" in lines
+
+
+def engine(*bound: tuple[str, str]) -> Kept:
+    """A sketch with three named dimensions of 40 mm, 20 mm and 30 degrees, one without a name, and
+    some expressions."""
+    numbers = (("long", 6, 40.0), ("deep", 6, 20.0), ("slope", 9, math.radians(30)), ("", 6, 10.0))
+    dimensions = [Node("Constrain", {"Name": name, "Type": str(kind), "Value": repr(value)}, 0)
+                  for name, kind, value in numbers]
+    expressions = [Node("Expression", {"path": path, "expression": text}, 0)
+                   for path, text in bound]
+    lists = {"Constraints": Node("Property", {}, 0, [Node("ConstraintList", {}, 0, dimensions)]),
+             "ExpressionEngine": Node("Property", {}, 0, [Node("E", {}, 0, expressions)])}
+    return Kept("Sketch", "Sketcher::SketchObject", lists)
+
+
+@pytest.mark.parametrize(("path", "text", "place", "said", "values"), [
+    ("Constraints.deep", "Constraints.long / 2", 2, "long / 2", ["value long 40mm"]),
+    (".Constraints.deep", ".Constraints.long / 2", 2, "long / 2", ["value long 40mm"]),
+    ("Constraints[3]", "Sketch.Constraints.long / 4", 4, "long / 4", ["value long 40mm"]),
+    ("Constraints[3]", "<<Plate>>.Constraints.deep / 2", 4, "deep / 2", ["value deep 20mm"]),
+    ("Constraints[3]", "min(Constraints.long; Constraints.deep) - 10 mm", 4,
+     "min(long, deep) - 10 mm", ["value long 40mm", "value deep 20mm"]),
+    ("Constraints.long", "2 * Constraints.deep", 1, "2 * deep", ["value deep 20mm"]),
+    ("Constraints[3]", "Constraints.slope * 2", 4, "slope * 2", ["value slope 30deg"]),
+    ("Constraints[3]", "Spreadsheet.Width / 2", 4, None, []),
+    ("Constraints[3]", "Other.Constraints.long", 4, None, []),
+    ("Constraints[3]", "Constraints.gone / 2", 4, None, []),
+    ("Constraints[3]", "sin(Constraints.slope) * 20 mm", 4, None, []),
+    ("Placement.Base.x", "Constraints.long", 4, None, []),
+])
+def test_expressions_over_own_constraints_are_read_and_no_others(path, text, place, said, values):
+    bound = Bound.of(engine((path, text)), "Plate")
+    assert bound.expressions.get(place) == said
+    assert [each.line() for each in bound.values] == values
+
+
+def test_values_that_are_defined_by_themselves_are_none() -> None:
+    bound = Bound.of(engine(("Constraints.long", "2 * Constraints.deep"),
+                            ("Constraints.deep", "Constraints.long / 2")), "Plate")
+    assert bound == Bound()
+
+
+def test_a_number_that_its_expression_does_not_come_to_is_kept() -> None:
+    bound = Bound.of(engine(("Constraints.deep", "Constraints.long / 2")), "Plate")
+    stale = Length(ShapeRef("Line1"), Fraction(21_000), "deep")
+    assert bound.attached(2, stale) is stale
+    fresh = replace(stale, value_um=Fraction(20_000))
+    assert line_of(bound.attached(2, fresh)) == "deep: length Line1 long / 2"

@@ -9,12 +9,13 @@ from collections.abc import Sequence
 from dataclasses import replace
 from fractions import Fraction
 
-from pertxogai.drawing import Constraint, Drawing, PointRef, Shape, ShapeRef, Which
+from pertxogai.drawing import Constraint, Drawing, PointRef, Shape, ShapeRef, Value, Which
 from pertxogai.drawing.constraint_checks import check_constraint
 from pertxogai.drawing.named_shapes import NamedShapes
 from pertxogai.drawing.names import MOST_CALLED
 from pertxogai.drawing.refusal import WordFault
 from pertxogai.drawing.soundness import check_shape
+from pertxogai.drawing.values.table import Values
 from pertxogai.files.contents import FileSketch, LeftOut, NotDriving
 
 _ROOM = 8
@@ -24,8 +25,9 @@ _ROOM = 8
 class DrawingBuilder:
     """The shapes and constraints so far."""
 
-    def __init__(self) -> None:
-        self._scene = NamedShapes()
+    def __init__(self, values: tuple[Value, ...] = ()) -> None:
+        self._scene = NamedShapes(values=Values(values))
+        self._values = values
         self._geometry: list[Shape] = []
         self._constraints: list[Constraint] = []
         self._numbers: list[int] = []
@@ -68,7 +70,7 @@ class DrawingBuilder:
 
     def found(self, name: str, label: str, aside: Sequence[NotDriving] = ()) -> FileSketch:
         """The sketch of all that was added."""
-        drawing = Drawing(tuple(self._geometry), tuple(self._constraints))
+        drawing = Drawing(tuple(self._geometry), tuple(self._constraints), values=self._values)
         return FileSketch(name, label, drawing, tuple(self._numbers), tuple(self._left_out),
                            tuple(aside))
 

@@ -14,7 +14,7 @@ from pertxogai.files.limits import (
     TooMuch)
 
 _KEPT = frozenset({"Geometry", "Constraints", "ExternalGeometry", "ExternalGeo", "Label", "Shape",
-                   "Placement"})
+                   "Placement", "ExpressionEngine"})
 _HELD = ("Document", "ObjectData", "Object", "Properties", "Property")
 _LISTED = ("Document", "Objects", "Object")
 _OWNED = _HELD[:3]

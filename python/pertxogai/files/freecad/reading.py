@@ -11,6 +11,7 @@ from pertxogai.files.contents import (
     FileRefusal, FileSketch, NotDriving, NotDrivingCause, NotSayable)
 from pertxogai.files.freecad.archive import DOCUMENT, open_archive, read_member, read_pieces
 from pertxogai.files.freecad.constraints import Shapes, name_of, part_of_a_curve, read_entry, say
+from pertxogai.files.freecad.expressions import Bound
 from pertxogai.files.freecad.markup import BadMarkup, Kept, Node, read_markup
 from pertxogai.files.freecad.outer import Shelf, outer_shapes
 from pertxogai.files.freecad.shapes import Numbered, read_outer, read_shapes
@@ -39,7 +40,8 @@ def read_freecad(path: Path) -> tuple[FileSketch, ...]:
 def _check_size(path: Path, objects: list[Kept]) -> None:
     """Refuses a file with a sketch of more than `SKETCH_ENTRIES`."""
     for kept in objects:
-        for word in ("Geometry", "Constraints", "ExternalGeometry", "ExternalGeo"):
+        for word in ("Geometry", "Constraints", "ExternalGeometry", "ExternalGeo",
+                     "ExpressionEngine"):
             if len(kept.list_of(word)) > SKETCH_ENTRIES:
                 raise FileRefusal(f"{path}: {_label(kept)} has more than {SKETCH_ENTRIES} entries "
                                   f"in its list {word}: take a part of it")
@@ -55,7 +57,8 @@ def objects_of(path: Path, data: bytes) -> list[Kept]:
 
 def _sketch(kept: Kept, shelf: Shelf) -> FileSketch:
     """One sketch."""
-    gathering = DrawingBuilder()
+    bound = Bound.of(kept, _label(kept))
+    gathering = DrawingBuilder(bound.values)
     shapes = Shapes(_shapes(kept, shelf, gathering))
     aside = []
     for count, node in enumerate(kept.list_of("Constraints"), 1):
@@ -64,7 +67,8 @@ def _sketch(kept: Kept, shelf: Shelf) -> FileSketch:
             aside.append(NotDriving(count, name, why, _said_aside(node, count, shapes)))
             continue
         try:
-            gathering.add_constraints(say(read_entry(node, count), shapes), name, count)
+            said = [bound.attached(count, each) for each in say(read_entry(node, count), shapes)]
+            gathering.add_constraints(said, name, count)
         except NotSayable as unsaid:
             gathering.leave_out(name, str(unsaid))
     return gathering.found(kept.name, _label(kept), aside)

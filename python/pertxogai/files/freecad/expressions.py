@@ -1,0 +1,173 @@
+"""FreeCAD's expressions over the named constraints of a sketch, as values and expressions of a
+drawing.
+
+A named constraint that an expression uses becomes a value. An expression that uses anything else (a
+spreadsheet, another object, another function) isn't read: its constraint has the number that is
+stored.
+"""
+
+from __future__ import annotations
+
+import re
+from collections.abc import Iterator, Mapping
+from dataclasses import dataclass, field, replace
+from fractions import Fraction
+
+from pertxogai.drawing import (
+    VALUED, AngleBetween, Constraint, Degrees, Expression, Sense, Value, Valued, WordFault,
+    XDistance, YDistance, read_expression)
+from pertxogai.drawing.numbers import decimal_text, degrees_of, um_of
+from pertxogai.drawing.values.table import Values, check_value_name
+from pertxogai.drawing.wording import Sized
+from pertxogai.files.contents import NotSayable
+from pertxogai.files.freecad.constraints import Kind
+from pertxogai.files.freecad.markup import Kept, Node
+from pertxogai.files.freecad.numbers import degrees, length_um, number, whole
+
+NEAR = Fraction(1, 10 ** 6)
+"""So many micrometres, or degrees, an expression may be off the number that FreeCAD has stored for
+it: that has sixteen digits."""
+_PLACE = re.compile(r"\.?Constraints\[([0-9]{1,9})\]\Z")
+_NAMED = re.compile(r"\.?Constraints\.(\w+)\Z")
+_USED = re.compile(r"(?<![\w.>])(?:(\w+|<<[^<>]*>>))?\.?Constraints\.(\w+)")
+_SHAPE = re.compile(r"(?:Line|Circle|Arc|Point|Outer|Shape)[0-9]+\Z")
+"""How the reader calls shapes, so that no value is called so."""
+
+
+@dataclass(frozen=True)
+class Bound:
+    """What the expressions of a sketch say: the values, and the expression of a constraint by its
+    place, from 1."""
+
+    values: tuple[Value, ...] = ()
+    expressions: Mapping[int, str] = field(default_factory=dict)
+
+    @staticmethod
+    def of(kept: Kept, label: str) -> Bound:
+        """What those of a sketch say that are of its own named constraints alone."""
+        sketch = _Sketch(kept, label)
+        values = tuple(sketch.values())
+        try:
+            for each in values:
+                Values(values).quantity(each.name)
+        except WordFault:
+            return Bound()
+        return Bound(values, sketch.expressions())
+
+    def attached(self, place: int, constraint: Constraint) -> Constraint:
+        """The constraint that stands at that place, with its expression, where it has one that
+        comes to the number that is stored."""
+        text = self.expressions.get(place)
+        if text is None or not isinstance(constraint, VALUED):
+            return constraint
+        if isinstance(constraint, AngleBetween):
+            return _with_angle(constraint, text, Values(self.values))
+        return _with_length(constraint, text, Values(self.values))
+
+
+def _with_length(constraint: Sized | XDistance | YDistance, text: str,
+                 values: Values) -> Constraint:
+    expression = _signed(constraint, text)
+    try:
+        value_um = um_of(expression, values)
+    except WordFault:
+        return constraint
+    if abs(value_um - constraint.value_um) > NEAR:
+        return constraint
+    return replace(constraint, value_um=value_um, expression=expression)
+
+
+def _with_angle(constraint: AngleBetween, text: str, values: Values) -> Constraint:
+    expression = _signed(constraint, text)
+    try:
+        angle = degrees_of(expression, values)
+    except WordFault:
+        return constraint
+    stored = constraint.value
+    if not isinstance(stored, Degrees) or abs(angle - stored.value) > NEAR:
+        return constraint
+    return replace(constraint, value=Degrees(angle), expression=expression)
+
+
+def _signed(constraint: Valued, text: str) -> Expression:
+    """An expression with a sign in front where the constraint's sign is told."""
+    if getattr(constraint, "sense", Sense.DRAWN) is not Sense.SIGNED:
+        return read_expression(text)
+    return read_expression(f"+{text}" if text.isidentifier() else f"+({text})")
+
+
+class _Sketch:
+    """The constraints of a sketch and the expressions that are bound to them."""
+
+    def __init__(self, kept: Kept, label: str) -> None:
+        self._own = {kept.name, f"<<{label}>>", f"<<{kept.name}>>"}
+        self._nodes = kept.list_of("Constraints")
+        self._places = {node.get("Name", ""): place for place, node in enumerate(self._nodes, 1)
+                        if _is_name(node.get("Name", ""))}
+        bound = dict(self._bound(kept.list_of("ExpressionEngine")))
+        self._texts = {place: text for place, text in bound.items() if text is not None}
+        self._used = {name for text in self._texts.values()
+                      for name in read_expression(text).names}
+
+    def values(self) -> Iterator[Value]:
+        """A value for each named constraint that an expression uses, in their order."""
+        for name, place in self._places.items():
+            if name in self._used:
+                text = self._texts.get(place) or _stored(self._nodes[place - 1])
+                yield Value(name, read_expression(text))
+
+    def expressions(self) -> dict[int, str]:
+        """The expression of each constraint that is bound to one, or is a value."""
+        named = {place: name for name, place in self._places.items() if name in self._used}
+        return {**self._texts, **named}
+
+    def _bound(self, nodes: list[Node]) -> Iterator[tuple[int, str | None]]:
+        for node in nodes:
+            place = self._place(node.get("path", ""))
+            if place is not None:
+                yield place, self._said(node.get("expression", ""))
+
+    def _place(self, path: str) -> int | None:
+        """The place of the constraint that a path leads to."""
+        if found := _PLACE.match(path):
+            return int(found[1]) + 1
+        found = _NAMED.match(path)
+        return self._places.get(found[1]) if found else None
+
+    def _said(self, text: str) -> str | None:
+        """An expression of FreeCAD's in a drawing's words; None where it can't be said."""
+        try:
+            return read_expression(_USED.sub(self._value, text).replace(";", ",")).text
+        except (WordFault, KeyError):
+            return None
+
+    def _value(self, found: re.Match[str]) -> str:
+        """The name of the value that stands for a constraint. Raises KeyError."""
+        name = found[2]
+        if found[1] is not None and found[1] not in self._own or name not in self._places:
+            raise KeyError(name)
+        _stored(self._nodes[self._places[name] - 1])
+        return name
+
+
+def _is_name(name: str) -> bool:
+    """Whether a value may be called so."""
+    try:
+        check_value_name(name)
+    except WordFault:
+        return False
+    return not _SHAPE.match(name)
+
+
+def _stored(node: Node) -> str:
+    """The number of a dimension as it is stored, with its unit. Raises KeyError where it is
+    none."""
+    try:
+        kind, value = whole(node, "Type", "0"), number(node, "Value", "0")
+        if kind == Kind.ANGLE:
+            return f"{decimal_text(degrees(value))}deg"
+        if kind in (Kind.DISTANCE, Kind.DISTANCE_X, Kind.DISTANCE_Y, Kind.RADIUS, Kind.DIAMETER):
+            return f"{decimal_text(length_um(value) / 1000)}mm"
+    except NotSayable:
+        pass
+    raise KeyError(node.get("Name", ""))
