@@ -556,3 +556,29 @@ def test_what_is_well_by_its_count_alone_is_over(program):
     height = next(each for each in found.surplus if each.name == "Height")
     assert height.off.amount == pytest.approx(8_419_800, abs=300)
     assert found.loose == ("nothing tells the height of P2",)
+
+
+GOES_ON = """segment A 0 0 40 0
+segment B 40 0 60 0
+coincident A.start Origin
+horizontal A
+Length: length A 40
+coincident A.end B.start
+Line: collinear A B
+length B 20
+End: x A.end 40
+"""
+"""B goes on from the end of A, so that by rank its line says once too often where it begins; the
+program is told it once. Beside that it is told twice where A ends."""
+
+
+def test_one_repeat_is_enough_where_the_rank_counts_two(program) -> None:
+    """Without the length or the end the rest is the same drawing, told once; without the line it
+    is still told twice where A ends."""
+    found = {each.name: each for each in judge(read_drawing(GOES_ON), program).surplus}
+    for name in ("Length", "End"):
+        assert (found[name].then, found[name].off.amount) == (Then.WELL, 0)
+        rest = read_drawing("".join(line for line in GOES_ON.splitlines(True)
+                                    if not line.startswith(f"{name}:")))
+        assert judge(rest, program).verdict is Verdict.WELL
+    assert found["Line"].then is Then.OVER

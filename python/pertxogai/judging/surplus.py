@@ -184,12 +184,14 @@ class _Trials:
         self.program = _Counted(Remembering(question.program))
         self.found: dict[int, Surplus] = {}
         self._known: dict[frozenset[int], Trial] = {}
+        self._stay: frozenset[int] = frozenset()
         self._work, self._rounding_work = WORK, ROUNDING_WORK
 
     def try_all(self, numbers: Sequence[int]) -> None:
         """Tries the rest without each of some constraints, and without some of the last that are
         too many beside it; and then how far rounding moves what is off. Raises _Enough."""
         last = self._last(numbers)
+        self._stay = self._may_stay(last.numbers)
         for number in numbers:
             self.found[number] = self._try(number, self._others(number, last))
         for number in numbers:
@@ -206,23 +208,32 @@ class _Trials:
                     gone.take(number, may_free)
         return gone
 
+    def _may_stay(self, last: Sequence[int]) -> frozenset[int]:
+        """Those of the last constraints that are too many by rank and not by the program: it is
+        told once what a line says that goes on from another's end and is collinear with it."""
+        stay: frozenset[int] = frozenset()
+        for number in last:
+            gone = frozenset(last) - stay - {number}
+            if gone and self._without(gone).verdict is not Verdict.OVER:
+                stay |= {number}
+        return stay
+
     def _others(self, number: int, last: Gone) -> frozenset[int]:
         """Those of the last that have to go beside a constraint, if it isn't enough: all but the
         one nearest to it of those that may stay then."""
         if self.free.fewer([number]) == self.free.excess:
             return frozenset()
         stays = min(last.instead(number), key=lambda other: abs(other - number))
-        return frozenset(last.numbers) - {stays, number}
+        return frozenset(last.numbers) - {stays, number} - self._stay
 
     def _try(self, number: int, others: frozenset[int]) -> Surplus:
         """What is to be said of a constraint that goes beside others."""
         gone = others | {number}
         asked = self._without(gone)
         off = None
-        says = sum(map(self.free.equations, gone))
-        if asked.verdict is not Verdict.OVER and says == self.free.excess:
+        if asked.verdict is not Verdict.OVER and not self.free.freed(gone):
             off = self._off(number, gone, asked)
-        then = Then.OVER if others else _then(asked)
+        then = Then.OVER if others and not self._stay else _then(self._without(frozenset({number})))
         return Surplus(number, self.drawing.called(number), off, then, self.limit)
 
     def _without(self, gone: frozenset[int]) -> Trial:
