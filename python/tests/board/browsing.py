@@ -5,7 +5,7 @@ from __future__ import annotations
 import json
 import os
 from collections.abc import Callable, Iterator
-from contextlib import contextmanager
+from contextlib import contextmanager, suppress
 from dataclasses import dataclass
 from pathlib import Path
 
@@ -15,6 +15,7 @@ pytest.importorskip("selenium", reason="the browser is driven by Debian's python
 
 from boards import CHROMIUM, DRIVER, Served, wait_for  # noqa: E402
 from selenium import webdriver  # noqa: E402
+from selenium.common.exceptions import StaleElementReferenceException  # noqa: E402
 from selenium.webdriver.chrome.options import Options  # noqa: E402
 from selenium.webdriver.chrome.service import Service  # noqa: E402
 from selenium.webdriver.common.action_chains import ActionChains  # noqa: E402
@@ -116,8 +117,12 @@ class Page:
             self.driver.switch_to.active_element.send_keys(key)
 
     def click(self, selector: str) -> None:
-        """Clicks a button."""
-        self.driver.find_element(By.CSS_SELECTOR, selector).click()
+        """Clicks a button; the new one where it is drawn anew between the look and the click."""
+        for _ in range(4):
+            with suppress(StaleElementReferenceException):
+                self.driver.find_element(By.CSS_SELECTOR, selector).click()
+                return
+        raise AssertionError(f"{selector} is drawn anew again and again")
 
     def hover(self, x: float, y: float, held: str = "") -> None:
         """Moves the mouse to a place on the board in pixels; keys that are held stay held."""

@@ -32,7 +32,9 @@ def guesses(page: Page) -> set[str]:
 
 
 def shows(page: Page, at: Point, *guessed: str, held: str = "") -> None:
-    """Moves the mouse to a place, and waits until this is guessed there."""
+    """Moves the mouse to a place once what was drawn before stands, and waits until this is
+    guessed there."""
+    page.settled()
     page.hover(*at, held=held)
     wait_for(f"{guessed} is guessed", lambda: guesses(page) == set(guessed), 10)
 

@@ -10,7 +10,7 @@ from dataclasses import dataclass, field
 
 import pytest
 
-from boards import drawing
+from boards import drawing, wait_for
 from browsing import Page
 from selenium.webdriver.common.action_chains import ActionChains
 from selenium.webdriver.common.by import By
@@ -174,8 +174,10 @@ def test_a_hand_that_does_anything(page: Page, program: Program, seed: int) -> N
 
 
 def again(page: Page, button: str) -> None:
-    """Clicks a button of the history, and waits until that is answered."""
+    """Clicks a button of the history, and waits for the other text, and until that is answered."""
+    before = page.text()
     page.driver.execute_script(f"document.getElementById('{button}').click()")
+    wait_for(f"{button} is done", lambda: page.text() != before)
     page.settled()
 
 
