@@ -1,10 +1,13 @@
 """The board in a real browser: the group of a dimension that repeats or contradicts others."""
 from __future__ import annotations
 
+from contextlib import suppress
+
 import pytest
 
 from boards import wait_for
 from browsing import Page
+from selenium.common.exceptions import StaleElementReferenceException
 from selenium.webdriver.common.action_chains import ActionChains
 from selenium.webdriver.common.by import By
 
@@ -28,9 +31,13 @@ def grouped(page: Page) -> set[str]:
 
 
 def rest_on(page: Page, selector: str) -> None:
-    """Rests the mouse on a node."""
-    node = page.driver.find_element(By.CSS_SELECTOR, selector)
-    ActionChains(page.driver, duration=30).move_to_element(node).perform()
+    """Rests the mouse on a node; on the new one where it is drawn anew meanwhile."""
+    for _ in range(10):
+        with suppress(StaleElementReferenceException):
+            node = page.driver.find_element(By.CSS_SELECTOR, selector)
+            ActionChains(page.driver, duration=30).move_to_element(node).perform()
+            return
+    raise AssertionError(f"{selector} is drawn anew again and again")
 
 
 @pytest.mark.parametrize("away", ["60", "55"], ids=["repeats", "contradicts"])
