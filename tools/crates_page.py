@@ -1,4 +1,4 @@
-"""docs/CRATES.md, made of the head of each crate's README: its first sentence, and its first table."""
+"""docs/CRATES.md, made from the head of each crate's README: its first sentence, and its first table."""
 from __future__ import annotations
 
 import re
@@ -12,11 +12,10 @@ READING = {
     " sk_open_triples sk_close_by_order sk_close_any_order sk_close_by_angles sk_verdict sk_offers",
     "Plans": "sk_tree sk_plan",
     "Places": "sk_root sk_interval sk_steps sk_place sk_frame sk_measure sk_tolerance sk_flips sk_solve",
-    "What is too much, and what is missing": "sk_parts sk_spare sk_excess sk_why sk_drawn"
-    " sk_rigid sk_complete",
+    "Redundant and missing constraints": "sk_parts sk_spare sk_excess sk_why sk_drawn sk_rigid sk_complete",
     "Claims": "sk_claims sk_verify",
     "Sessions": "sk_edits sk_session",
-    "What is written": "sk_report sk_dxf sk_gen",
+    "Output": "sk_report sk_dxf sk_gen",
     "The program": "sk_request sk_answers sk_cli sk_laws sketch sk_c",
     "Tests": "sk_test_units sk_test_tables sk_test_runs",
 }
@@ -24,9 +23,9 @@ READING = {
 BEFORE = """\
 # The crates, in the order of reading
 
-For whoever looks for the crate that has something: what each does, which words it defines, and what it proves.
-`tools/pages` makes this page of the first sentence and the first table of each crate's README, so change it there.
-[The architecture](ARCHITECTURE.md) says how they stand on each other.
+For programmers who look for the crate that does something: what each does, which terms it defines, and what it
+proves. `tools/pages` makes this page from the first sentence and the first table of each crate's README, so change it
+there. [The architecture](ARCHITECTURE.md) says how the crates depend on each other.
 """
 
 
