@@ -84,7 +84,7 @@ def test_the_lines_are_told_alike_in_the_language() -> None:
 
 
 def test_keys_statuses_and_codes_are_told_alike_in_the_language() -> None:
-    keys = rows(LANGUAGE, "| key | values | where it isn't given | commands |")
+    keys = rows(LANGUAGE, "| key | values | default | commands |")
     assert [it[:3] for it in keys] == [
         [f"`{it.word}`", it.values, it.default] for it in table.KEYS
     ]

@@ -50,7 +50,7 @@ def _command(command: Command) -> tuple[str, str]:
 
 
 def _key(key: Key) -> tuple[str, str]:
-    return f"{key.word}={key.usage}", f"{key.means}; where it isn't given: {key.default}."
+    return f"{key.word}={key.usage}", f"{key.means}; default: {key.default}."
 
 
 def page(version: str, date: str) -> list[str]:
