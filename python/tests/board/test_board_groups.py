@@ -21,6 +21,8 @@ y H 30
 diameter H 10
 """
 """Its levels are constraints 1 to 4; 5 ties it; 6 and 7 are its lengths, 8 to 10 the hole's."""
+WEIGHED = "return document.getElementById('verdict').textContent.includes('may go instead')"
+"""Once it is weighed, the list says so behind what is left out."""
 
 
 def grouped(page: Page) -> set[str]:
@@ -45,7 +47,7 @@ def test_its_group_stands_out_while_it_is_pointed_at_or_chosen(page: Page, away:
     """The hole's distance from the right side follows from the width, its x, and that this side is
     vertical, and from nothing of the height or the sizes."""
     page.begin(f"{PLATE}distance H RRight {away}\n", "over")
-    page.wait("it is weighed", "return document.querySelector('#verdict [data-spare=\"11\"]')")
+    page.wait("it is weighed", WEIGHED)
     assert grouped(page) == set()
     group = {"2", "6", "8"}
     wait_for("its group, once the list stands", lambda: (
@@ -66,7 +68,7 @@ def test_its_group_stands_out_while_it_is_pointed_at_or_chosen(page: Page, away:
 def test_the_group_is_all_that_is_named_in_the_answer(page: Page) -> None:
     """Each of the names behind follows_from stands out, and no other constraint."""
     page.begin(f"{PLATE}distance H RRight 60\n", "over")
-    page.wait("it is weighed", "return document.querySelector('#verdict [data-spare=\"11\"]')")
+    page.wait("it is weighed", WEIGHED)
     told = page.driver.execute_async_script(
         "const done = arguments[1]; fetch('call/weigh', { method: 'POST',"
         " headers: { 'Content-Type': 'application/json' },"
@@ -82,3 +84,20 @@ def test_the_group_is_all_that_is_named_in_the_answer(page: Page) -> None:
     assert len(numbers) == len(mine["follows_from"]) >= 2
     rest_on(page, "#verdict [data-spare='11']")
     wait_for("all of them", lambda: grouped(page) == numbers)
+
+
+def test_the_group_of_what_is_chosen_stands_out_once_it_is_weighed(page: Page) -> None:
+    """What it follows from is told a moment after the verdict, while it is chosen already."""
+    page.driver.execute_script(
+        "const { fetch } = window; window.fetch = (path, options) => path === 'call/weigh' ?"
+        " new Promise((done) => { window.weighs = () => { window.fetch = fetch;"
+        " done(fetch(path, options)); }; }) : fetch(path, options);")
+    page.begin(f"{PLATE}distance H RRight 60\n", "over")
+    page.click("#tab-asked")
+    page.click("#asked [data-selects='11']")
+    page.wait("a call", "return Boolean(window.weighs)")
+    page.settled()
+    assert grouped(page) == set()
+    page.driver.execute_script("window.weighs()")
+    wait_for("its group", lambda: {"6", "8"} <= grouped(page))
+    page.click("#tab-text")

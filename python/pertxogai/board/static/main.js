@@ -268,6 +268,7 @@ export class Page {
       this.selection.keep(drawing);
       this.board.show({ drawing, judgement: answer.refused ? paper.answer?.judgement
         : answer.judgement });
+      this.groups.show();
     }
     this.verdict.show(answer);
     this.speaking.changed();
