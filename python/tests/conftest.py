@@ -17,6 +17,13 @@ if TYPE_CHECKING:
 
 TESTS = Path(__file__).resolve().parent
 TOP = TESTS.parents[1]
+LONGEST = ("board/test_board_browser", "hunt/test_answers_are_so", "test_redrawn", "test_style",
+           "board/test_board_hand", "board/test_board_dragging", "board/test_board_guesses",
+           "board/test_board_types", "board/test_board_gallery", "board/test_board_random",
+           "board/test_board_pointing", "board/test_board_room", "board/test_board_again",
+           "test_hostile_files", "test_release", "board/test_board_measured",
+           "board/test_board_labels", "board/test_board_selecting", "test_claims", "test_search")
+"""The files of tests that take longest, the longest first."""
 
 
 @dataclass(frozen=True)
@@ -80,23 +87,30 @@ FRAME_ROWS = read_rows("frame/*.row")
 EXAMPLES = sorted((TOP / "examples").rglob("*.sketch"))
 
 
+def pytest_collection_modifyitems(items: list[pytest.Item]) -> None:
+    """Has the files that take longest begin first, so that none of them is left for one processor
+    at the end."""
+    place_of = {TESTS / f"{name}.py": place for place, name in enumerate(LONGEST)}
+    items.sort(key=lambda item: place_of.get(item.path, len(LONGEST)))
+
+
 @pytest.fixture(scope="session")
 def program() -> Program:
     """The program under test: that of PERTXOGAI_SKETCH, or the repository's build."""
     return Program.find()
 
 
-@pytest.fixture(scope="module")
+@pytest.fixture(scope="session")
 def board(program: Program) -> Iterator[Served]:
-    """A board that is served."""
+    """A board that is served to all tests."""
     from boards import served
     with served(program) as found:
         yield found
 
 
-@pytest.fixture(scope="module")
+@pytest.fixture(scope="session")
 def window(tmp_path_factory: pytest.TempPathFactory) -> Iterator[Page]:
-    """A browser."""
+    """A browser for all tests, since its start takes seconds."""
     from browsing import browser
     with browser(tmp_path_factory.mktemp("downloads")) as found:
         yield found
@@ -105,6 +119,9 @@ def window(tmp_path_factory: pytest.TempPathFactory) -> Iterator[Page]:
 @pytest.fixture
 def page(window: Page, board: Served) -> Iterator[Page]:
     """The board, opened anew with nothing kept; the browser may complain of nothing."""
+    if not board.thread.is_alive():
+        board.start_again()
+    window.clear()
     window.open(board)
     window.faults()
     yield window

@@ -11,7 +11,7 @@ from pathlib import Path
 
 import pytest
 
-from conftest import TOP
+from conftest import LONGEST, TESTS, TOP
 
 PYTHON = TOP / "python"
 SOURCES = sorted((PYTHON / "pertxogai").rglob("*.py"))
@@ -34,6 +34,10 @@ def test_every_name_stands_and_is_used() -> None:
     told = run("pyflakes", "pertxogai", "tests", "../tools")
     allowed = "'ezdxf' imported but unused"  # Whether it is there is what is asked.
     assert [line for line in told.splitlines() if not line.endswith(allowed)] == []
+
+
+def test_the_files_that_begin_first_stand() -> None:
+    assert [name for name in LONGEST if not (TESTS / f"{name}.py").is_file()] == []
 
 
 @pytest.mark.skipif(importlib.util.find_spec("mypy") is None, reason="without python3-mypy")

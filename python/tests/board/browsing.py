@@ -15,7 +15,10 @@ pytest.importorskip("selenium", reason="the browser is driven by Debian's python
 
 from boards import CHROMIUM, DRIVER, Served, wait_for  # noqa: E402
 from selenium import webdriver  # noqa: E402
-from selenium.common.exceptions import StaleElementReferenceException  # noqa: E402
+from selenium.common.exceptions import (  # noqa: E402
+    StaleElementReferenceException,
+    WebDriverException,
+)
 from selenium.webdriver.chrome.options import Options  # noqa: E402
 from selenium.webdriver.chrome.service import Service  # noqa: E402
 from selenium.webdriver.common.action_chains import ActionChains  # noqa: E402
@@ -41,6 +44,30 @@ class Page:
     downloads: Path
 
     # What is shown.
+
+    def clear(self) -> None:
+        """Takes away what another test has left: tabs, buttons, keys and fingers that are down,
+        a size, colours, downloads."""
+        first, *others = self.driver.window_handles
+        for other in others:
+            self.driver.switch_to.window(other)
+            self.driver.close()
+        self.driver.switch_to.window(first)
+        self._let_all_go()
+        self.driver.execute_cdp_cmd("Emulation.clearDeviceMetricsOverride", {})
+        self.driver.execute_cdp_cmd("Emulation.setEmulatedMedia", {"features": []})
+        for path in self.downloads.iterdir():
+            path.unlink()
+
+    def _let_all_go(self) -> None:
+        """Releases the buttons, keys and fingers that are down."""
+        ActionChains(self.driver).reset_actions()
+        self.driver.execute_cdp_cmd("Input.dispatchMouseEvent", {
+            "type": "mouseReleased", "x": 0, "y": 0, "button": "left", "clickCount": 1})
+        with suppress(WebDriverException):  # which says so where no finger is down
+            self.driver.execute_cdp_cmd("Input.dispatchTouchEvent", {
+                "type": "touchCancel", "touchPoints": []})
+        self.driver.execute_cdp_cmd("Emulation.setTouchEmulationEnabled", {"enabled": False})
 
     def open(self, board: Served) -> None:
         """Opens the board anew, with nothing kept."""
