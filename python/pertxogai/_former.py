@@ -119,13 +119,16 @@ NAMES = {
     "reports.answer": {"Report": "program.reports.report.Report"},
     "saving": {"saving": "written_whole"},
     "shown": {"shown": "printable"},
-    "sketch_told": {"sketch_told": "sketch_lines"},
+    "sketch_told": {"sketch_json": "output.json_of_sketch.sketch_json",
+                    "sketch_told": "sketch_lines"},
     "spelling": {"Lines": "spelling.lines.Lines", "Spellings": "Interpretation",
                  "with_halves": "spelling.mirrors.with_halves",
                  "with_implied": "spelling.mirrors.with_implied"},
     "spelling.spellings": {"Spellings": "Interpretation"},
     "talk": {"Talk": "LiveProgram", "TalkEnded": "LiveEnded"},
-    "told": {"told": "drawing_lines"},
+    "told": {"drawing_json": "output.json_of_drawing.drawing_json",
+             "spelled_json": "output.json_of_drawing.spelled_json", "told": "drawing_lines",
+             "within_json": "output.json_of_drawing.within_json"},
     "values": {"Told": "Redundant"},
 }
 """What a name of such a module is called now, by what it was called; with its module, behind

@@ -14,7 +14,8 @@ from pertxogai.judging import DepartureKind, DrawingRefused, Then, Tie, judge
 from pertxogai.judging.departures import warnings
 from pertxogai.judging.faults import Unit as Measure
 from pertxogai.judging.measure import Limit, Solution, Unit
-from pertxogai.output.drawing_text import JudgedDrawing, drawing_json, drawing_lines
+from pertxogai.judging.judged_drawing import JudgedDrawing
+from pertxogai.output import drawing_json, drawing_lines
 from pertxogai.program.reports import Verdict, read_excess
 from pertxogai.spelling import Style
 

@@ -15,7 +15,7 @@ from pertxogai.judging.good import Lack, reasons_against
 from pertxogai.judging.judged_drawing import JudgedDrawing
 from pertxogai.judging.judged_sketch import judge_sketch
 from pertxogai.language import Sketch
-from pertxogai.output.drawing_text import drawing_json, drawing_lines
+from pertxogai.output import drawing_json, drawing_lines
 from pertxogai.program import Answer, Status
 from pertxogai.program.reports import read_fault, read_plan
 

@@ -22,7 +22,7 @@ from pertxogai.judging.measure import (
     Deviation, Limit, Measurement, Solution, Unit, amount_text)
 from pertxogai.judging.measure.limit import is_direction
 from pertxogai.output.drawing_sheet import DrawingSheet, NoPlaces
-from pertxogai.output.drawing_text import drawing_json, drawing_lines
+from pertxogai.output import drawing_json, drawing_lines
 from pertxogai.output.release import Release
 from pertxogai.program.reports import Verdict
 

@@ -11,8 +11,8 @@ from pertxogai.drawing import read_drawing
 from pertxogai.judging import judge, judge_sketch
 from pertxogai.judging.groups import groups_of
 from pertxogai.judging.judgement import Judgement
-from pertxogai.output.drawing_text import JudgedDrawing, drawing_json, drawing_lines
-from pertxogai.output.sketch_text import sketch_json, sketch_lines
+from pertxogai.judging.judged_drawing import JudgedDrawing
+from pertxogai.output import drawing_json, drawing_lines, sketch_json, sketch_lines
 from pertxogai.program import Program
 from pertxogai.program.reports import Verdict, read_why
 

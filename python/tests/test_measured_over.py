@@ -7,7 +7,7 @@ from pertxogai.drawing import read_drawing
 from pertxogai.judging import judge
 from pertxogai.judging.good import Lack, reasons_against
 from pertxogai.judging.judged_drawing import JudgedDrawing
-from pertxogai.output.drawing_text import drawing_json, drawing_lines
+from pertxogai.output import drawing_json, drawing_lines
 from pertxogai.program.reports import Verdict
 
 MIDDLE = ("point A 0 0\npoint B 40 0\npoint C 20 30\npoint D 60 60\n"

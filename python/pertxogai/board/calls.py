@@ -38,7 +38,7 @@ from pertxogai.judging.measure import PointNm
 from pertxogai.language import NotHeld, Refusal
 from pertxogai.language.flips import Flip
 from pertxogai.output.drawing_sheet import DrawingSheet, NoPlaces
-from pertxogai.output.drawing_text import spare_json
+from pertxogai.output.json_of_drawing import spare_json
 from pertxogai.output.picture.drawings import DrawnPlaces
 from pertxogai.output.release import Release
 from pertxogai.program import ProgramError, Solver, Status

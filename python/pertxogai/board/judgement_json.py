@@ -15,7 +15,7 @@ from pertxogai.judging import Judgement, TooMuch
 from pertxogai.judging.good import reasons_json
 from pertxogai.judging.judged_drawing import JudgedDrawing
 from pertxogai.judging.parts import parts_of_points, parts_of_shapes
-from pertxogai.output.drawing_text import spare_json
+from pertxogai.output.json_of_drawing import spare_json
 from pertxogai.output.picture.marks import PointMm
 from pertxogai.output.picture.drawings import DrawnPlaces
 from pertxogai.program.reports import Verdict

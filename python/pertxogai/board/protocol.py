@@ -9,7 +9,7 @@ from collections.abc import Mapping
 from typing import Literal, NotRequired, TypedDict
 
 from pertxogai.judging.good import ReasonJson
-from pertxogai.output.drawing_text import SpareJson
+from pertxogai.output.json_of_drawing import SpareJson
 
 Point = tuple[float, float]
 """A place or a direction: x and y."""

@@ -40,6 +40,11 @@ class JudgedSketch:
     tried: Tried | None = None
     why: WhyReport | None = None
 
+    def groups(self) -> dict[int, tuple[int, ...]]:
+        """The constraints from which each that is left out follows, by their numbers."""
+        parts = self.why.parts if self.why else ()
+        return {each.number: each.because for part in parts for each in part.left_out}
+
     def picture(self, as_drawn: bool = False) -> Any:
         """As `picture_of_judged` of `pertxogai.output`, which is to be called: this goes with the
         next release, and warns."""

@@ -9,7 +9,6 @@ from typing import TYPE_CHECKING, Protocol
 from pertxogai.judging.good import (
     GoodJudgement, GoodSketch, NotGood, Reason, good_of, good_sketch_of, reasons_against)
 from pertxogai.judging.judged_drawing import CountedDrawing
-from pertxogai.output.drawing_text import drawing_json, drawing_lines
 from pertxogai.output.release import Release
 from pertxogai.program import Solver
 from pertxogai.program.reports import Verdict
@@ -94,7 +93,7 @@ class SketchOutcome:
         return sketch_lines(self.judged)
 
     def json(self) -> dict[str, object]:
-        from pertxogai.output.sketch_text import sketch_json
+        from pertxogai.output.json_of_sketch import sketch_json
 
         return sketch_json(self.judged)
 
@@ -124,9 +123,13 @@ class DrawingOutcome:
         return reasons_against(self.judged)
 
     def lines(self) -> Iterator[str]:
+        from pertxogai.output.drawing_text import drawing_lines
+
         return drawing_lines(self.judged)
 
     def json(self) -> dict[str, object]:
+        from pertxogai.output.json_of_drawing import drawing_json
+
         return drawing_json(self.judged)
 
     def sheet(self, as_drawn: bool) -> Sheet:
