@@ -72,8 +72,8 @@ COMMANDS = (
     Command("dxf", "a sketch", "the solved positions as a drawing in DXF", PLACING),
     Command("spare", "a sketch", "the removable constraints: you may remove any one of them"),
     Command("excess", "a sketch",
-            "of each over-constrained cluster, redundant and conflicting constraints, picked from the last line on, each"
-            " with its residual", PLACING),
+            "the redundant and conflicting constraints of each over-constrained cluster, with their residuals; it picks"
+            " later lines first", PLACING),
     Command("why", "a sketch", "for each constraint that `excess` picks, the others that it follows from"),
     Command("complete", "a sketch",
             "the sketch with the missing constraints added, or why it has no completion"),
@@ -114,7 +114,7 @@ ELEMENTS = (
 
 CONSTRAINTS = (
     Line("distance U V len",
-         "the distance between two points or centres; or between a point or centre and a line, in either order"),
+         "two points or centres are len millimetres apart; or a point or centre and a line are, in either order"),
     Line("on U V", "a point or centre U lies on the line V, or a point U lies on the circle V"),
     Line("tangent U V", "a line and a circle touch, in either order"),
     Line("outside U V", "two circles touch from outside"),
