@@ -9,6 +9,7 @@ import pytest
 from pertxogai.drawing import read_drawing
 from pertxogai.judging import Then, judge
 from pertxogai.judging.measure import Limit
+from pertxogai.judging.surplus import without
 from pertxogai.program import Answer, Solver
 from pertxogai.program.reports import Verdict
 
@@ -45,6 +46,31 @@ def test_what_contradicts_in_two_places_is_found_by_few_questions(program):
         assert off[name] == 1_000_000
     assert not any("length R0Right" in name or "length R1Right" in name for name in off)
     assert len(counts.asked) <= 40
+
+
+@dataclass
+class Texts:
+    """A program, and the sketches that it was asked about, in order."""
+
+    program: Solver
+    asked: list[str] = field(default_factory=list)
+
+    def ask(self, words: Sequence[str], text: str) -> Answer:
+        self.asked.append(text)
+        return self.program.ask(words, text)
+
+
+def test_that_the_rest_is_over_still_is_asked_and_not_concluded_from_the_rank(program):
+    """By rank one dimension of each rectangle is too many, so none is enough by itself. The rest
+    without each is told to be over since the program was asked about it and said so."""
+    texts = Texts(program)
+    drawing = read_drawing(rectangles(2))
+    over = [each for each in judge(drawing, texts).surplus if each.then is Then.OVER]
+    assert len(over) >= 6
+    for each in over:
+        rest = Texts(program)
+        assert judge(without(drawing, {each.number}), rest).verdict is Verdict.OVER
+        assert rest.asked[0] in texts.asked
 
 
 @dataclass

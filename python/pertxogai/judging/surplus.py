@@ -28,12 +28,12 @@ from pertxogai.program.reports import Solved, Verdict, read_spare
 from pertxogai.spelling import Axes, Spelled, axes_said
 from pertxogai.spelling.facts import Owner
 
-CALLS = 1000
+CALLS = 2000
 """The most calls of the program for it."""
 ROUNDING_WORK = 20_000
 """The most constraints of the rests that are asked for with rounded values told otherwise; how far
 rounding moves what is left isn't known then."""
-WORK, TRIAL = 4000, 30
+WORK, TRIAL = 8000, 30
 """The most constraints over all drawings that are tried, and how many more each drawing counts as;
 what is left is listed untried."""
 
@@ -233,7 +233,7 @@ class _Trials:
         off = None
         if asked.verdict is not Verdict.OVER and not self.free.freed(gone):
             off = self._off(number, gone, asked)
-        then = Then.OVER if others and not self._stay else _then(self._without(frozenset({number})))
+        then = _then(self._without(frozenset({number})))
         return Surplus(number, self.drawing.called(number), off, then, self.limit)
 
     def _without(self, gone: frozenset[int]) -> Trial:
