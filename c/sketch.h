@@ -1,9 +1,9 @@
 /* SPDX-License-Identifier: MIT OR Apache-2.0 */
 /* The sketch solver as a library: libsketch.a, or libsketch.so.
  *
- * A call takes a command, as "check" or "solve place=points", and a text, as `./sketch` takes its words and its
- * standard input, and gives the program's status and the program's text. docs/LANGUAGE.md says what the texts mean,
- * docs/EMBEDDING.md how to link.
+ * A call takes a command, such as "check" or "solve place=points", and a text: what `./sketch` takes as its arguments
+ * and on its standard input. It gives the status and the text of the program. docs/LANGUAGE.md describes the texts,
+ * docs/EMBEDDING.md says how to link.
  *
  * The library needs nothing but the C library's malloc, realloc, free and memory functions. It has no state: nothing
  * is kept from call to call, and any number of threads may call at once. It never aborts, prints, or opens a file. */
@@ -15,8 +15,8 @@
 #include <stdlib.h>
 #include <string.h>
 
-/* The version of the release that this header is of, and the number in the SONAME of libsketch.so. The number goes up
- * where a program that was linked before would no longer work. */
+/* The version of the release that this header belongs to, and the number in the SONAME of libsketch.so. The number goes
+ * up if a program that was linked before would no longer work. */
 #define SKETCH_VERSION "0.2.0"
 #define SKETCH_INTERFACE 1
 
@@ -27,41 +27,45 @@ extern "C" {
 /* What a call answers: the statuses of the program. */
 enum sketch_status {
     SKETCH_DONE = 0,         /* the command did its work: the text is its report */
-    SKETCH_REFUSED = 1,      /* the input is refused: the text is the line with its number and code, of live behind the
-                              * replies to the lines before */
-    SKETCH_USAGE = 2,        /* the command isn't of the form: the text is the usage line */
-    SKETCH_READ_FAULT = 3,   /* never: no read of memory fails */
-    SKETCH_WRITE_FAULT = 4,  /* memory ran out while the text was gathered: the text is a front of it */
-    SKETCH_NO_MEMORY = 5,    /* memory ran out before: the text is empty, or of session and live their whole replies so far */
-    SKETCH_NOT_WELL = 6,     /* the sketch isn't well: the text is the report of check, of complete behind the line that says
-                              * why nothing is added */
-    SKETCH_STEP_FAULT = 7,   /* a step has no places, or a sign isn't as drawn: the text is the fault line, of measure behind
-                              * its other lines */
-    SKETCH_TOLERANCE = 8,    /* a tolerance is beyond the limit: the text is the fault line, of measure behind its other lines */
-    SKETCH_NOT_VERIFIED = 9  /* something of the claim fails, or measure misses an element: the text is the line that names it */
+    SKETCH_REFUSED = 1,      /* the input is rejected: the text is the refusal line; for live it follows the replies to the
+                              * lines before */
+    SKETCH_USAGE = 2,        /* the command or one of its keys isn't valid: the text is the usage line */
+    SKETCH_READ_FAULT = 3,   /* never: reading from memory can't fail */
+    SKETCH_WRITE_FAULT = 4,  /* out of memory while the text was collected: the text is a prefix of it */
+    SKETCH_NO_MEMORY = 5,    /* out of memory before that: the text is empty; for session and live it is the whole replies
+                              * so far */
+    SKETCH_NOT_WELL = 6,     /* the sketch isn't fully constrained: the text is the report of check; for complete it follows
+                              * the line that says why nothing is added */
+    SKETCH_STEP_FAULT = 7,   /* a step has no positions, or a sign isn't as drawn: the text is the fault line; for measure it
+                              * follows the other lines */
+    SKETCH_TOLERANCE = 8,    /* a tolerance is beyond the limit: the text is the fault line; for measure it follows the other
+                              * lines */
+    SKETCH_NOT_VERIFIED = 9  /* something of the claim fails, or for measure an element has no position: the text is the line
+                              * that names it */
 };
 
-/* Does what the command asks on the input.
+/* Runs a command on an input.
  *
- * command       command_length bytes, the words separated by spaces; they needn't end in a 0
+ * command       command_length bytes; the words are separated by spaces, and needn't end in a 0
  * input         input_length bytes
- * output        room for `room` bytes, where the front of the text goes that fits; what stands behind it stays
- * size          where the length of the whole text goes; where it is more than room, a call with so much room gives all
+ * output        room for `room` bytes. The text goes here, or the prefix that fits; the bytes after it stay as they were
+ * size          receives the length of the whole text. If it is greater than room, call again with that much room
  *
- * All pointers are the caller's, before and after; nothing of them is kept. None may be null, also where its length is
- * 0, and output and *size must overlap nothing else. A call takes 64 KiB of stack at most.
+ * All pointers belong to the caller, before and after; the library keeps none of them. None may be null, even if its
+ * length is 0, and output and *size must overlap nothing else. A call takes at most 64 KiB of stack.
  *
- * That status and text are those of the program is proved; the pointers are taken as given. Want of memory is the one
- * answer that a call may give at any time: what the allocator grants is its own matter. It is proved that the text stops
- * short (4) only where it needs more room than it has got so far; that 5 comes only where memory was refused is tested. */
+ * It is proved that the status and the text are those of the program; the pointers are trusted. Out of memory is the one
+ * answer that a call may give at any time, since that is up to the allocator. It is proved that the text stops short (4)
+ * only if it needs more room than it has so far; that 5 comes only if memory was refused is tested. */
 int32_t sketch_answer(const uint8_t *command, size_t command_length, const uint8_t *input, size_t input_length,
                       uint8_t *output, size_t room, size_t *size);
 
-/* The same with a text that is made here, by malloc, and ends in a 0 that *size doesn't count. Free it with free().
+/* The same, with a text that this function allocates by malloc. It ends in a 0 that *size doesn't count. Free it with
+ * free().
  *
  * command       ends in a 0
- * input         input_length bytes; may be null where input_length is 0
- * text, size    where the text and its length go; where memory ran out for the text, *text is null and *size is 0
+ * input         input_length bytes; may be null if input_length is 0
+ * text, size    receive the text and its length. If memory runs out for the text, *text is null and *size is 0
  *
  * Written in C, and not proved. */
 static inline int32_t sketch_run(const char *command, const void *input, size_t input_length, char **text,
