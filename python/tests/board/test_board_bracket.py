@@ -92,7 +92,6 @@ def test_a_bracket_with_two_fillets_and_four_holes(page: Page, program: Program)
     page.ask("x", "15")
     page.ask("y", "15")
     page.verdict("well")
-    page.keep_picture("one-hole")
     page.select("C1")
     row(page, "2", 85, 15)
     wait_for("two holes", lambda: "equal C1 C2" in page.text())
@@ -130,6 +129,12 @@ x Hole 56
 y Hole 22
 # reference length Rib; label -8 9
 """, "well")
+    beside = page.driver.execute_script(
+        "const b = document.getElementById('board').getBoundingClientRect();"
+        "return [...document.querySelectorAll('.marks .markgroup')].filter((each) => {"
+        "  const r = each.getBoundingClientRect(); return r.left < b.left || r.right > b.right"
+        "    || r.top < b.top || r.bottom > b.bottom; }).map((each) => each.textContent)")
+    assert beside == []
     page.keep_picture("dimensions")
     shown = page.driver.execute_script(
         "return [...document.querySelectorAll('.marks text')].map((each) => each.textContent)")

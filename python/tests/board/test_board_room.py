@@ -234,3 +234,13 @@ def test_the_scale_that_is_offered_fits(page: Page, tmp_path: Path) -> None:
     told = subprocess.run(["pdftotext", printed(page, tmp_path, None), "-"],
                           capture_output=True, text=True, check=True)
     assert "1:1" in told.stdout.split()
+
+
+@pytest.mark.skipif(not shutil.which("pdftoppm"), reason="without Debian's poppler-utils")
+def test_the_scale_that_is_offered_fits_what_is_dragged_away_too(page: Page,
+                                                                 tmp_path: Path) -> None:
+    """With a dimension 90 mm below it takes 150 mm of height, of which half has room in 116."""
+    page.begin(PLATE.replace("RBottom 100", "RBottom 100  # label 0 -90"), "well")
+    told = subprocess.run(["pdftotext", printed(page, tmp_path, None), "-"],
+                          capture_output=True, text=True, check=True)
+    assert {"1:2", "100"} <= set(told.stdout.split())

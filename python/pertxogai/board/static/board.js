@@ -2,7 +2,7 @@
 /** The board: the drawing as SVG, faint as drawn beneath what is placed, with its marks. */
 import { svg, nodeOf } from './nodes.js';
 import { View } from './view.js';
-import { Marks, markMade, proposedMade } from './marks.js';
+import { Marks, markMade, proposedMade, toldPlaces } from './marks.js';
 import { Layer } from './layer.js';
 import { Shown } from './shown.js';
 import { awayFrom, kindOf, pathOf, shapeMade, pointMade, stillMade, moveMade, middleOf, line, ring }
@@ -487,7 +487,8 @@ export class Board {
       this.plane.toPlane([left, low]), this.plane.toPlane([right, high])]);
     const { between: shown, drawn, free } = this.shown;
     const hidden = free ? {} : drawn.points;
-    const points = [...Object.values(shown.points), ...Object.values(hidden)];
+    const points = [...Object.values(shown.points), ...Object.values(hidden),
+      ...this.answer.drawing.marks.flatMap(toldPlaces)];
     this.plane.fit(corners.length ? [...points, ...corners] : points.slice(1), this.size());
     this.draw();
   }

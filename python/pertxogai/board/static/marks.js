@@ -336,6 +336,25 @@ function beside([dx, dy]) {
 }
 
 /**
+ * The places in millimetres that a dimension takes whose label stands where the drawing says: of its
+ * text, and of the ends of its bar.
+ * @param {Mark} mark
+ * @returns {Place[]}
+ */
+export function toldPlaces({ at = [0, 0], bar, label }) {
+  if (!label) return [];
+  const [x, y] = bar ? middleOf(bar) : at;
+  /** @type {Place} */
+  const text = [x + label[0], y + label[1]];
+  if (!bar) return [text];
+  const [[a, b], [c, d]] = bar;
+  const length = Math.hypot(c - a, d - b) || 1;
+  const [u, v] = [(b - d) / length, (c - a) / length];
+  const away = label[0] * u + label[1] * v;
+  return [text, [a + u * away, b + v * away], [c + u * away, d + v * away]];
+}
+
+/**
  * A placed mark, in classes, with what is told of it where a hand rests on it.
  * @param {PlacedMark} mark
  * @param {number} key

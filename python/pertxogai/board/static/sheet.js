@@ -4,7 +4,7 @@
  * on A4 across. The browser prints it, or writes it as PDF.
  */
 import { byId, nodeOf, svg } from './nodes.js';
-import { Marks } from './marks.js';
+import { Marks, toldPlaces } from './marks.js';
 import { kindOf, pathOf } from './shapes.js';
 import { typed } from './dialogs.js';
 import { View } from './view.js';
@@ -111,12 +111,19 @@ export class Sheet {
       (HEIGHT - 2 * ROOM) / Math.max(high - low, 1e-3));
   }
 
-  /** The box of all that is shown, in millimetres; null where nothing is drawn. */
+  /**
+   * The box of all edges, and of the dimensions that the drawing says the places of, in millimetres;
+   * null where nothing is drawn.
+   */
   box() {
-    const boxes = this.board.edgeBox();
-    if (!boxes) return null;
-    const [left, high] = this.board.plane.toPlane([boxes[0], boxes[1]]);
-    const [right, low] = this.board.plane.toPlane([boxes[2], boxes[3]]);
+    const { board, board: { plane } } = this;
+    const edges = board.edgeBox();
+    if (!edges) return null;
+    const places = [plane.toPlane([edges[0], edges[1]]), plane.toPlane([edges[2], edges[3]]),
+      ...board.answer.drawing.marks.flatMap(toldPlaces)];
+    const [xs, ys] = [0, 1].map((axis) => places.map((each) => each[axis]));
+    const [left, right] = [Math.min(...xs), Math.max(...xs)];
+    const [low, high] = [Math.min(...ys), Math.max(...ys)];
     return { left, right, low, high };
   }
 }
