@@ -138,14 +138,24 @@ def test_tab_leaves_a_toolbar(page: Page) -> None:
     assert page.driver.execute_script(focused) == "help"
 
 
+LISTENS = """
+const node = document.getElementById('said');
+window.said_ = [];
+new MutationObserver(() => window.said_.push(node.textContent)).observe(node, { childList: true });
+"""
+"""Keeps all that is said: what is too many is weighed a moment after the verdict, and said too."""
+
+
 def test_what_has_changed_is_said_and_no_time(page: Page) -> None:
+    def said() -> list[str]:
+        return list(page.driver.execute_script("return window.said_"))
+
+    page.driver.execute_script(LISTENS)
     page.begin(PLATE, "well")
-    wait_for("it is said", lambda: "well" in page.driver.execute_script(
-        "return document.getElementById('said').textContent"))
+    wait_for("it is said", lambda: said() and said()[-1].startswith("well"))
     page.type(PLATE + "length RTop 100\n")
-    page.verdict("over")
-    said = str(page.driver.execute_script("return document.getElementById('said').textContent"))
-    assert said.startswith("over") and " ms" not in said
+    wait_for("the next is said", lambda: any(each.startswith("over") for each in said()))
+    assert not any(" ms" in each for each in said())
     assert page.count("#verdict[aria-live]") == 0
 
 
