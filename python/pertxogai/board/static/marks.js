@@ -336,8 +336,8 @@ function beside([dx, dy]) {
 }
 
 /**
- * The places in millimetres that a dimension takes whose label stands where the drawing says: of its
- * text, and of the ends of its bar.
+ * The places in millimetres that a dimension takes whose label stands where the drawing says: that
+ * of its text, and the ends of its bar.
  * @param {Mark} mark
  * @returns {Place[]}
  */

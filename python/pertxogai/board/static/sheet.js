@@ -112,8 +112,8 @@ export class Sheet {
   }
 
   /**
-   * The box of all edges, and of the dimensions that the drawing says the places of, in millimetres;
-   * null where nothing is drawn.
+   * The box of all edges, and of the dimensions whose places the drawing says, in millimetres; null
+   * where nothing is drawn.
    */
   box() {
     const { board, board: { plane } } = this;
