@@ -11,6 +11,7 @@ from pertxogai.board.board_drawing import BoardDrawing
 from pertxogai.board.fields import FieldRefused, Fields
 from pertxogai.board.marks import marks, reference_marks, with_labels
 from pertxogai.board.protocol import Dragged, Mark, Point
+from pertxogai.board.stillness import FIXED, NO_OTHER, NO_SHAPE, OFF, why_still
 from pertxogai.drawing import Arc, Circle, Drawing, PointRef, points_of
 from pertxogai.drawing.labels import all_labels, references
 from pertxogai.drawing.mentions import named
@@ -26,11 +27,6 @@ PLACES = 7
 """Millimetres are told to a tenth of a nanometre."""
 MOST_DRAGS = 2
 """How many drags are kept: a page has one."""
-FIXED = "nothing is free here: its constraints fix it"
-NO_OTHER = "no other shape is near: drag it to a dead point, where two shapes meet"
-OFF = ("constraints that repeat others are off by less than a nanometre, so nothing follows the "
-       "hand: leave out what repeats")
-NO_SHAPE = "no shape holds all that is asked, so nothing follows the hand: see the verdict"
 
 
 class Unknown(Exception):
@@ -89,7 +85,7 @@ class Drags:
         """The frame of a drag: of one that is kept, begun, or gone on with from places that are
         given. Raises FieldRefused, WordFault."""
         if judged.searched is None:
-            return {"fixed": NO_SHAPE if judged.judgement.solution is None else FIXED}
+            return {"fixed": why_still(judged.judgement) or NO_SHAPE}
         if not judged.searched.found.is_solved():
             return {"fixed": OFF}
         from pertxogai.search.dragging import NothingFree

@@ -10,6 +10,7 @@ from pertxogai.board.placed_parts import LaidPart
 from pertxogai.board.protocol import (
     Amount, ChangedJudgement, Excess, Failure, Found, Judgement as JudgementJson, Missing, Places,
     Point)
+from pertxogai.board.stillness import why_still
 from pertxogai.drawing import Arc, Circle, PointRef
 from pertxogai.judging import Judgement, TooMuch
 from pertxogai.judging.good import reasons_json
@@ -37,6 +38,7 @@ def judgement_shown(judged: JudgedDrawing, parts: Iterable[LaidPart], placed: Pl
         "spare": [spare_json(each) for each in judgement.surplus],
         "excess": [],
         "repeats": list(judgement.repeats),
+        "still": why_still(judgement),
         "placed": placed,
         "found": _found(judged),
         "laid": [_laid(part) for part in parts],

@@ -474,7 +474,8 @@ class Failure(TypedDict):
 
 
 class JudgementWords(TypedDict):
-    """What is judged. repeats: the constraints that only say again what others say."""
+    """What is judged. repeats: the constraints that only say again what others say. still: why
+    nothing of what is placed follows a hand; empty of all else."""
 
     verdict: Literal["well", "open", "over"]
     good: bool
@@ -483,6 +484,7 @@ class JudgementWords(TypedDict):
     spare: list[SpareJson]
     excess: list[Excess]
     repeats: list[str]
+    still: str
     missing: Missing | None
     failure: Failure | None
 

@@ -340,13 +340,20 @@ def test_a_chain_of_forty_links_follows(page: Page) -> None:
 
 # The hand, and the server.
 
-def test_in_what_is_fixed_nothing_follows_but_with_alt_its_drawing(page: Page) -> None:
+@pytest.mark.parametrize("tie, told", [
+    ("", "Its dimensions fix its shape, so nothing follows the hand: only the whole may still be "
+         "moved and turned"),
+    ("coincident A.start Origin\nhorizontal A\n", "Nothing is free here: its constraints fix it")],
+    ids=["its shape", "all"])
+def test_in_what_is_fixed_nothing_follows_but_with_alt_its_drawing(
+        page: Page, tie: str, told: str) -> None:
     text = ("drawing 1\nsegment A 0 0 40 0\nsegment B A.end 20 30\nsegment C B.end A.start\n"
-            "length A 40\nlength B 36\nlength C 35\n")
+            f"length A 40\nlength B 36\nlength C 35\n{tie}")
     page.begin(text, "well")
     x, y = page.at("B.end")
     page.press(x, y, to=(x + 60, y + 20))
-    wait_for("told", lambda: "Nothing is free here" in page.told("hint"))
+    wait_for("told", lambda: told in page.told("hint"))
+    assert page.told("hint").endswith("Hold Alt to move only where it is drawn.")
     assert page.text() == text
     page.press(x, y, to=(x + 60, y + 20), held=Keys.ALT)
     wait_for("drawn elsewhere", lambda: page.text() != text)

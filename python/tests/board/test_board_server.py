@@ -338,6 +338,24 @@ def test_what_is_fixed_isnt_dragged(client) -> None:
         assert found["fixed"].startswith("nothing is free here")
 
 
+@pytest.mark.parametrize("tie, still", [
+    ("", "moved and turned"), ("coincident A.start Origin\n", "turned"),
+    ("coincident A.start Origin\nhorizontal A\n", "")], ids=["nothing", "pinned", "tied"])
+def test_of_what_isnt_tied_to_the_datum_the_shape_alone_is_fixed(client, tie, still) -> None:
+    """A triangle of three lengths is well wherever it lies."""
+    text = ("segment A 0 0 40 0\nsegment B A.end 20 30\nsegment C B.end A.start\n"
+            f"length A 40\nlength B 36\nlength C 35\n{tie}")
+    judgement = answer(client, "judge", text=text)["judgement"]
+    assert judgement["verdict"] == "well"
+    if still:
+        assert f"only the whole may still be {still}, until it is tied" in judgement["still"]
+    else:
+        assert judgement["still"] == "nothing is free here: its constraints fix it"
+    found = answer(client, "drag", text=text, drag="c", names=["A.end"], begins=True, x=0, y=0,
+                   begin={"x": 40, "y": 0})
+    assert found == {"fixed": judgement["still"]}
+
+
 FLAT = "segment A 0 0 9 0\nsegment B A.end 4 3\nsegment C B.end A.start\nlength A 10\n" \
        "length B 4\nlength C 5\n"
 

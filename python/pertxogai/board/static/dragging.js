@@ -3,6 +3,7 @@
  * Dragging what is open: the server says where all lies, frame by frame, and the board shows just
  * that.
  */
+import { JUST_JUDGED, frameText, stillText } from './dragwords.js';
 import { DATUM } from './selection.js';
 import { Work } from './work.js';
 
@@ -23,11 +24,6 @@ import { Work } from './work.js';
  *   reach: Reach }} Held
  */
 
-const NOTHING_FREE = 'Nothing is free here: all is fixed by its dimensions. Hold Alt to move only '
-  + 'where it is drawn.';
-const JUST_JUDGED = 'The drawing is being judged: drag again in a moment.';
-const STAYS = 'It stays: a dead point, or the end of its way. It goes no farther there; F goes '
-  + 'through to the other shape.';
 /** The most frames that follow once a hand has let go. */
 const MOST_LAST = 20;
 /** Millimetres within which two points are in one place. */
@@ -78,7 +74,8 @@ export class Dragging extends Work {
     const judgement = paper.refused ? null : answer?.judgement;
     if (isRough || !answer || !(judgement?.placed || judgement?.found)) return false;
     if (!judgement.found || DATUM.includes(name)) {
-      this.tell(answer.text === paper.text ? NOTHING_FREE : JUST_JUDGED, 'trouble');
+      const isJudged = answer.text === paper.text;
+      this.tell(isJudged ? stillText(judgement) : JUST_JUDGED, 'trouble');
       return true;
     }
     this.count += 1;
@@ -360,8 +357,7 @@ export class Dragging extends Work {
     if (!drawing || !judgement?.found) return;
     const shown = { ...judgement, found: { ...judgement.found, places, moves: [] } };
     board.show({ ...answer, drawing: { ...drawing, marks }, judgement: shown }, true);
-    const measured = `It follows, by numbers; measured: at most ${off} nm off.`;
-    this.tell(reach === 'stays' ? STAYS : measured);
+    this.tell(frameText(reach, off));
     this.frames += 1;
     Object.assign(board.node.dataset, { reach, off, frames: this.frames });
   }

@@ -160,6 +160,7 @@ export interface Judgement {
   spare: SpareJson[];
   excess: Excess[];
   repeats: string[];
+  still: string;
   missing: Missing | null;
   failure: Failure | null;
   placed: Places | null;
@@ -451,6 +452,7 @@ export interface ChangedJudgement {
   spare: SpareJson[];
   excess: Excess[];
   repeats: string[];
+  still: string;
   missing: Missing | null;
   failure: Failure | null;
   placed?: Places | null;

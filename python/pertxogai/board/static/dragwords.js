@@ -1,0 +1,29 @@
+// @ts-check
+/** What is told while a hand drags, or would. */
+
+/** @typedef {import('./protocol').Dragged} Dragged */
+/** @typedef {import('./protocol').Judgement} Judgement */
+
+export const JUST_JUDGED = 'The drawing is being judged: drag again in a moment.';
+const DATUM_STAYS = 'The datum stays where it is.';
+const ROUGHLY = 'Hold Alt to move only where it is drawn.';
+const STAYS = 'It stays: a dead point, or the end of its way. It goes no farther there; F goes '
+  + 'through to the other shape.';
+
+/**
+ * Why nothing follows a hand: the datum itself stays, and all of what is placed.
+ * @param {Judgement} judgement
+ */
+export function stillText({ found, still }) {
+  return found ? DATUM_STAYS : `${still[0].toUpperCase()}${still.slice(1)}. ${ROUGHLY}`;
+}
+
+/**
+ * What is told of a frame: how far what is held came, and by how many nanometres the worst
+ * constraint is off.
+ * @param {Dragged['reach']} reach
+ * @param {Dragged['off']} off
+ */
+export function frameText(reach, off) {
+  return reach === 'stays' ? STAYS : `It follows, by numbers; measured: at most ${off} nm off.`;
+}
