@@ -11,7 +11,7 @@ from pertxogai.board.board_drawing import BoardDrawing
 from pertxogai.board.fields import FieldRefused, Fields
 from pertxogai.board.marks import marks, reference_marks, with_labels
 from pertxogai.board.protocol import Dragged, Mark, Point
-from pertxogai.board.stillness import FIXED, NO_OTHER, NO_SHAPE, OFF, why_still
+from pertxogai.board.stillness import FIXED, LOST, NO_OTHER, NO_SHAPE, OFF, why_still
 from pertxogai.drawing import Arc, Circle, Drawing, PointRef, points_of
 from pertxogai.drawing.labels import all_labels, references
 from pertxogai.drawing.mentions import named
@@ -31,6 +31,10 @@ MOST_DRAGS = 2
 
 class Unknown(Exception):
     """A frame of a drag that isn't kept here, without the places to go on from."""
+
+
+class Lost(Exception):
+    """What is asked for isn't met near the places of a drag to go on from."""
 
 
 @dataclass
@@ -98,6 +102,8 @@ class Drags:
             return {"fixed": FIXED}
         except Unknown:
             return {"lost": True}
+        except Lost:
+            return {"fixed": LOST}
         self._kept[name] = dragged
         while len(self._kept) > MOST_DRAGS:
             del self._kept[next(iter(self._kept))]
@@ -106,23 +112,26 @@ class Drags:
 
 def _begun(drawing: Drawing, searched: Searched, given: Fields) -> BoardDrag:
     """A drag that begins, or goes on where another worker had it. Raises NothingFree, Unknown,
-    FieldRefused, WordFault."""
+    Lost, FieldRefused, WordFault."""
     from pertxogai.search.dragging import Drag
     x = None
     if given.has("places"):
-        x = searched.met_at(*_places_nm(drawing, Fields.of(given.values["places"])))
+        x = searched.met_at(*_places_nm(drawing, given.single("places")))
+        if x is None:
+            raise Lost
     elif not given.flag("begins"):
         raise Unknown
-    grip = _grip(drawing, given)
-    drag = Drag(searched.equations, searched.found.x, grip, x, searched.loose())
+    drag = Drag(searched.equations, searched.found.x, _grip(drawing, given), x, searched.loose())
     return BoardDrag(drawing, drag)
 
 
 def _grip(drawing: Drawing, given: Fields) -> Grip:
-    """What a hand holds: the points of what it names; a single rim by its radius."""
+    """What a hand holds: the points of what it names; a single rim by its radius. Raises
+    FieldRefused, WordFault."""
     from pertxogai.search.dragging import Grip
-    begin = Fields.of(given.values.get("begin"))
-    at, names = _place_nm(begin), given.texts("names")
+    at, names = _place_nm(given.single("begin")), given.texts("names")
+    if not names:
+        raise FieldRefused("'names' has to have a point or a shape")
     shapes = {shape.name: shape for shape in drawing.geometry}
     if len(names) == 1 and isinstance(shapes.get(names[0]), (Circle, Arc)):
         return Grip(at, rim=names[0])
@@ -139,7 +148,7 @@ def _places_nm(drawing: Drawing, given: Fields) -> tuple[
         Mapping[PointRef, tuple[float, float]], Mapping[str, float]]:
     """The places of points and the radii of rims that a page gives back. Raises FieldRefused,
     WordFault."""
-    points, radii = (Fields.of(given.values.get(name)).values for name in ("points", "radii"))
+    points, radii = (given.single(name).values for name in ("points", "radii"))
     try:
         return ({point_of(drawing.scene, name): (float(x) * NM_PER_MM, float(y) * NM_PER_MM)
                  for name, (x, y) in cast(Mapping[str, Point], points).items()},

@@ -9,6 +9,7 @@ NO_OTHER = "no other shape is near: drag it to a dead point, where two shapes me
 OFF = ("constraints that repeat others are off by less than a nanometre, so nothing follows the "
        "hand: leave out what repeats")
 NO_SHAPE = "no shape holds all that is asked, so nothing follows the hand: see the verdict"
+LOST = "the drag was lost, and it stays where it is shown: take hold of it anew"
 
 
 def why_still(judgement: Judgement) -> str:

@@ -6,6 +6,8 @@ from collections.abc import Callable, Mapping
 from dataclasses import replace
 from functools import cached_property
 
+import numpy as np
+
 from pertxogai.cached import cached_on
 from pertxogai.drawing import Drawing, PointRef, line_of
 from pertxogai.judging.finding import Finding, Group, PlacesBy
@@ -32,6 +34,9 @@ Measured = Callable[[Solution], tuple[Deviation, ...]]
 """What measures a drawing on some places."""
 REST_SECONDS = 0.4
 """What the search may take for what is left without what contradicts."""
+MENDED_NM = 10_000.0
+"""Places that were told in rounded numbers are mended by no more; at a dead point a tenth of a
+nanometre is a micrometre of what else moves."""
 MOST_RANKED = 600
 """The most unknowns of a drawing without places of which the rank is asked who says what others do:
 of a larger one that alone takes a second, and those are looked at that are off most."""
@@ -62,9 +67,10 @@ class Searched:
         """The unknowns that may move, to the first order."""
         return frozenset(loose_columns(self.freedom.free))
 
-    def met_at(self, points: Mapping[PointRef, FloatPointNm], radii: Mapping[str, float]) -> Array:
+    def met_at(self, points: Mapping[PointRef, FloatPointNm],
+               radii: Mapping[str, float]) -> Array | None:
         """The unknowns where these points and radii lie, in nanometres, and the others as they were
-        found; mended, since they were rounded. Those that were found, where that isn't met."""
+        found; mended, since they were rounded. None where nothing near by is met."""
         x, unknowns = self.found.x.copy(), self.equations.unknowns
         for ref, spot in points.items():
             number = unknowns.number_of.get(unknowns.leader(ref))
@@ -74,7 +80,8 @@ class Searched:
             if name in unknowns.column_of:
                 x[unknowns.column_of[name]] = radius
         end = descend(self.equations, x, Budget())
-        return end.x if end.is_met() else self.found.x
+        is_near = float(np.abs(end.x - x).max(initial=0.0)) <= MENDED_NM
+        return end.x if end.is_met() and is_near else None
 
     def finding(self, limit: Limit = Limit(), measured: Measured | None = None) -> Finding:
         """All of it by the names of the drawing. What is off by no more than the limit isn't told

@@ -360,6 +360,33 @@ def test_in_what_is_fixed_nothing_follows_but_with_alt_its_drawing(
     page.verdict("well")
 
 
+LOSES = """
+const { fetch: before } = window;
+window.fetch = (path, options) => {
+  if (path !== 'call/drag') return before(path, options);
+  const given = JSON.parse(options.body);
+  if (given.places) Object.keys(given.places.points).forEach((name) => {
+    given.places.points[name] = [0, 0]; });
+  return before(path, { ...options, body: JSON.stringify({ ...given, drag: 'gone' }) });
+};
+"""
+"""The server knows the drag no more, and is told places that nothing is met near."""
+
+
+def test_a_drag_that_is_lost_says_so_and_nothing_leaps(page: Page) -> None:
+    hand = Hand(page, FOUR_BAR)
+    hand.take("Crank.end")
+    hand.to((5, 14))
+    shown = page.at("Crank.end")
+    page.driver.execute_script(LOSES)
+    hand.to((-5, 14))
+    wait_for("told", lambda: "the drag was lost" in page.told("hint"))
+    assert page.at("Crank.end") == pytest.approx(shown, abs=1)
+    hand.let_go((-5, 14))
+    page.settled()
+    assert page.at("Crank.end") == pytest.approx(shown, abs=1), "drawn where it was shown"
+
+
 def test_a_drag_that_leaves_the_window_ends_where_the_hand_lets_go(page: Page) -> None:
     hand = Hand(page, FOUR_BAR)
     hand.take("Crank.end")

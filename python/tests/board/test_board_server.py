@@ -331,11 +331,21 @@ def test_a_drag_that_the_server_has_lost_goes_on_from_its_places(client) -> None
     assert found["reach"] == "there"
 
 
+def test_a_drag_is_lost_whose_places_arent_met_nearby(client) -> None:
+    """The crank is 30 long, and not 18: what is met nearest is 12 mm away, and nothing leaps."""
+    places = {"points": {"Crank.end": [18, 0]}, "radii": {}}
+    found = frame(client, 0, 30, "gone", places=places)
+    assert found == {"fixed": "the drag was lost, and it stays where it is shown: take hold of it "
+                              "anew"}
+
+
 def test_what_is_fixed_isnt_dragged(client) -> None:
     given = {"drag": "b", "begin": {"x": 40, "y": 0}, "x": 50, "y": 0, "begins": True}
     for text, names in ((CRANK, ["Ground.end"]), (CRANK + "x Crank.end 18\n", ["Crank.end"])):
         found = answer(client, "drag", text=text, names=names, **given)
         assert found["fixed"].startswith("nothing is free here")
+    nothing = answer(client, "drag", text=CRANK, names=[], **given)
+    assert nothing["trouble"]["message"] == "'names' has to have a point or a shape"
 
 
 @pytest.mark.parametrize("tie, still", [
