@@ -306,6 +306,26 @@ length C 36
         Dragged(text, "A.start")
 
 
+BOW = """arc Bow 0 0 20 0 0 20
+coincident Bow.centre Origin
+on Bow.start XAxis
+radius Bow 20
+"""
+"""It begins at 0 degrees, and runs to its end at 90, to the left."""
+
+
+@pytest.mark.parametrize("turns, passed", [
+    ([45, 10, -10, -60, -10], [0, 0, -1, -1, -1]), ([10, -10, 10, 60], [0, -1, 0, 0]),
+    ([150, 230, 300, 350, 370, 400], [0, 0, 0, 0, 1, 1])], ids=["past", "and back", "all round"])
+def test_an_arc_that_goes_past_its_own_end_is_told(turns: list[int], passed: list[int]) -> None:
+    held = Dragged(BOW, "Bow.end")
+    for turn, wanted in zip(turns, passed):
+        frame = held.to(20 * cos(radians(turn)), 20 * sin(radians(turn)))
+        assert held.at("Bow.end") == pytest.approx(
+            (20 * cos(radians(turn)), 20 * sin(radians(turn))), abs=1e-3)
+        assert frame.passed == ({"Bow": wanted} if wanted else {})
+
+
 def test_a_chain_of_forty_links_follows_by_either_end() -> None:
     lines = ["segment S0 0 0 10 0"]
     lines += [f"segment S{n} S{n - 1}.end {10 * n + 10} {3 * (n % 2)}" for n in range(1, 40)]

@@ -63,7 +63,8 @@ class BoardDrag:
                        if self.points.get(name) != spot},
             "radii": {name: radius for name, radius in radii.items()
                       if self.radii.get(name) != radius},
-            "marks": self._marks(frame), "reach": frame.reach.value, "off": frame.off_nm}
+            "marks": self._marks(frame), "reach": frame.reach.value, "off": frame.off_nm,
+            "passed": dict(frame.passed)}
         self.points, self.radii = points, radii
         return answer
 
@@ -121,7 +122,8 @@ def _begun(drawing: Drawing, searched: Searched, given: Fields) -> BoardDrag:
             raise Lost
     elif not given.flag("begins"):
         raise Unknown
-    drag = Drag(searched.equations, searched.found.x, _grip(drawing, given), x, searched.loose())
+    drag = Drag(searched.equations, searched.found.x, _grip(drawing, given), x, searched.loose(),
+                given.counts("passed"))
     return BoardDrag(drawing, drag)
 
 

@@ -74,6 +74,11 @@ class Fields:
         """Several whole numbers. Raises FieldRefused."""
         return tuple(_whole(name, each) for each in self._items(name))
 
+    def counts(self, name: str) -> dict[str, int]:
+        """Whole numbers by names; none where the field isn't there. Raises FieldRefused."""
+        given = self.single(name).values if self.has(name) else {}
+        return {str(each): _whole(str(each), value) for each, value in given.items()}
+
     def lines(self, name: str) -> tuple[tuple[str, ...], ...]:
         """Several lists of texts; none where the field isn't there. Raises FieldRefused."""
         return tuple(Fields({name: each}).texts(name) for each in self._items(name))

@@ -263,8 +263,8 @@ class AboutEdit(About):
 class AboutDrag(About):
     """A frame of a drag: its name, and where the hand is. begins: whether it is the first. names:
     the points and shapes that the hand holds; begin: where it took hold. turns: whether the other
-    shape is asked for, at a dead point. places: where what moves lay in the frame before, once the
-    server has lost the drag."""
+    shape is asked for, at a dead point. places, passed: where what moves lay in the frame before,
+    and what arcs had passed, once the server has lost the drag."""
 
     drag: str
     names: list[str]
@@ -274,6 +274,7 @@ class AboutDrag(About):
     begins: NotRequired[bool]
     turns: NotRequired[bool]
     places: NotRequired[Places]
+    passed: NotRequired[dict[str, int]]
 
 
 class AboutNames(About):
@@ -710,14 +711,16 @@ the next frame; or it stays, as at a dead point."""
 class Dragged(Answer, total=False):
     """A frame of a drag: the points and radii that aren't where they were in the frame before, by
     numbers, and the marks of what is asked of what moves. off: by how many nanometres the worst
-    constraint is off there, measured. fixed: why nothing follows. lost: whether the server doesn't
-    know the drag, and wants the places."""
+    constraint is off there, measured. passed: how often each arc went past its own end since the
+    hand took hold, to the left positive. fixed: why nothing follows. lost: whether the server
+    doesn't know the drag, and wants the places."""
 
     points: dict[str, Point]
     radii: dict[str, float]
     marks: list[Mark]
     reach: Reach
     off: int
+    passed: dict[str, int]
     fixed: str
     lost: bool
 

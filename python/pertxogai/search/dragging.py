@@ -11,7 +11,7 @@ from math import hypot
 import numpy as np
 
 from pertxogai.drawing import (
-    Drawing, Place, Point, PointOn, PointRef, ShapeRef, Which, points_of)
+    Arc, Drawing, Place, Point, PointOn, PointRef, ShapeRef, Which, points_of)
 from pertxogai.drawing.meetings import joins_points
 from pertxogai.drawing.mentions import named
 from pertxogai.drawing.named_shapes import spot_of
@@ -21,6 +21,7 @@ from pertxogai.search.equations import Equations
 from pertxogai.search.following import following
 from pertxogai.search.pulling import Pull, Pulled, Reach
 from pertxogai.search.rounding import solution_of
+from pertxogai.search.sweeps import Sweeps
 from pertxogai.search.unknowns import FloatPointNm, Unknowns
 
 
@@ -43,7 +44,8 @@ class Grip:
 class Frame:
     """Where lies what may move, in nanometres, by numbers. reach: how far what is held came.
     left_nm: by how much it is left behind. whole: the same in whole nanometres, with what is asked
-    of it and stays. off_nm: by how much the worst constraint is off there, measured."""
+    of it and stays. off_nm: by how much the worst constraint is off there, measured. passed: how
+    often each arc went past its own end since the hand took hold, to the left positive."""
 
     points: Mapping[PointRef, FloatPointNm]
     radii: Mapping[str, float]
@@ -51,6 +53,7 @@ class Frame:
     left_nm: float
     whole: Solution
     off_nm: int
+    passed: Mapping[str, int]
 
 
 class Drag:
@@ -58,10 +61,11 @@ class Drag:
     what is asked of them."""
 
     def __init__(self, equations: Equations, begin: Array, grip: Grip, x: Array | None = None,
-                 loose: Collection[int] | None = None) -> None:
-        """begin: the unknowns where the hand took hold; x: where they have come since, where it
-        goes on from there; loose: those that move to the first order, where these are known. Raises
-        NothingFree."""
+                 loose: Collection[int] | None = None,
+                 passed: Mapping[str, int] | None = None) -> None:
+        """begin: the unknowns where the hand took hold; x, passed: where they have come since, and
+        what arcs have passed, where it goes on from there; loose: those that move to the first
+        order, where these are known. Raises NothingFree."""
         self._held = _Held(equations, begin, begin if x is None else x, grip, loose)
         self._unknowns, self._x = self._held.equations.unknowns, self._held.now.copy()
         self._part = self._held.part
@@ -74,6 +78,9 @@ class Drag:
                             if column in self._part.columns)
         self.names = frozenset({ref.shape for ref in self._points}.union(self._radii))
         self.moving = _moving_part(self._unknowns.drawing, set(self.names))
+        arcs = (shape for shape in self.moving.geometry
+                if isinstance(shape, Arc) and shape.name in self.names)
+        self._sweeps = Sweeps(arcs, self._where, passed or {})
 
     @property
     def x(self) -> Array:
@@ -97,11 +104,16 @@ class Drag:
 
     def _frame(self, pulled: Pulled) -> Frame:
         self._x[self._part.columns] = pulled.x
+        self._sweeps.to(self._where)
         whole = solution_of(self._unknowns, self._x, self.moving)
         worst = greatest(measure(self.moving, whole), Unit.NM)
-        return Frame({ref: _spot(self._unknowns, self._x, ref) for ref in self._points},
+        return Frame({ref: self._where(ref) for ref in self._points},
                      {name: float(self._x[self._unknowns.column_of[name]]) for name in self._radii},
-                     pulled.reach, pulled.left_nm, whole, worst.amount if worst else 0)
+                     pulled.reach, pulled.left_nm, whole, worst.amount if worst else 0,
+                     self._sweeps.passed())
+
+    def _where(self, ref: PointRef) -> FloatPointNm:
+        return _spot(self._unknowns, self._x, ref)
 
     def _moving_points(self) -> Iterator[PointRef]:
         moving = set(self._part.columns.tolist())

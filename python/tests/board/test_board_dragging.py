@@ -360,6 +360,30 @@ def test_in_what_is_fixed_nothing_follows_but_with_alt_its_drawing(
     page.verdict("well")
 
 
+BOW = """drawing 1
+segment Base 0 0 40 0
+arc Bow 0 0 20 0 0 20
+coincident Base.start Origin
+horizontal Base
+length Base 40
+coincident Bow.centre Origin
+on Bow.start Base
+radius Bow 20
+"""
+"""The arc begins on the base, and runs to its end at 90 degrees, to the left."""
+
+
+def test_an_arc_that_goes_past_its_own_end_is_told_until_it_comes_back(page: Page) -> None:
+    past = "Bow went past its own end, and takes the other part of the circle now."
+    hand = Hand(page, BOW)
+    hand.take("Bow.end")
+    for turn, is_past in ((40, False), (-40, True), (-70, True), (40, False)):
+        hand.to((20 * cos(radians(turn)), 20 * sin(radians(turn))))
+        wait_for("it follows", lambda: "measured: at most" in page.told("hint"))
+        wait_for(f"told at {turn}", lambda: page.told("hint").startswith(past) is is_past)
+    hand.let_go((20 * cos(radians(40)), 20 * sin(radians(40))))
+
+
 LOSES = """
 const { fetch: before } = window;
 window.fetch = (path, options) => {

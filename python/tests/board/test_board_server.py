@@ -14,6 +14,7 @@ import time
 import urllib.request
 from concurrent.futures import ThreadPoolExecutor
 from http.client import HTTPConnection
+from math import cos, radians, sin
 from pathlib import Path
 
 import pytest
@@ -337,6 +338,33 @@ def test_a_drag_is_lost_whose_places_arent_met_nearby(client) -> None:
     found = frame(client, 0, 30, "gone", places=places)
     assert found == {"fixed": "the drag was lost, and it stays where it is shown: take hold of it "
                               "anew"}
+
+
+BOW = """arc Bow 0 0 20 0 0 20
+coincident Bow.centre Origin
+on Bow.start XAxis
+radius Bow 20
+"""
+"""It begins at 0 degrees, and runs to its end at 90, to the left."""
+
+
+def bow(client, turn: float, name: str, **more: object) -> dict[str, object]:
+    """A frame of a drag of its end to an angle in degrees."""
+    return answer(client, "drag", text=BOW, drag=name, names=["Bow.end"], begin={"x": 0, "y": 20},
+                  x=20 * cos(radians(turn)), y=20 * sin(radians(turn)), **more)
+
+
+def test_an_arc_that_is_dragged_past_its_own_end_is_told_until_it_comes_back(client) -> None:
+    """Also by a process of the server that goes on with the drag."""
+    assert bow(client, 20, "bow", begins=True)["passed"] == {}
+    assert bow(client, -20, "bow")["passed"] == {"Bow": -1}
+    places = {"points": {"Bow.end": [20 * cos(radians(-20)), 20 * sin(radians(-20))]}, "radii": {}}
+    on = {"places": places, "passed": {"Bow": -1}}
+    assert bow(client, -30, "another", **on)["passed"] == {"Bow": -1}
+    assert bow(client, 20, "a third", **on)["passed"] == {}
+    for wrong in ({"Bow": 0.5}, {"Bow": True}):
+        found = bow(client, 20, "a fourth", places=places, passed=wrong)
+        assert found["trouble"]["message"] == "'Bow' has to be a whole number"
 
 
 def test_what_is_fixed_isnt_dragged(client) -> None:

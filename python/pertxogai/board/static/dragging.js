@@ -18,10 +18,11 @@ import { Work } from './work.js';
 /**
  * A drag that goes on: its name for the server, the text and the answer that it began with, what is
  * held and where the hand took hold, where the hand is and where it was at the last frame, and the
- * places and marks of that frame, and how far what is held came in it.
+ * places and marks of that frame, how far what is held came in it, and how often arcs went past
+ * their own ends.
  * @typedef {{ drag: string, text: string, answer: Judged, names: string[], begin: Place,
  *   wish: Place, done: Place | null, waits: boolean, places: Found['places'], marks: Mark[],
- *   reach: Reach }} Held
+ *   reach: Reach, passed: Record<string, number> }} Held
  */
 
 /** The most frames that follow once a hand has let go. */
@@ -86,7 +87,7 @@ export class Dragging extends Work {
     const text = answer.text ?? paper.text;
     this.held = { drag: `${this.page} ${this.count}`, text, answer, names, begin, wish: begin,
       done: null, waits: false, places: judgement.found.places,
-      marks: answer.drawing?.marks ?? [], reach: 'there' };
+      marks: answer.drawing?.marks ?? [], reach: 'there', passed: {} };
     return true;
   }
 
@@ -321,11 +322,11 @@ export class Dragging extends Work {
    * @param {Place} wish
    * @param {boolean} turns
    */
-  async asked({ drag, text, names, begin: [u, v], done, places }, [x, y], turns) {
+  async asked({ drag, text, names, begin: [u, v], done, places, passed }, [x, y], turns) {
     const begins = done === null;
     const given = { text, drag, names, begin: { x: u, y: v }, x, y, begins, turns };
     let found = await this.paper.about('drag', given);
-    if (found.lost) found = await this.paper.about('drag', { ...given, places });
+    if (found.lost) found = await this.paper.about('drag', { ...given, places, passed });
     const why = found.fixed ?? (found.trouble ?? found.refused)?.message;
     if (why) this.tell(why, 'trouble');
     return why ? null : found;
@@ -336,9 +337,9 @@ export class Dragging extends Work {
    * @param {Held} held
    * @param {Dragged} found
    */
-  take(held, { points, radii, marks = [], reach = 'there' }) {
+  take(held, { points, radii, marks = [], reach = 'there', passed = {} }) {
     const { places } = held;
-    held.reach = reach;
+    Object.assign(held, { reach, passed });
     held.places = { part: null, points: { ...places.points, ...points },
       radii: { ...places.radii, ...radii } };
     const told = new Set(marks.map(({ number }) => number));
@@ -351,13 +352,13 @@ export class Dragging extends Work {
    * @param {Held} held
    * @param {Dragged} found
    */
-  show({ answer, places, marks }, { reach, off }) {
+  show({ answer, places, marks, passed }, { reach, off }) {
     const { board } = this;
     const { drawing, judgement } = answer;
     if (!drawing || !judgement?.found) return;
     const shown = { ...judgement, found: { ...judgement.found, places, moves: [] } };
     board.show({ ...answer, drawing: { ...drawing, marks }, judgement: shown }, true);
-    this.tell(frameText(reach, off));
+    this.tell(frameText(passed, reach, off));
     this.frames += 1;
     Object.assign(board.node.dataset, { reach, off, frames: this.frames });
   }

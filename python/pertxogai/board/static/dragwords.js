@@ -19,11 +19,23 @@ export function stillText({ found, still }) {
 }
 
 /**
- * What is told of a frame: how far what is held came, and by how many nanometres the worst
- * constraint is off.
+ * What is told of a frame: what arcs have passed, how far what is held came, and by how many
+ * nanometres the worst constraint is off.
+ * @param {Record<string, number>} passed
  * @param {Dragged['reach']} reach
  * @param {Dragged['off']} off
  */
-export function frameText(reach, off) {
-  return reach === 'stays' ? STAYS : `It follows, by numbers; measured: at most ${off} nm off.`;
+export function frameText(passed, reach, off) {
+  const follows = `It follows, by numbers; measured: at most ${off} nm off.`;
+  return `${pastText(Object.keys(passed))}${reach === 'stays' ? STAYS : follows}`;
+}
+
+/**
+ * That arcs went past their own ends, and what has become of them; nothing where none did.
+ * @param {string[]} arcs
+ */
+function pastText(arcs) {
+  if (!arcs.length) return '';
+  const what = arcs.length > 1 ? 'their own ends, and take' : 'its own end, and takes';
+  return `${arcs.join(', ')} went past ${what} the other part of the circle now. `;
 }

@@ -485,8 +485,8 @@ export interface Edited {
 /**
  * A frame of a drag: its name, and where the hand is. begins: whether it is the first. names:
  * the points and shapes that the hand holds; begin: where it took hold. turns: whether the other
- * shape is asked for, at a dead point. places: where what moves lay in the frame before, once the
- * server has lost the drag.
+ * shape is asked for, at a dead point. places, passed: where what moves lay in the frame before,
+ * and what arcs had passed, once the server has lost the drag.
  */
 export interface AboutDrag {
   text: string;
@@ -499,13 +499,15 @@ export interface AboutDrag {
   begins?: boolean;
   turns?: boolean;
   places?: Places;
+  passed?: Record<string, number>;
 }
 
 /**
  * A frame of a drag: the points and radii that aren't where they were in the frame before, by
  * numbers, and the marks of what is asked of what moves. off: by how many nanometres the worst
- * constraint is off there, measured. fixed: why nothing follows. lost: whether the server doesn't
- * know the drag, and wants the places.
+ * constraint is off there, measured. passed: how often each arc went past its own end since the
+ * hand took hold, to the left positive. fixed: why nothing follows. lost: whether the server
+ * doesn't know the drag, and wants the places.
  */
 export interface Dragged {
   trouble?: Trouble;
@@ -516,6 +518,7 @@ export interface Dragged {
   marks?: Mark[];
   reach?: 'there' | 'beside' | 'comes' | 'stays';
   off?: number;
+  passed?: Record<string, number>;
   fixed?: string;
   lost?: boolean;
 }
