@@ -360,6 +360,31 @@ def test_in_what_is_fixed_nothing_follows_but_with_alt_its_drawing(
     page.verdict("well")
 
 
+ROUGH = """drawing 1
+segment Base 0 0 40 0
+segment Side Base.end 45 25
+point P 20 10
+coincident Base.start Origin
+horizontal Base
+length Base 40
+vertical Side
+length Side 20
+"""
+"""Its side is drawn askew and too long."""
+
+
+def test_what_is_let_go_draws_all_where_it_is_shown(page: Page) -> None:
+    """Also what is fixed, and was drawn roughly; one step of undo."""
+    hand = Hand(page, ROUGH)
+    before = page.text()
+    hand.take("P")
+    hand.to((30, 15))
+    hand.let_go((30, 15))
+    assert "segment Side Base.end 40 20\n" in page.text() and "point P 20 10" not in page.text()
+    page.keys(Keys.CONTROL + "z")
+    wait_for("one undo", lambda: page.text() == before)
+
+
 BOW = """drawing 1
 segment Base 0 0 40 0
 arc Bow 0 0 20 0 0 20
