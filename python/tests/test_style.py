@@ -14,7 +14,7 @@ import pytest
 from conftest import LONGEST, TESTS, TOP
 
 PYTHON = TOP / "python"
-SOURCES = sorted((PYTHON / "pertxogai").rglob("*.py"))
+SOURCES = sorted((PYTHON / "pertxogai").rglob("*.py")) + sorted((TOP / "freecad").rglob("*.py"))
 MOST_COLUMNS = 100
 MOST_BRANCHES = 12
 
@@ -31,7 +31,7 @@ def run(*words: str) -> str:
 
 
 def test_every_name_stands_and_is_used() -> None:
-    told = run("pyflakes", "pertxogai", "tests", "../tools")
+    told = run("pyflakes", "pertxogai", "tests", "../tools", "../freecad")
     allowed = "'ezdxf' imported but unused"  # Whether it is there is what is asked.
     assert [line for line in told.splitlines() if not line.endswith(allowed)] == []
 
@@ -46,7 +46,7 @@ def test_types_hold_throughout(tmp_path: Path) -> None:
     assert told.splitlines() == []
 
 
-@pytest.mark.parametrize("path", SOURCES, ids=lambda it: str(it.relative_to(PYTHON)))
+@pytest.mark.parametrize("path", SOURCES, ids=lambda it: str(it.relative_to(TOP)))
 def test_lines_and_functions_are_short(path: Path) -> None:
     text = path.read_text()
     assert [line for line in text.splitlines() if len(line) > MOST_COLUMNS] == []

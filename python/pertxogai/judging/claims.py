@@ -6,6 +6,7 @@ and without the program."""
 
 from __future__ import annotations
 
+import shutil
 import sys
 from collections.abc import Iterator, Sequence
 from dataclasses import dataclass
@@ -96,7 +97,18 @@ def _folder(program: Program) -> Path:
 
 
 def _run_in_python(source: Path, claim: str, limits: Limits) -> Checked:
-    return _answer_of(source.name, [sys.executable, "-I", str(_there(source))], claim, limits)
+    return _answer_of(source.name, [python_itself(), "-I", str(_there(source))], claim, limits)
+
+
+def python_itself() -> str:
+    """The interpreter that runs this, or, within a program that has Python in it, as FreeCAD, the
+    one on the path. Raises MissingProgram."""
+    if Path(sys.executable).name.startswith("python"):
+        return sys.executable
+    found = shutil.which("python3")
+    if found is None:
+        raise MissingProgram("python3 isn't on the path")
+    return found
 
 
 def _run_in_c(source: Path, claim: str, limits: Limits) -> Checked:

@@ -1,0 +1,63 @@
+"""The command Certify: a claim that others can check, and what the checkers say of it, beside the
+document."""
+from __future__ import annotations
+
+from collections.abc import Iterator
+from dataclasses import dataclass
+from pathlib import Path
+
+from pertxogai.files.atomic import written_whole
+from pertxogai.judging import GoodJudgement
+from pertxogai.judging.claims import Checked, checked, claim_of, scale_of
+from pertxogai_freecad.judging import JudgedSketch
+from pertxogai_freecad.trouble import Trouble, troubles
+
+
+@dataclass(frozen=True)
+class Certified:
+    """What was written of a sketch: the claim, and its verification. scale: how many times as large
+    as the sketch the claim is."""
+
+    claim: Path
+    verification: Path
+    answers: tuple[Checked, ...]
+    scale: int
+
+    def lines(self) -> Iterator[str]:
+        """What was written, in lines to read."""
+        yield f"wrote {self.claim} and {self.verification}"
+        if self.scale > 1:
+            yield f"  the sketch of the claim is {self.scale} times as large as the drawing"
+        yield from (f"  {each.checker}: {each.line}" for each in self.answers)
+
+    def is_accepted(self) -> bool:
+        """Whether each checker accepts the claim."""
+        return all(each.accepts() for each in self.answers)
+
+
+def certify(judged: JudgedSketch) -> Certified:
+    """Writes the claim of a good sketch beside its document, and what the checkers say of it.
+    Raises Trouble where the sketch isn't good, the document was never saved, or nothing can be
+    written."""
+    if not isinstance(judged.good, GoodJudgement):
+        raise Trouble(f"{judged.read.label} isn't good, so no claim is written: {judged.good}")
+    claim, verification = _paths(judged)
+    with troubles():
+        text = claim_of(judged.good, judged.program).text()
+        answers = tuple(checked(text, judged.program))
+    told = "".join(f"{each.checker}: {each.line}\n" for each in answers)
+    document = Path(judged.read.sketch.Document.FileName)
+    for path, content in ((claim, text), (verification, told)):
+        with troubles(), written_whole(path, document) as file:
+            file.write(content.encode("utf-8"))
+    return Certified(claim, verification, answers, scale_of(judged.good))
+
+
+def _paths(judged: JudgedSketch) -> tuple[Path, Path]:
+    """Where the claim and its verification go. Raises Trouble."""
+    sketch = judged.read.sketch
+    if not sketch.Document.FileName:
+        raise Trouble("the document was never saved: save it, since the claim is written beside it")
+    document = Path(sketch.Document.FileName)
+    stem = f"{document.stem}-{sketch.Name}"
+    return document.with_name(f"{stem}.claim"), document.with_name(f"{stem}.verification")

@@ -1,0 +1,181 @@
+"""The same commands without a window, for every document of a folder:
+
+    freecadcmd -c "from pertxogai_freecad.documents import main; main('judge', 'FOLDER')"
+
+The commands are judge, repair, complete, range, certify and construction; they print what the
+window shows. The documents stay as they are: `certify` writes its claims beside them, and
+`complete` writes copies with all that it proposes into the folder that is named behind. FreeCAD
+ends with status 0 where all sketches are good (of `certify`: accepted by all checkers), 1 where one
+isn't, 2 where something can't be done."""
+from __future__ import annotations
+
+import sys
+from collections.abc import Callable, Iterator
+from contextlib import contextmanager
+from dataclasses import dataclass
+from enum import IntEnum
+from pathlib import Path
+from typing import TYPE_CHECKING
+
+import FreeCAD
+
+from pertxogai_freecad.freecad_types import OwnDocument
+from pertxogai_freecad.home import find_package, find_program, limit_of
+from pertxogai_freecad.settings import Settings
+from pertxogai_freecad.trouble import Trouble
+
+if TYPE_CHECKING:  # The package is found by `main`.
+    from pertxogai.judging.measure import Limit
+    from pertxogai.program import Program
+    from pertxogai_freecad.sketches import ReadSketch
+
+
+class Ends(IntEnum):
+    """How FreeCAD ends."""
+
+    GOOD = 0
+    NOT_GOOD = 1
+    TROUBLE = 2
+
+
+@dataclass(frozen=True)
+class Asked:
+    """What the commands ask, within what a constraint has to hold, and where copies go."""
+
+    program: Program
+    limit: Limit
+    out: Path | None
+
+
+Found = tuple[Iterator[str], bool]
+"""What is told of a sketch, in lines, and whether it is good."""
+
+
+def main(command: str, folder: str, out: str = "") -> None:
+    """Does a command for each document of a folder, or for one document, and ends FreeCAD."""
+    try:
+        status = run(command, Path(folder), Path(out) if out else None)
+    except Trouble as trouble:
+        print(f"pertxogai: {trouble}", file=sys.stderr)
+        status = Ends.TROUBLE
+    sys.stdout.flush()
+    sys.exit(int(status))
+
+
+def run(command: str, folder: Path, out: Path | None = None) -> Ends:
+    """Does a command for each document of a folder, or for one document, and prints what came of
+    it. Raises Trouble where nothing can be asked at all."""
+    if command not in COMMANDS:
+        raise Trouble(f"there is no command {command!r}: write one of {', '.join(COMMANDS)}")
+    paths = sorted(folder.glob("*.FCStd")) if folder.is_dir() else [folder]
+    if not paths:
+        raise Trouble(f"{folder} has no document (.FCStd)")
+    settings = Settings.stored()
+    find_package(settings)
+    asked = Asked(find_program(settings), limit_of(settings), out)
+    return max(_document(command, path, asked) for path in paths)
+
+
+def _document(command: str, path: Path, asked: Asked) -> Ends:
+    """Does a command for each sketch of one document."""
+    from pertxogai_freecad.sketches import read_sketches
+
+    ends = Ends.GOOD
+    try:
+        with _opened(path) as document:
+            print()  # FreeCAD's own line of progress has no end.
+            for read in read_sketches(document):
+                ends = max(ends, _sketch(command, read, asked))
+            if command == "complete" and asked.out is not None:
+                _copy(document, asked.out / path.name)
+    except Trouble as trouble:
+        print(f"{path.name}: {trouble}")
+        return Ends.TROUBLE
+    return ends
+
+
+@contextmanager
+def _opened(path: Path) -> Iterator[OwnDocument]:
+    """A document while it is asked about. Raises Trouble."""
+    try:
+        document: OwnDocument = FreeCAD.openDocument(str(path))
+    except Exception as error:  # FreeCAD raises what its readers do.
+        raise Trouble(f"FreeCAD can't open it: {error}") from None
+    try:
+        yield document
+    finally:
+        FreeCAD.closeDocument(document.Name)
+
+
+def _sketch(command: str, read: ReadSketch, asked: Asked) -> Ends:
+    """Does a command for one sketch, and prints what came of it."""
+    name = f"{Path(read.sketch.Document.FileName).name} {read.sketch.Name}"
+    try:
+        lines, is_good = COMMANDS[command](read, asked)
+        for line in lines:
+            print(f"{name}: {line}")
+    except Trouble as trouble:
+        print(f"{name}: {trouble}")
+        return Ends.NOT_GOOD
+    return Ends.GOOD if is_good else Ends.NOT_GOOD
+
+
+def _copy(document: OwnDocument, out: Path) -> None:
+    """Writes a copy of a document. Raises Trouble where a file is there already."""
+    if out.exists():
+        raise Trouble(f"{out} is there already, and isn't written over: name another folder")
+    out.parent.mkdir(parents=True, exist_ok=True)
+    document.saveCopy(str(out))
+
+
+def _judge(read: ReadSketch, asked: Asked) -> Found:
+    from pertxogai.judging import GoodJudgement
+    from pertxogai_freecad.judging import judge_sketch
+
+    judged = judge_sketch(read, asked.program, asked.limit)
+    return judged.lines(), isinstance(judged.good, GoodJudgement)
+
+
+def _repair(read: ReadSketch, asked: Asked) -> Found:
+    from pertxogai_freecad.judging import judge_sketch
+    from pertxogai_freecad.repairing import Repair
+
+    repair = Repair.of(judge_sketch(read, asked.program, asked.limit))
+    return repair.lines(), not repair.candidates
+
+
+def _complete(read: ReadSketch, asked: Asked) -> Found:
+    from pertxogai.output.completion_text import is_whole
+    from pertxogai_freecad.completing import Proposed
+
+    proposed = Proposed.of(read, asked.program, asked.limit)
+    if asked.out is not None and proposed.proposals:
+        proposed.take_all()
+    return proposed.lines(), is_whole(proposed.found, [*map(str, read.found.left_out)])
+
+
+def _range(read: ReadSketch, asked: Asked) -> Found:
+    from pertxogai_freecad.ranging import ranges
+
+    return ranges(read, asked.program, asked.limit), True
+
+
+def _certify(read: ReadSketch, asked: Asked) -> Found:
+    from pertxogai_freecad.certifying import certify
+    from pertxogai_freecad.judging import judge_sketch
+
+    certified = certify(judge_sketch(read, asked.program, asked.limit))
+    return certified.lines(), certified.is_accepted()
+
+
+def _construction(read: ReadSketch, asked: Asked) -> Found:
+    from pertxogai_freecad.constructing import construct
+    from pertxogai_freecad.judging import judge_sketch
+
+    return construct(judge_sketch(read, asked.program, asked.limit)).lines(), True
+
+
+COMMANDS: dict[str, Callable[["ReadSketch", Asked], Found]] = {
+    "judge": _judge, "repair": _repair, "complete": _complete, "range": _range,
+    "certify": _certify, "construction": _construction,
+}

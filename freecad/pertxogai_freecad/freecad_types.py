@@ -1,0 +1,51 @@
+"""What is used of FreeCAD's objects, for the checker of types: FreeCAD has no types of its own."""
+from __future__ import annotations
+
+from collections.abc import Sequence
+from typing import Any, Protocol
+
+
+class OwnConstraint(Protocol):
+    """A constraint of the Sketcher. Content: all of it, as FreeCAD stores it."""
+
+    Content: str
+
+
+class OwnCurve(Protocol):
+    """A shape of the Sketcher. Content: all of it, as FreeCAD stores it."""
+
+    TypeId: str
+    Content: str
+
+    def toShape(self) -> Any: ...
+
+
+class OwnDocument(Protocol):
+    """A document. FileName: its file, empty where it was never saved."""
+
+    Name: str
+    Label: str
+    FileName: str
+    Objects: Sequence[Any]
+
+    def saveCopy(self, path: str) -> object: ...
+    def openTransaction(self, name: str) -> object: ...
+    def commitTransaction(self) -> object: ...
+    def abortTransaction(self) -> object: ...
+    def recompute(self) -> object: ...
+
+
+class OwnSketch(Protocol):
+    """A sketch of a document."""
+
+    Name: str
+    Label: str
+    TypeId: str
+    Document: OwnDocument
+    Geometry: Sequence[Any]
+    Constraints: Sequence[OwnConstraint]
+    Shape: Any
+    ViewObject: Any
+
+    def addConstraint(self, added: Any) -> Any: ...
+    def delConstraint(self, index: int) -> object: ...

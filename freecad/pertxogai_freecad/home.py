@@ -1,0 +1,75 @@
+"""Where the package `pertxogai` and the program `sketch` lie: with the add-on, or installed."""
+from __future__ import annotations
+
+import importlib.util
+import os
+import sys
+from collections.abc import Iterator
+from dataclasses import replace
+from pathlib import Path
+from typing import TYPE_CHECKING
+
+from pertxogai_freecad.settings import Settings
+from pertxogai_freecad.trouble import Trouble, troubles
+
+if TYPE_CHECKING:  # The package is found by this module.
+    from pertxogai.judging.measure import Limit
+    from pertxogai.program import Program
+
+ADDON = Path(__file__).resolve().parents[1]
+"""The folder of the add-on, where links lead."""
+HOME_VARIABLE = "PERTXOGAI_HOME"
+PROGRAM_VARIABLE = "PERTXOGAI_SKETCH"
+LEAST = (3, 11)
+"""The least version of Python that the package takes."""
+
+
+def find_package(settings: Settings) -> None:
+    """Puts the package `pertxogai` on Python's path. Raises Trouble where it isn't found."""
+    if sys.version_info < LEAST:
+        raise Trouble(f"FreeCAD's Python is {sys.version.split()[0]}: Pertxogai needs 3.11 or "
+                      "later")
+    for folder in _folders(settings):
+        if (folder / "pertxogai" / "__init__.py").is_file():
+            if str(folder) not in sys.path:
+                sys.path.insert(0, str(folder))
+            return
+    if importlib.util.find_spec("pertxogai") is None:
+        raise Trouble("the Python package pertxogai isn't found: install Pertxogai, or name the "
+                      "folder that has it in Edit, Preferences.., Pertxogai")
+
+
+def _folders(settings: Settings) -> Iterator[Path]:
+    """Where the package may lie: as it is set, in the repository that a variable names, with the
+    add-on, and in the repository that has the add-on."""
+    if settings.package:
+        yield Path(settings.package)
+    if HOME_VARIABLE in os.environ:
+        yield Path(os.environ[HOME_VARIABLE], "python")
+    yield ADDON / "python"
+    yield ADDON.parent / "python"
+
+
+def find_program(settings: Settings) -> Program:
+    """The program: the one that is set, that the variable PERTXOGAI_SKETCH names, that the add-on
+    carries, or as ./pertxogai finds it. Raises Trouble."""
+    find_package(settings)
+    from pertxogai.program import Program
+
+    carried = ADDON / "bin" / "sketch"
+    named = settings.program or os.environ.get(PROGRAM_VARIABLE)
+    if not named and os.access(carried, os.X_OK):
+        named = str(carried)
+    with troubles():
+        return replace(Program.find(named), seconds=float(settings.seconds))
+
+
+def limit_of(settings: Settings) -> Limit:
+    """Within what a constraint has to hold. Raises Trouble."""
+    find_package(settings)
+    from pertxogai.judging.measure import Limit
+
+    try:
+        return Limit(settings.within)
+    except ValueError as error:
+        raise Trouble(f"{error}: change it in Edit, Preferences.., Pertxogai") from None

@@ -1,0 +1,108 @@
+"""The command Repair: which constraints may go, which of them are redundant and which conflict, and
+by how much."""
+from __future__ import annotations
+
+from collections.abc import Iterator
+from dataclasses import dataclass
+from enum import Enum
+
+from pertxogai.judging import Then
+from pertxogai.judging.measure import amount_text
+from pertxogai_freecad import changes
+from pertxogai_freecad.judging import JudgedSketch, Standing
+from pertxogai_freecad.trouble import Trouble
+
+REST = {
+    None: "", Then.WELL: "fully constrained", Then.OPEN: "under-constrained",
+    Then.NO_PLACES: "fully constrained, but has no places", Then.OVER: "still over-constrained",
+}
+"""What the program says of the rest, in the trade's words."""
+
+
+class By(Enum):
+    """Who says that a constraint may go; the values are shown."""
+
+    TRIED = "by rank, and tried by the program"
+    RANK = "by rank"
+    PROGRAM = "named by the program"
+
+
+@dataclass(frozen=True)
+class Candidate:
+    """A constraint of FreeCAD's that may go. index: its number, from 0. off: how far it is off
+    where the rest is placed, empty where that isn't known. rest: what the rest is without it, empty
+    where that wasn't tried. others: the constraints that it follows from or contradicts. by: who
+    says that it may go."""
+
+    index: int
+    name: str
+    standing: Standing
+    off: str = ""
+    rest: str = ""
+    others: tuple[str, ...] = ()
+    by: By = By.RANK
+
+    def line(self) -> str:
+        """All of it, to read."""
+        off = f", off by {self.off}" if self.off else ""
+        with_others = f", with {', '.join(self.others)}" if self.others else ""
+        rest = f"; the rest is {self.rest} without it" if self.rest else ""
+        return f"{self.name}: {self.standing.value}{off}{with_others}{rest} ({self.by.value})"
+
+
+@dataclass(frozen=True)
+class Repair:
+    """What may go of a judged sketch."""
+
+    judged: JudgedSketch
+    candidates: tuple[Candidate, ...]
+
+    @staticmethod
+    def of(judged: JudgedSketch) -> Repair:
+        """Contradictions first; where it isn't over, what repeats others all the same."""
+        found: dict[int, Candidate] = {}
+        for each in (*_surplus(judged), *_repeats(judged), *_by_rank(judged)):
+            found.setdefault(each.index, each)
+        return Repair(judged, tuple(found.values()))
+
+    def lines(self) -> Iterator[str]:
+        """What may go, in lines to read."""
+        yield self.judged.headline()
+        yield from (f"  {each.line()}" for each in self.candidates)
+        if not self.candidates:
+            yield "  nothing is too many"
+        elif len(self.candidates) > 1:
+            yield "  take one away, and judge again"
+
+    def take_away(self, index: int) -> None:
+        """Takes one of these away, which FreeCAD's undo brings back. Raises Trouble where it is
+        none of these, or the sketch was changed since."""
+        if all(each.index != index for each in self.candidates):
+            raise Trouble(f"constraint {index + 1} isn't among those that may go")
+        changes.remove(self.judged.read, index)
+
+
+def _surplus(judged: JudgedSketch) -> Iterator[Candidate]:
+    """What may go of what is over."""
+    standing = {True: Standing.REDUNDANT, False: Standing.CONFLICTING, None: Standing.MAY_GO}
+    untried = By.PROGRAM if judged.judged.judgement.free is None else By.RANK
+    for each in judged.judged.judgement.surplus:
+        off = amount_text(each.off) if each.off is not None else ""
+        yield Candidate(judged.read.index(each.number), each.name, standing[each.repeats()], off,
+                        REST[each.then], each.others, untried if each.then is None else By.TRIED)
+
+
+def _repeats(judged: JudgedSketch) -> Iterator[Candidate]:
+    """What says again what follows already, and is no line of the program's sketch."""
+    for name in judged.judged.judgement.repeats:
+        if name in judged.read.indices:
+            yield Candidate(judged.read.indices[name], name, Standing.REDUNDANT)
+
+
+def _by_rank(judged: JudgedSketch) -> Iterator[Candidate]:
+    """Of what isn't over, groups of which one is too many all the same."""
+    for group in judged.judged.judgement.too_many:
+        for name in group:
+            if name in judged.read.indices:
+                others = tuple(each for each in group if each != name)
+                yield Candidate(judged.read.indices[name], name, Standing.MAY_GO, others=others)

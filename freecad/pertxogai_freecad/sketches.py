@@ -1,0 +1,95 @@
+"""A sketch of an open document, and what the package reads of it."""
+from __future__ import annotations
+
+from collections.abc import Mapping
+from dataclasses import dataclass
+from functools import cached_property
+from pathlib import Path
+from tempfile import TemporaryDirectory
+
+from pertxogai.drawing import Drawing, Shape
+from pertxogai.files.contents import FileSketch
+from pertxogai.files.freecad import read_freecad
+from pertxogai.files.freecad.reading import SKETCH
+from pertxogai.files.freecad.shapes import number_of
+from pertxogai_freecad.freecad_types import OwnDocument, OwnSketch
+from pertxogai_freecad.trouble import Trouble, troubles
+
+CHANGED = "the sketch was changed since: judge it again"
+
+
+@dataclass(frozen=True)
+class ReadSketch:
+    """A sketch, and what is read of it. stored: its constraints and its shapes, as FreeCAD stores
+    them, when it was read."""
+
+    sketch: OwnSketch
+    found: FileSketch
+    stored: tuple[tuple[str, ...], tuple[str, ...]]
+
+    @property
+    def drawing(self) -> Drawing:
+        """What is drawn."""
+        return self.found.drawing
+
+    @property
+    def label(self) -> str:
+        """What its designer calls it."""
+        return self.found.label
+
+    def index(self, number: int) -> int:
+        """FreeCAD's number of a constraint, from 0, by that of the drawing, from 1."""
+        return self.found.numbers[number - 1] - 1
+
+    @cached_property
+    def indices(self) -> Mapping[str, int]:
+        """FreeCAD's number of each constraint by its name in the drawing."""
+        named = enumerate(self.drawing.constraints, 1)
+        return {self.drawing.called(number): self.index(number) for number, _ in named}
+
+    def numbers(self, index: int) -> tuple[int, ...]:
+        """What a constraint of FreeCAD's says in the drawing, by places from 1."""
+        return tuple(number for number, of in enumerate(self.found.numbers, 1) if of == index + 1)
+
+    def curves(self) -> Mapping[int, Shape]:
+        """The drawing's shapes by FreeCAD's numbers from 0, but for outer geometry."""
+        return {number_of(each.name): each for each in self.drawing.geometry if not each.outer}
+
+    def check_constraints(self) -> None:
+        """Raises Trouble where the sketch has other constraints than were read."""
+        if stored_of(self.sketch)[0] != self.stored[0]:
+            raise Trouble(CHANGED)
+
+    def check_unchanged(self) -> None:
+        """Raises Trouble where the sketch has other constraints or shapes than were read."""
+        if stored_of(self.sketch) != self.stored:
+            raise Trouble(CHANGED)
+
+
+def stored_of(sketch: OwnSketch) -> tuple[tuple[str, ...], tuple[str, ...]]:
+    """A sketch's constraints and shapes as FreeCAD stores them. Raises Trouble where the sketch is
+    gone."""
+    try:
+        return (tuple(each.Content for each in sketch.Constraints),
+                tuple(each.Content for each in sketch.Geometry))
+    except ReferenceError:
+        raise Trouble("the sketch was deleted: select another, and judge that") from None
+
+
+def read_sketch(sketch: OwnSketch) -> ReadSketch:
+    """What the package reads of a sketch, from a copy of its document. Raises Trouble."""
+    return next(each for each in read_sketches(sketch.Document)
+                if each.sketch.Name == sketch.Name)
+
+
+def read_sketches(document: OwnDocument) -> tuple[ReadSketch, ...]:
+    """Every sketch of a document, in its order. Raises Trouble where it has none."""
+    sketches = {each.Name: each for each in document.Objects if each.TypeId == SKETCH}
+    if not sketches:
+        raise Trouble(f"{document.Label} has no sketch: draw one in the Sketcher")
+    with TemporaryDirectory(prefix="pertxogai-") as room, troubles():
+        copy = Path(room, "copy.FCStd")
+        document.saveCopy(str(copy))
+        found = read_freecad(copy)
+    return tuple(ReadSketch(sketches[each.name], each, stored_of(sketches[each.name]))
+                 for each in found)

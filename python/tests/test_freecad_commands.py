@@ -1,0 +1,196 @@
+"""The work of each command of FreeCAD's add-on, done in FreeCAD's console on the files of the stock.
+Passed over where FreeCAD isn't installed (Debian's `freecad`)."""
+from __future__ import annotations
+
+import hashlib
+import json
+import re
+from pathlib import Path
+from typing import Any
+
+import pytest
+
+from addon import ADDON, CHECKS, CONSOLE, FILES, Installed
+from pertxogai.program import Program
+
+pytestmark = pytest.mark.skipif(CONSOLE is None, reason="Debian's freecad isn't installed")
+
+WELL = "Sketch is well: fully constrained"
+OPEN = "Sketch is open: under-constrained, or rigid in a way not found"
+CHANGED = "the sketch was changed since: judge it again"
+SOLVED = [0, True]
+"""FreeCAD's own solver has solved it, and calls it fully constrained."""
+
+
+@pytest.fixture(scope="module")
+def told(program: Program, tmp_path_factory: pytest.TempPathFactory) -> dict[str, Any]:
+    """The facts of each check."""
+    here = Installed.by_link(tmp_path_factory.mktemp("home"))
+    here.copy(*(each.stem for each in FILES.glob("*.FCStd")))
+    out = here.home / "told"
+    ended = here.console(CHECKS / "addon_check.py", TOLD=str(out), PERTXOGAI_SKETCH=program.path)
+    assert out.exists(), ended.stdout + ended.stderr
+    found: dict[str, Any] = json.loads(out.read_text())
+    for facts in found.values():
+        assert "error" not in facts, facts["error"]
+    return found
+
+
+def test_a_plate_is_judged_constraint_by_constraint(told: dict[str, Any]) -> None:
+    plate = told["judge plate"]
+    assert plate["headline"] == WELL and plate["good"]
+    assert plate["freedoms"] == "0 degrees of freedom (by numbers)"
+    assert plate["tolerance"] == "placed within 0 nm and 0 ppb"
+    # Four corners, four directions, the pin, two sizes, and three dimensions of each hole.
+    assert [row[0] for row in plate["rows"]] == list(range(17))
+    assert {(row[3], row[4]) for row in plate["rows"]} == {("0 nm", "holds")}
+    assert plate["rows"][4][1:3] == ["Constraint5", "horizontal Line1"]
+
+
+def test_what_is_left_out_is_told_by_the_constraint(told: dict[str, Any]) -> None:
+    plate = told["judge ellipse"]
+    assert not plate["good"] and len(plate["rows"]) == 16
+    assert [row[4] for row in plate["rows"]] == ["holds"] * 11 + ["left out"] * 5
+    assert plate["rows"][15][1:3] == ["Constraint16", "it speaks of Ellipse5, which is left out"]
+
+
+def test_an_open_plate_has_its_freedom_counted(told: dict[str, Any]) -> None:
+    plate = told["judge plate-without-height"]
+    assert plate["headline"] == OPEN and not plate["good"]
+    assert plate["freedoms"] == "1 degree of freedom (by numbers)"
+    assert plate["tolerance"] == "no places by the program"
+
+
+@pytest.mark.parametrize("name", ["plate", "ellipse", "plate-without-height"])
+def test_judging_changes_nothing(name: str, told: dict[str, Any]) -> None:
+    facts = told[f"judge {name}"]
+    assert facts["unchanged"] and facts["undo"] == [] and facts["file"] == f"{name}.FCStd"
+
+
+@pytest.mark.parametrize("name,standing,off", [
+    ("twice", "redundant", "0 nm"), ("contradiction", "conflicting", "5 mm")])
+def test_what_may_go_goes_and_comes_back(name: str, standing: str, off: str,
+                                         told: dict[str, Any]) -> None:
+    """Two widths, 60 and 60 or 55 mm, and the two upright sides between them: any may go."""
+    facts = told[f"repair {name}"]
+    each = [standing, off, "fully constrained", "by rank, and tried by the program"]
+    assert facts["told"] == dict.fromkeys(["above", "below", "Constraint6", "Constraint8"], each)
+    assert facts["untouched"] and facts["wrong"] == "constraint 1 isn't among those that may go"
+    assert facts["left"] == [11, False] and facts["says"] == SOLVED and facts["then"] == WELL
+    assert facts["undo"] == ["Remove above (Pertxogai)"] and facts["undone"]
+    assert facts["stale"] == CHANGED
+
+
+@pytest.mark.parametrize("name", ["plate-without-height", "hinge", "plate-with-loose-hole"])
+def test_the_one_dimension_that_is_missing_is_taken_and_comes_back(
+        name: str, told: dict[str, Any]) -> None:
+    facts = told[f"complete {name}"]
+    assert len(facts["lines"]) == facts["one"] == facts["added"] == 1 and facts["untouched"]
+    assert facts["says"] == SOLVED and facts["then"] == WELL
+    assert facts["undo"] == ["Add 1 dimension (Pertxogai)"] and facts["undone"]
+    assert facts["stale"] == CHANGED
+
+
+def test_all_that_is_missing_is_one_step_of_undo(told: dict[str, Any]) -> None:
+    facts = told["complete_two plate"]
+    assert facts["proposed"] == facts["added"] == 2 and facts["steps"] == 1
+    assert facts["says"] == SOLVED and facts["then"] == WELL and facts["undone"]
+
+
+def test_where_nothing_is_missing_nothing_is_added(told: dict[str, Any]) -> None:
+    facts = told["complete_nothing plate"]
+    assert facts["lines"] == ["Sketch: well: nothing is missing"]
+    assert facts["take"] == "nothing is proposed, so nothing is added"
+
+
+def test_shapes_are_placed_and_come_back(told: dict[str, Any]) -> None:
+    facts = told["place link"]
+    assert facts["moved_nm"] < 2000  # FreeCAD's own rounding.
+    assert facts["says"] == SOLVED and facts["undo"] == ["Place (Pertxogai)"]
+    assert facts["stale"] == CHANGED and facts["undone"]
+
+
+def test_a_claim_and_its_verification_lie_beside_the_document(told: dict[str, Any]) -> None:
+    facts = told["certify link"]
+    assert facts["files"] == ["link-Sketch.claim", "link-Sketch.verification"]
+    assert facts["beside"] and facts["accepted"] and facts["claim"] == "sketch 1\n"
+    checkers = [line.partition(": ") for line in facts["verification"]]
+    assert [each[0] for each in checkers] == ["sketch verify", "sketch_claim.py", "sketch_claim.c"]
+    assert all(each[2].startswith("verified steps ") for each in checkers)
+
+
+def test_no_claim_of_what_is_not_good_or_not_saved(told: dict[str, Any]) -> None:
+    over = "Sketch isn't good, so no claim is written: it is over"
+    assert told["certify twice"]["trouble"] == over
+    assert told["certify unsaved"]["trouble"].startswith("the document was never saved: save it")
+
+
+def test_a_construction_joins_three_clusters_at_each_step(told: dict[str, Any]) -> None:
+    """13 constraints of 8 elements become one cluster by 6 steps, each of two helping lines."""
+    facts = told["construction plate"]
+    assert facts["steps"] == [1, 2, 3, 4, 5, 6] and facts["help"] == [2] * 6
+    assert facts["last"] == [0, 1, 2, 3, 4, 5]
+    assert told["construction twice"]["trouble"].endswith("so it has no construction: it is over")
+
+
+def test_a_range_or_what_is_missing_for_it(told: dict[str, Any]) -> None:
+    facts = told["range plate"]
+    if facts["trouble"] is None:
+        assert facts["lines"][0] == "Sketch: 1 range"
+    else:
+        assert "pertxogai.ranging is missing" in facts["trouble"]
+
+
+def test_what_is_set_wrongly_is_told_by_name(told: dict[str, Any]) -> None:
+    assert told["program lost"]["trouble"].startswith("/nowhere/sketch is no program that can be run")
+    assert told["program within"]["trouble"].endswith("change it in Edit, Preferences.., Pertxogai")
+
+
+def sums(folder: Path) -> dict[str, str]:
+    """The checksum of each document of a folder."""
+    return {each.name: hashlib.sha256(each.read_bytes()).hexdigest()
+            for each in folder.glob("*.FCStd")}
+
+
+def asked(here: Installed, program: Program, *words: str) -> tuple[int, list[str]]:
+    """How FreeCAD ends that is asked about a folder, and what is told of its documents."""
+    code = f"from pertxogai_freecad.documents import main; main{words!r}"
+    ended = here.console("-c", code, PERTXOGAI_SKETCH=program.path)
+    lines = [*ended.stdout.splitlines(), *ended.stderr.splitlines()]
+    return ended.returncode, [each for each in lines
+                              if re.match(r"\S+\.FCStd( \w+)?: |pertxogai: ", each)]
+
+
+def test_a_folder_of_documents_is_judged_without_a_window(program: Program,
+                                                          tmp_path: Path) -> None:
+    here = Installed.by_link(tmp_path)
+    here.copy("plate", "twice", "empty")
+    before = sums(here.folder)
+    status, lines = asked(here, program, "judge", str(here.folder))
+    assert status == 2
+    assert "empty.FCStd: empty has no sketch: draw one in the Sketcher" in lines
+    assert any(each.startswith("plate.FCStd Sketch: Sketch: well, ") for each in lines)
+    assert any(each.startswith("twice.FCStd Sketch: Sketch: over, ") for each in lines)
+    assert sums(here.folder) == before
+
+
+def test_a_folder_is_completed_into_another(program: Program, tmp_path: Path) -> None:
+    here = Installed.by_link(tmp_path)
+    here.copy("plate-without-height")
+    before, out = sums(here.folder), tmp_path / "completed"
+    status, lines = asked(here, program, "complete", str(here.folder), str(out))
+    assert status == 0 and sums(here.folder) == before, lines
+    status, lines = asked(here, program, "judge", str(out))
+    assert status == 0 and lines[0].startswith("plate-without-height.FCStd Sketch: Sketch: well, ")
+
+
+@pytest.mark.skipif(Path("/usr/lib/python3/dist-packages/pertxogai").exists(),
+                    reason="the package is installed, so FreeCAD finds it")
+def test_without_the_package_its_name_is_told(program: Program, tmp_path: Path) -> None:
+    here = Installed.by_copy(tmp_path)
+    here.copy("plate")
+    status, lines = asked(here, program, "judge", str(here.folder))
+    assert status == 2
+    assert lines == ["pertxogai: the Python package pertxogai isn't found: install Pertxogai, or name "
+                     "the folder that has it in Edit, Preferences.., Pertxogai"]
+    assert not (ADDON / "python").exists()

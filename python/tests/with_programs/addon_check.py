@@ -1,0 +1,223 @@
+"""Does the work of each command of the add-on in FreeCAD's console, and writes what came of it.
+
+    freecadcmd python/tests/with_programs/addon_check.py
+
+The add-on is installed in FreeCAD's folder Mod. FOLDER has copies of the files of python/tests/files
+that may be changed; TOLD names the file to write: one object of JSON with the facts of each check by
+its name. What is expected stands in python/tests/test_freecad_commands.py.
+"""
+import json
+import os
+import traceback
+from pathlib import Path
+
+import FreeCAD
+from pertxogai_freecad.home import find_package, find_program, limit_of
+from pertxogai_freecad.settings import Settings
+from pertxogai_freecad.trouble import Trouble
+
+SETTINGS = Settings()
+find_package(SETTINGS)
+from pertxogai_freecad.certifying import certify  # noqa: E402
+from pertxogai_freecad.changes import place  # noqa: E402
+from pertxogai_freecad.completing import Proposed  # noqa: E402
+from pertxogai_freecad.constructing import construct  # noqa: E402
+from pertxogai_freecad.judging import judge_sketch  # noqa: E402
+from pertxogai_freecad.ranging import ranges  # noqa: E402
+from pertxogai_freecad.repairing import Repair  # noqa: E402
+from pertxogai_freecad.sketches import read_sketch, stored_of  # noqa: E402
+
+ARCS, END = (0, 1), 2
+"""The numbers of two arcs of the link, and of a shape's end."""
+WIDTH, HEIGHT = 9, 10
+"""The numbers of two dimensions of the plate, from 0."""
+PROGRAM, LIMIT = find_program(SETTINGS), limit_of(SETTINGS)
+
+
+def opened(name):
+    """The sketch of a file, in a document that can undo."""
+    document = FreeCAD.openDocument(os.path.join(os.environ["FOLDER"], name + ".FCStd"))
+    document.UndoMode = 1
+    return document.getObject("Sketch")
+
+
+def judged(sketch):
+    """A sketch of an open document, judged."""
+    return judge_sketch(read_sketch(sketch), PROGRAM, LIMIT)
+
+
+def trouble_of(act):
+    """The line of the trouble that something meets; None where it meets none."""
+    try:
+        act()
+    except Trouble as trouble:
+        return str(trouble)
+    return None
+
+
+def freecad_says(sketch):
+    """What FreeCAD's own solver says."""
+    return [sketch.solve(), sketch.FullyConstrained]
+
+
+def check_judge():
+    """What is told of a plate with two holes, of one with an ellipse, and of one that is open."""
+    for name in ("plate", "ellipse", "plate-without-height"):
+        sketch = opened(name)
+        before = stored_of(sketch)
+        found = judged(sketch)
+        yield name, {
+            "headline": found.headline(), "freedoms": found.freedoms(),
+            "tolerance": found.tolerance(), "good": not isinstance(found.good, Exception),
+            "rows": [[row.index, row.name, row.says, row.off, row.standing.value]
+                     for row in found.rows()],
+            "unchanged": stored_of(sketch) == before, "undo": sketch.Document.UndoNames,
+            "file": os.path.basename(sketch.Document.FileName)}
+        FreeCAD.closeDocument(sketch.Document.Name)
+
+
+def check_repair():
+    """A width too many, of another that agrees and of one that doesn't: taken away, and undone."""
+    for name in ("twice", "contradiction"):
+        sketch = opened(name)
+        before, document = stored_of(sketch), sketch.Document
+        repair = Repair.of(judged(sketch))
+        told = {each.name: [each.standing.value, each.off, each.rest, each.by.value]
+                for each in repair.candidates}
+        untouched = stored_of(sketch) == before
+        (above,) = (each for each in repair.candidates if each.name == "above")
+        wrong = trouble_of(lambda: repair.take_away(0))
+        repair.take_away(above.index)
+        stale = trouble_of(lambda: repair.take_away(above.index))
+        names = [each.Name for each in sketch.Constraints]
+        after = judged(sketch)
+        says, undo = freecad_says(sketch), list(document.UndoNames)
+        document.undo()
+        yield name, {"told": told, "untouched": untouched, "wrong": wrong, "stale": stale,
+                     "left": [len(names), "above" in names], "says": says, "undo": undo,
+                     "then": after.headline(), "undone": stored_of(sketch) == before}
+        FreeCAD.closeDocument(document.Name)
+
+
+def check_complete():
+    """What lacks one dimension, and what lacks more: taken one by one, or all; and undone."""
+    for name in ("plate-without-height", "hinge", "plate-with-loose-hole"):
+        sketch = opened(name)
+        before, document = stored_of(sketch), sketch.Document
+        proposed = Proposed.of(read_sketch(sketch), PROGRAM, LIMIT)
+        untouched = stored_of(sketch) == before
+        proposed.take([0])
+        one = len(sketch.Constraints) - len(before[0])
+        stale = trouble_of(proposed.take_all)
+        document.undo()
+        Proposed.of(read_sketch(sketch), PROGRAM, LIMIT).take_all()
+        added = len(sketch.Constraints) - len(before[0])
+        says, undo = freecad_says(sketch), list(document.UndoNames)
+        after = judged(sketch).headline()
+        document.undo()
+        yield name, {"lines": [each.line() for each in proposed.proposals], "one": one,
+                     "stale": stale, "untouched": untouched, "added": added, "says": says,
+                     "undo": undo, "then": after, "undone": stored_of(sketch) == before}
+        FreeCAD.closeDocument(document.Name)
+
+
+def check_complete_two():
+    """A plate without its two sizes: both taken in one step, and undone at once."""
+    sketch = opened("plate")
+    document = sketch.Document
+    for number in (HEIGHT, WIDTH):
+        sketch.delConstraint(number)
+    before, known = stored_of(sketch), len(document.UndoNames)
+    proposed = Proposed.of(read_sketch(sketch), PROGRAM, LIMIT)
+    proposed.take_all()
+    added, says = len(sketch.Constraints) - len(before[0]), freecad_says(sketch)
+    after, steps = judged(sketch).headline(), len(document.UndoNames) - known
+    document.undo()
+    yield "plate", {"proposed": len(proposed.proposals), "added": added, "says": says,
+                    "then": after, "steps": steps, "undone": stored_of(sketch) == before}
+    FreeCAD.closeDocument(document.Name)
+
+
+def check_complete_nothing():
+    """What lacks nothing."""
+    sketch = opened("plate")
+    proposed = Proposed.of(read_sketch(sketch), PROGRAM, LIMIT)
+    yield "plate", {"lines": list(proposed.lines()), "take": trouble_of(proposed.take_all)}
+    FreeCAD.closeDocument(sketch.Document.Name)
+
+
+def check_place():
+    """A link of arcs, placed, and taken back."""
+    sketch = opened("link")
+    sketch.Document.recompute()
+    document, before = sketch.Document, stored_of(sketch)
+    ends = [sketch.getPoint(curve, END) for curve in ARCS]
+    found = judged(sketch)
+    place(found.read, found.good)
+    moved = max(old.distanceToPoint(sketch.getPoint(curve, END)) for old, curve in zip(ends, ARCS))
+    says, undo = freecad_says(sketch), list(document.UndoNames)
+    stale = trouble_of(lambda: place(found.read, found.good))
+    document.undo()
+    yield "link", {"moved_nm": moved * 1e6, "says": says, "undo": undo,
+                   "stale": stale, "undone": stored_of(sketch) == before}
+    FreeCAD.closeDocument(document.Name)
+
+
+def check_certify():
+    """A link that is good, a plate that isn't, and a document that was never saved."""
+    sketch = opened("link")
+    found = certify(judged(sketch))
+    yield "link", {"files": [found.claim.name, found.verification.name],
+                   "beside": str(found.claim.parent) == os.environ["FOLDER"],
+                   "accepted": found.is_accepted(), "claim": found.claim.read_text()[:9],
+                   "verification": found.verification.read_text().splitlines()}
+    FreeCAD.closeDocument(sketch.Document.Name)
+    sketch = opened("twice")
+    yield "twice", {"trouble": trouble_of(lambda: certify(judged(sketch)))}
+    FreeCAD.closeDocument(sketch.Document.Name)
+    document = FreeCAD.newDocument("unsaved")
+    copied = document.copyObject(opened("plate"))
+    yield "unsaved", {"trouble": trouble_of(lambda: certify(judged(copied)))}
+
+
+def check_construction():
+    """A plate with two holes, step by step, and one that isn't good."""
+    found = construct(judged(opened("plate")))
+    yield "plate", {"steps": [each.number for each in found.steps],
+                    "help": [len(each.help) for each in found.steps],
+                    "last": sorted(found.steps[-1].shapes)}
+    yield "twice", {"trouble": trouble_of(lambda: construct(judged(opened("twice"))))}
+
+
+def check_range():
+    """How far a plate's width may go; or that the package has no ranges."""
+    read = read_sketch(opened("plate"))
+    asked = frozenset({WIDTH})
+    try:
+        yield "plate", {"lines": list(ranges(read, PROGRAM, LIMIT, asked)), "trouble": None}
+    except Trouble as trouble:
+        yield "plate", {"lines": [], "trouble": str(trouble)}
+
+
+def check_program():
+    """A program that isn't there."""
+    lost = Settings(program="/nowhere/sketch")
+    yield "lost", {"trouble": trouble_of(lambda: find_program(lost))}
+    yield "within", {"trouble": trouble_of(lambda: limit_of(Settings(within=0)))}
+
+
+def main():
+    """All of it, and the end."""
+    told = {}
+    for check in (check_judge, check_repair, check_complete, check_complete_two,
+                  check_complete_nothing, check_place, check_certify, check_construction,
+                  check_range, check_program):
+        word = check.__name__.removeprefix("check_")
+        try:
+            told.update((f"{word} {name}", facts) for name, facts in check())
+        except Exception:
+            told[word] = {"error": traceback.format_exc()}
+    Path(os.environ["TOLD"]).write_text(json.dumps(told, indent=1))
+
+
+main()
