@@ -17,6 +17,7 @@ from pertxogai.judging.measure import Solution
 from pertxogai.judging.measure.upright import upright
 from pertxogai_freecad.freecad_types import OwnDocument
 from pertxogai_freecad.sketches import ReadSketch
+from pertxogai_freecad.trouble import Trouble
 
 NM_PER_MM = 1e6
 TYPES = {
@@ -32,13 +33,14 @@ VALUED = {Kind.DISTANCE, Kind.DISTANCE_X, Kind.DISTANCE_Y, Kind.ANGLE, Kind.RADI
 
 @contextmanager
 def one_step(document: OwnDocument, name: str) -> Iterator[None]:
-    """What is done within is one step of FreeCAD's undo, or isn't done at all."""
+    """What is done within is one step of FreeCAD's undo, or isn't done at all. Raises Trouble where
+    FreeCAD refuses it."""
     document.openTransaction(name)
     try:
         yield
-    except BaseException:
+    except Exception as error:  # FreeCAD raises ValueError, TypeError and errors of its own.
         document.abortTransaction()
-        raise
+        raise Trouble(f"FreeCAD refuses it, and nothing is changed: {error}") from error
     document.commitTransaction()
     document.recompute()
 

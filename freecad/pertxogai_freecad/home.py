@@ -5,6 +5,7 @@ import importlib.util
 import os
 import sys
 from collections.abc import Iterator
+from contextlib import suppress
 from dataclasses import replace
 from pathlib import Path
 from typing import TYPE_CHECKING
@@ -56,12 +57,19 @@ def find_program(settings: Settings) -> Program:
     find_package(settings)
     from pertxogai.program import Program
 
-    carried = ADDON / "bin" / "sketch"
-    named = settings.program or os.environ.get(PROGRAM_VARIABLE)
-    if not named and os.access(carried, os.X_OK):
-        named = str(carried)
+    named = settings.program or os.environ.get(PROGRAM_VARIABLE) or _carried()
     with troubles():
         return replace(Program.find(named), seconds=float(settings.seconds))
+
+
+def _carried() -> str | None:
+    """The program that the add-on carries, which an unpacker may have left without the right to be
+    run; None where it carries none."""
+    carried = ADDON / "bin" / "sketch"
+    if carried.is_file() and not os.access(carried, os.X_OK):
+        with suppress(OSError):
+            carried.chmod(0o755)
+    return str(carried) if os.access(carried, os.X_OK) else None
 
 
 def limit_of(settings: Settings) -> Limit:

@@ -1,23 +1,35 @@
-"""The work of each command of FreeCAD's add-on, done in FreeCAD's console on the files of the stock.
+"""The work of each command of FreeCAD's add-on, done in FreeCAD's console on files of the stock.
 Passed over where FreeCAD isn't installed (Debian's `freecad`)."""
 from __future__ import annotations
 
 import hashlib
 import json
+import os
 import re
+import shutil
+import sys
+from importlib.util import find_spec
 from pathlib import Path
 from typing import Any
 
 import pytest
 
 from addon import ADDON, CHECKS, CONSOLE, FILES, Installed
+from conftest import TOP
 from pertxogai.program import Program
+
+sys.path.insert(0, str(TOP / "tools"))
+from packing.addon import make_addon  # noqa: E402
+from packing.made import Made  # noqa: E402
 
 pytestmark = pytest.mark.skipif(CONSOLE is None, reason="Debian's freecad isn't installed")
 
 WELL = "Sketch is well: fully constrained"
 OPEN = "Sketch is open: under-constrained, or rigid in a way not found"
 CHANGED = "the sketch was changed since: judge it again"
+NOON = 1764331200
+"""28 November 2025, 12:00, in seconds since 1970."""
+HAS_RANGES = find_spec("pertxogai.ranging") is not None
 SOLVED = [0, True]
 """FreeCAD's own solver has solved it, and calls it fully constrained."""
 
@@ -133,16 +145,25 @@ def test_a_construction_joins_three_clusters_at_each_step(told: dict[str, Any]) 
     assert told["construction twice"]["trouble"].endswith("so it has no construction: it is over")
 
 
-def test_a_range_or_what_is_missing_for_it(told: dict[str, Any]) -> None:
-    facts = told["range plate"]
-    if facts["trouble"] is None:
-        assert facts["lines"][0] == "Sketch: 1 range"
-    else:
-        assert "pertxogai.ranging is missing" in facts["trouble"]
+@pytest.mark.skipif(not HAS_RANGES, reason="the package has no ranges yet")
+def test_a_plate_is_as_narrow_as_its_second_hole_lets_it_be(told: dict[str, Any]) -> None:
+    """The hole's centre lies 45 mm from the left edge, and its radius is 5 mm."""
+    first, second, *_ = told["range plate"]["lines"]
+    assert first == "Sketch: 1 range"
+    least = re.match(r"  Constraint10: from (\S+) to \S+ mm, now 60, ", second)
+    assert least is not None and 50 <= float(least[1]) <= 50.001
+    assert "no dimension is selected: click on one" in told["range nothing"]["trouble"]
+
+
+@pytest.mark.skipif(HAS_RANGES, reason="the package has ranges")
+def test_without_ranges_it_is_told_what_is_missing(told: dict[str, Any]) -> None:
+    assert told["range plate"]["lines"] == []
+    assert "its module pertxogai.ranging is missing" in told["range plate"]["trouble"]
 
 
 def test_what_is_set_wrongly_is_told_by_name(told: dict[str, Any]) -> None:
-    assert told["program lost"]["trouble"].startswith("/nowhere/sketch is no program that can be run")
+    lost = told["program lost"]["trouble"]
+    assert lost.startswith("/nowhere/sketch is no program that can be run")
     assert told["program within"]["trouble"].endswith("change it in Edit, Preferences.., Pertxogai")
 
 
@@ -184,6 +205,23 @@ def test_a_folder_is_completed_into_another(program: Program, tmp_path: Path) ->
     assert status == 0 and lines[0].startswith("plate-without-height.FCStd Sketch: Sketch: well, ")
 
 
+def test_the_add_on_of_a_release_has_all_that_it_needs(program: Program, tmp_path: Path) -> None:
+    """Unpacked among FreeCAD's add-ons, with nothing else installed, and nothing named."""
+    made = Made(TOP, Path(program.path), tmp_path, tmp_path, "1.2.3", NOON, "gate\n")
+    packed = make_addon(made, tmp_path)
+    assert packed.name == "pertxogai-freecad-1.2.3-x86_64-linux.zip"
+    first = packed.read_bytes()
+    assert make_addon(made, tmp_path).read_bytes() == first
+    here = Installed.empty(tmp_path)
+    shutil.unpack_archive(packed, here.mod)
+    assert not os.access(here.mod / "Pertxogai" / "bin" / "sketch", os.X_OK)  # FreeCAD's own way.
+    here.copy("link")
+    code = f"from pertxogai_freecad.documents import main; main('certify', {str(here.folder)!r})"
+    ended = here.console("-c", code, PERTXOGAI_SKETCH="")
+    assert ended.returncode == 0, ended.stdout + ended.stderr
+    assert (here.folder / "link-Sketch.verification").read_text().count(": verified steps 12 ") == 3
+
+
 @pytest.mark.skipif(Path("/usr/lib/python3/dist-packages/pertxogai").exists(),
                     reason="the package is installed, so FreeCAD finds it")
 def test_without_the_package_its_name_is_told(program: Program, tmp_path: Path) -> None:
@@ -191,6 +229,7 @@ def test_without_the_package_its_name_is_told(program: Program, tmp_path: Path) 
     here.copy("plate")
     status, lines = asked(here, program, "judge", str(here.folder))
     assert status == 2
-    assert lines == ["pertxogai: the Python package pertxogai isn't found: install Pertxogai, or name "
-                     "the folder that has it in Edit, Preferences.., Pertxogai"]
+    assert lines == [
+        "pertxogai: the Python package pertxogai isn't found: install Pertxogai, or name the "
+        "folder that has it in Edit, Preferences.., Pertxogai"]
     assert not (ADDON / "python").exists()

@@ -131,7 +131,8 @@ def test_a_release_has_a_tarball_a_package_a_wheel_and_checksums(dist: Path) -> 
         "GATE", "SHA256SUMS", f"libpertxogai-sketch-dev_{__version__}_amd64.deb",
         f"libpertxogai-sketch1_{__version__}_amd64.deb",
         f"pertxogai-{__version__}-py3-none-any.whl", f"pertxogai-{__version__}-x86_64-linux.tar.gz",
-        f"pertxogai-{__version__}.spdx.json", f"pertxogai_{__version__}_amd64.deb"]
+        f"pertxogai-{__version__}.spdx.json",
+        f"pertxogai-freecad-{__version__}-x86_64-linux.zip", f"pertxogai_{__version__}_amd64.deb"]
     done("sha256sum", "--quiet", "-c", "SHA256SUMS", cwd=dist)
     gate = (dist / "GATE").read_text().splitlines()
     assert gate[:2] == [f"pertxogai {__version__}", "commit " + "0" * 40]
@@ -190,7 +191,7 @@ def test_the_package_has_its_pages_and_what_editors_read(installed: Path) -> Non
                  "doc/pertxogai/examples/bracket.sketch", "doc/pertxogai/licences/slab.txt",
                  "doc/pertxogai/docs/LANGUAGE.md", "bash-completion/completions/sketch",
                  "vim/vimfiles/syntax/sketch.vim", "pertxogai/textmate/sketch.tmLanguage.json",
-                 "pertxogai/freecad/Pertxogai.FCMacro", "doc/pertxogai/checker/README.md",
+                 "pertxogai/freecad/InitGui.py", "doc/pertxogai/checker/README.md",
                  "pertxogai/checker/sketch_claim.py", "pertxogai/checker/sketch_claim.c"):
         assert (shared / name).is_file(), name
     rights = {it.lstat().st_mode & 0o777 for it in (installed / "usr").rglob("*")
@@ -294,6 +295,7 @@ def test_one_version() -> None:
     heading = re.search(r"^## \[(\S+)\] - ", (TOP / "CHANGELOG.md").read_text(), re.MULTILINE)
     assert heading is not None and heading[1] == __version__
     assert f'#define SKETCH_VERSION "{__version__}"\n' in (TOP / "c/sketch.h").read_text()
+    assert f"<version>{__version__}</version>" in (TOP / "freecad/package.xml").read_text()
     for page in (TOP / "man").iterdir():
         assert f'"pertxogai {__version__}"' in page.read_text().splitlines()[0], page.name
     for name in ("python/pyproject.toml", "c/sketch.pc.in", "c/CMakeLists.txt", "c/build"):

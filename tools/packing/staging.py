@@ -48,7 +48,7 @@ def put(source: Path, to: Path) -> None:
 
 
 def stage(root: Path, places: Places, made: Made) -> None:
-    """Puts the program, the library, manual pages, completion, highlighting, macro, checker and pages below a
+    """Puts the program, the library, manual pages, completion, highlighting, add-on, checker and pages below a
     root."""
     put(made.program, root / places.programs / "sketch")
     put(made.library / "sketch.h", root / places.headers / "sketch.h")

@@ -3,7 +3,7 @@ other.
 
 What is well and placed, and of which each constraint holds as it is measured, is good; what isn't
 has the reasons why. The exit status, the page, the JSON, the pictures, the files that are written
-and the macro of FreeCAD ask this, and nothing else."""
+and the add-on of FreeCAD ask this, and nothing else."""
 
 from __future__ import annotations
 

@@ -2,9 +2,9 @@
 
     freecadcmd python/tests/with_programs/addon_check.py
 
-The add-on is installed in FreeCAD's folder Mod. FOLDER has copies of the files of python/tests/files
-that may be changed; TOLD names the file to write: one object of JSON with the facts of each check by
-its name. What is expected stands in python/tests/test_freecad_commands.py.
+The add-on is installed in FreeCAD's folder Mod. FOLDER has copies of the files of
+python/tests/files that may be changed; TOLD names the file to write: one object of JSON with the
+facts of each check by its name. What is expected stands in python/tests/test_freecad_commands.py.
 """
 import json
 import os
@@ -190,13 +190,12 @@ def check_construction():
 
 
 def check_range():
-    """How far a plate's width may go; or that the package has no ranges."""
+    """How far a plate's width may go, and what is told where no dimension is selected."""
     read = read_sketch(opened("plate"))
-    asked = frozenset({WIDTH})
-    try:
-        yield "plate", {"lines": list(ranges(read, PROGRAM, LIMIT, asked)), "trouble": None}
-    except Trouble as trouble:
-        yield "plate", {"lines": [], "trouble": str(trouble)}
+    for name, asked in (("plate", {WIDTH}), ("nothing", set())):
+        lines = []
+        trouble = trouble_of(lambda: lines.extend(ranges(read, PROGRAM, LIMIT, frozenset(asked))))
+        yield name, {"lines": lines, "trouble": trouble}
 
 
 def check_program():

@@ -1,0 +1,95 @@
+"""The page of the panel for Judge: each constraint, and how far it is off."""
+from __future__ import annotations
+
+from collections.abc import Callable
+from typing import Protocol
+
+from pertxogai.judging import GoodJudgement
+from pertxogai_freecad.changes import place
+from pertxogai_freecad.judging import JudgedSketch, Standing
+from pertxogai_freecad.window.colours import PieceColours
+from pertxogai_freecad.window.command_words import QT_TRANSLATE_NOOP, Word
+from pertxogai_freecad.window.selection import edit, edited_sketch, select_constraints
+from pertxogai_freecad.window.tables import Table, button, read_only, stacked
+
+HEADINGS = (QT_TRANSLATE_NOOP("Pertxogai", "Constraint"),
+            QT_TRANSLATE_NOOP("Pertxogai", "Standing"), QT_TRANSLATE_NOOP("Pertxogai", "Off by"),
+            QT_TRANSLATE_NOOP("Pertxogai", "Says"))
+PLACE = QT_TRANSLATE_NOOP("Pertxogai", "Place")
+PIECES = QT_TRANSLATE_NOOP("Pertxogai", "Colour the pieces")
+STRONG = {Standing.OFF, Standing.REDUNDANT, Standing.CONFLICTING, Standing.MAY_GO,
+          Standing.LEFT_OUT}
+TOLD_LINES = 6
+"""How many lines of all that is told are seen at once."""
+
+
+class Does(Protocol):
+    """What does something for a page, and shows the trouble that it meets."""
+
+    def change(self, act: Callable[[], None], then: Word) -> None: ...
+
+
+class JudgePage:
+    """The constraints of the judged sketch. Selecting a row selects the constraint; clicking on it
+    twice opens the sketch for it."""
+
+    def __init__(self, panel: Does) -> None:
+        self._panel = panel
+        self._judged: JudgedSketch | None = None
+        self._colours: PieceColours | None = None
+        self.table = Table("PertxogaiRows", HEADINGS, self._selected, self._opened)
+        self.place = button(PLACE, "PertxogaiPlace", self._place)
+        self.pieces = button(PIECES, "PertxogaiPieces", self._colour)
+        self.pieces.setCheckable(True)
+        self.told = read_only("PertxogaiTold")
+        self.told.setMaximumHeight(TOLD_LINES * self.told.fontMetrics().lineSpacing())
+        self.widget = stacked(self.table.widget, self.told, (self.place, self.pieces))
+
+    def show(self, judged: JudgedSketch) -> None:
+        """Shows a judged sketch."""
+        self.clear()
+        self._judged = judged
+        rows = judged.rows()
+        strong = [place for place, row in enumerate(rows) if row.standing in STRONG]
+        self.table.show([(row.name, row.standing.value, row.off, row.says) for row in rows],
+                        strong)
+        self.told.setPlainText("\n".join(judged.lines()))
+        self.place.setEnabled(isinstance(judged.good, GoodJudgement))
+
+    def clear(self) -> None:
+        """Shows nothing."""
+        self.take_back()
+        self._judged = None
+        self.table.show([])
+        self.told.clear()
+        self.place.setEnabled(False)
+
+    def take_back(self) -> None:
+        """Takes back what it shows in the sketch."""
+        if self._colours is not None:
+            self._colours.take_back()
+        self._colours = None
+        self.pieces.setChecked(False)
+
+    def _selected(self, row: int) -> None:
+        assert self._judged is not None
+        select_constraints(self._judged.read.sketch, [self._judged.rows()[row].index])
+
+    def _opened(self, row: int) -> None:
+        assert self._judged is not None
+        if edited_sketch() is None:
+            edit(self._judged.read.sketch)
+        self._selected(row)
+
+    def _place(self) -> None:
+        judged = self._judged
+        if judged is not None and isinstance(judged.good, GoodJudgement):
+            good = judged.good
+            self._panel.change(lambda: place(judged.read, good), Word.JUDGE)
+
+    def _colour(self) -> None:
+        if self._colours is None and self._judged is not None:
+            self._colours = PieceColours(self._judged)
+            self._colours.show()
+        else:
+            self.take_back()

@@ -1,0 +1,112 @@
+"""A step of a construction drawn over the sketch, in the window's own scene; the document has
+nothing of it."""
+from __future__ import annotations
+
+import math
+from collections.abc import Iterable, Sequence
+from typing import Any
+
+import FreeCADGui
+from pivy import coin
+
+from pertxogai_freecad.constructing import HelpCircle, HelpLine, Spot, Step
+from pertxogai_freecad.freecad_types import OwnSketch
+
+STANDING, HELP, MADE = (0.0, 0.62, 0.45), (0.34, 0.71, 0.91), (0.84, 0.37, 0.0)
+"""The colours of the shapes that stand, of the helping lines, and of what is made."""
+CORNERS = 48
+"""Into how many pieces a curve is cut to be shown."""
+DASHES = 0x0F0F
+LIFT_MM = 0.01
+"""How far all of it lies above the sketch, so that it is seen."""
+
+
+class Overlay:
+    """What is drawn over one sketch."""
+
+    def __init__(self, sketch: OwnSketch) -> None:
+        self._sketch = sketch
+        self._root = coin.SoSeparator()
+        view = FreeCADGui.getDocument(sketch.Document.Name).ActiveView
+        self._scene = view.getSceneGraph()
+        self._scene.addChild(self._root)
+
+    def show(self, step: Step) -> None:
+        """Shows a step alone."""
+        self._root.removeAllChildren()
+        self._root.addChild(_placed(self._sketch))
+        reach = self._reach()
+        standing = [self._polyline(each) for each in sorted(step.shapes)]
+        self._root.addChild(_lines(standing, STANDING, 4))
+        self._root.addChild(_lines([_help(each, reach) for each in step.help], HELP, 2, DASHES))
+        if step.at is not None:
+            self._root.addChild(_point(step.at))
+
+    def remove(self) -> None:
+        """Takes all of it out of the scene."""
+        self._root.removeAllChildren()
+        self._scene.removeChild(self._root)
+
+    def _polyline(self, index: int) -> list[Spot]:
+        curve = self._sketch.Geometry[index]
+        if curve.TypeId == "Part::GeomPoint":
+            return []
+        return [(each.x, each.y) for each in curve.toShape().discretize(CORNERS)]
+
+    def _reach(self) -> float:
+        """How long a line without ends is shown, in millimetres."""
+        return float(self._sketch.Shape.BoundBox.DiagonalLength) or 1.0
+
+
+def _placed(sketch: OwnSketch) -> Any:
+    """Where the sketch lies in the document."""
+    matrix = sketch.getGlobalPlacement().toMatrix()
+    found = coin.SoMatrixTransform()
+    columns = [matrix.A[place::4] for place in range(4)]
+    found.matrix.setValue(*(value for column in columns for value in column))
+    return found
+
+
+def _help(each: HelpCircle | HelpLine, reach: float) -> list[Spot]:
+    if isinstance(each, HelpLine):
+        (x, y), (u, v) = each.through, each.way
+        return [(x - reach * u, y - reach * v), (x + reach * u, y + reach * v)]
+    turns = (2 * math.pi * corner / CORNERS for corner in range(CORNERS + 1))
+    (x, y), radius = each.centre, each.radius
+    return [(x + radius * math.cos(turn), y + radius * math.sin(turn)) for turn in turns]
+
+
+def _lines(lines: Sequence[list[Spot]], colour: Sequence[float], width: int,
+           pattern: int = 0xFFFF) -> Any:
+    """Lines of one colour, as a node of the scene."""
+    style, places, set_of = coin.SoDrawStyle(), coin.SoCoordinate3(), coin.SoLineSet()
+    style.lineWidth, style.linePattern = width, pattern
+    there = [each for each in lines if len(each) > 1]
+    spots = [(x, y, LIFT_MM) for each in there for x, y in each]
+    places.point.setValues(0, len(spots), spots)
+    set_of.numVertices.setValues(0, len(there), [len(each) for each in there])
+    return _node((_colour(colour), style, places, set_of) if there else ())
+
+
+def _point(at: Spot) -> Any:
+    """A point that is made, as a node of the scene."""
+    style, places = coin.SoDrawStyle(), coin.SoCoordinate3()
+    style.pointSize = 10
+    places.point.setValues(0, 1, [(*at, LIFT_MM)])
+    return _node((_colour(MADE), style, places, coin.SoPointSet()))
+
+
+def _colour(colour: Sequence[float]) -> Any:
+    found = coin.SoBaseColor()
+    found.rgb = tuple(colour)
+    return found
+
+
+def _node(parts: Iterable[Any]) -> Any:
+    found = coin.SoSeparator()
+    light = coin.SoLightModel()
+    light.model = coin.SoLightModel.BASE_COLOR
+    found.addChild(light)
+    for each in parts:
+        found.addChild(each)
+    return found

@@ -1,0 +1,186 @@
+"""The panel beside the sketch, where each command shows what it finds.
+
+It is a dock, and no task of FreeCAD's: there is one task at a time, and while a sketch is edited
+that is the sketch's own."""
+from __future__ import annotations
+
+from collections.abc import Callable, Iterator
+from contextlib import contextmanager
+
+import FreeCAD
+import FreeCADGui
+from PySide import QtCore, QtGui
+
+from pertxogai.judging import GoodJudgement
+from pertxogai_freecad.certifying import certify
+from pertxogai_freecad.completing import Proposed
+from pertxogai_freecad.constructing import construct
+from pertxogai_freecad.freecad_types import OwnSketch
+from pertxogai_freecad.home import find_program, limit_of
+from pertxogai_freecad.judging import JudgedSketch, judge_sketch
+from pertxogai_freecad.ranging import ranges
+from pertxogai_freecad.repairing import Repair
+from pertxogai_freecad.settings import Settings
+from pertxogai_freecad.sketches import CHANGED, ReadSketch, read_sketch, stored_of
+from pertxogai_freecad.trouble import Trouble
+from pertxogai_freecad.window.command_words import QT_TRANSLATE_NOOP, Word
+from pertxogai_freecad.window.complete_page import CompletePage
+from pertxogai_freecad.window.construction_page import ConstructionPage
+from pertxogai_freecad.window.judge_page import JudgePage
+from pertxogai_freecad.window.repair_page import RepairPage
+from pertxogai_freecad.window.resources import icon
+from pertxogai_freecad.window.selection import selected_constraints, the_sketch
+from pertxogai_freecad.window.tables import stacked
+from pertxogai_freecad.window.text_page import TextPage
+from pertxogai_freecad.window.words import CONTEXT, translate
+
+NAME = "PertxogaiPanel"
+GOOD = QT_TRANSLATE_NOOP("Pertxogai", "good: all of it holds within the limit")
+WIDTH = 420
+
+
+class Panel:
+    """The panel of FreeCAD's window."""
+
+    def __init__(self) -> None:
+        self._read: ReadSketch | None = None
+        self._judge, self._repair = JudgePage(self), RepairPage(self)
+        self._complete, self._construction = CompletePage(self), ConstructionPage()
+        self._range, self._certify = TextPage("PertxogaiRanges"), TextPage("PertxogaiClaim")
+        self.headline, self.facts, self.note = (_label(each) for each in (
+            "PertxogaiHeadline", "PertxogaiFacts", "PertxogaiNote"))
+        self.headline.setStyleSheet("font-weight: bold")
+        self._pages = QtGui.QStackedWidget()
+        self._widgets = {
+            Word.JUDGE: self._judge.widget, Word.REPAIR: self._repair.widget,
+            Word.COMPLETE: self._complete.widget, Word.RANGE: self._range.widget,
+            Word.CERTIFY: self._certify.widget, Word.CONSTRUCTION: self._construction.widget}
+        for widget in self._widgets.values():
+            self._pages.addWidget(widget)
+        self.dock = self._docked()
+        FreeCAD.addDocumentObserver(self)
+
+    def _docked(self) -> QtGui.QDockWidget:
+        """The panel's frame, at the right of FreeCAD's window."""
+        window = FreeCADGui.getMainWindow()
+        dock = QtGui.QDockWidget("Pertxogai", window)
+        dock.setObjectName(NAME)
+        dock.setWidget(stacked(self._buttons(), self.headline, self.facts, self.note,
+                               self._pages))
+        dock.widget().setMinimumWidth(WIDTH)
+        dock.visibilityChanged.connect(self._seen)
+        window.addDockWidget(QtCore.Qt.RightDockWidgetArea, dock)
+        return dock
+
+    def _buttons(self) -> QtGui.QToolBar:
+        """The commands, which a user of another workbench finds here."""
+        bar = QtGui.QToolBar()
+        bar.setToolButtonStyle(QtCore.Qt.ToolButtonTextUnderIcon)
+        for word in Word:
+            action = bar.addAction(QtGui.QIcon(icon(word.icon)), word.text())
+            action.setToolTip(word.tip())
+            action.triggered.connect(lambda *_, word=word: self.do(word))
+        return bar
+
+    def do(self, word: Word) -> None:
+        """Does a command on the sketch that is edited or selected, and shows what came of it."""
+        self.dock.show()
+        self.dock.raise_()
+        self._clear()
+        self._pages.setCurrentWidget(self._widgets[word])
+        with self._told():
+            self._ask(word, the_sketch())
+
+    def change(self, act: Callable[[], None], then: Word) -> None:
+        """Does what a button says, and a command on the sketch as it is then."""
+        with self._told():
+            act()
+            self.do(then)
+
+    def _ask(self, word: Word, sketch: OwnSketch) -> None:
+        """Asks about a sketch. Raises Trouble."""
+        settings = Settings.stored()
+        program, limit = find_program(settings), limit_of(settings)
+        selected = selected_constraints(sketch)
+        read = read_sketch(sketch)
+        judged = judge_sketch(read, program, limit)
+        self._show(judged)
+        if word is Word.JUDGE:
+            self._judge.show(judged)
+        elif word is Word.REPAIR:
+            self._repair.show(Repair.of(judged))
+        elif word is Word.COMPLETE:
+            self._complete.show(Proposed.of(read, program, limit))
+        elif word is Word.RANGE:
+            self._range.show(ranges(read, program, limit, selected))
+        elif word is Word.CERTIFY:
+            self._certify.show(certify(judged).lines())
+        else:
+            self._construction.show(construct(judged))
+
+    def _show(self, judged: JudgedSketch) -> None:
+        """Shows the verdict, and whether all is good."""
+        self._read = judged.read
+        self.headline.setText(judged.headline())
+        self.facts.setText(f"{judged.freedoms()}; {judged.tolerance()}")
+        is_good = isinstance(judged.good, GoodJudgement)
+        self.note.setText(translate(CONTEXT, GOOD) if is_good else f"not good: {judged.good}")
+
+    def _clear(self) -> None:
+        """Takes away what was shown of another sketch, or by another command."""
+        self._read = None
+        for page in (self._judge, self._repair, self._complete, self._range, self._certify,
+                     self._construction):
+            page.clear()
+        for label in (self.headline, self.facts, self.note):
+            label.setText("")
+
+    @contextmanager
+    def _told(self) -> Iterator[None]:
+        """Shows the trouble that is met within, in the panel and in FreeCAD's report."""
+        QtGui.QApplication.setOverrideCursor(QtCore.Qt.WaitCursor)
+        try:
+            yield
+        except Trouble as trouble:
+            self.note.setText(str(trouble))
+            FreeCAD.Console.PrintError(f"Pertxogai: {trouble}\n")
+        finally:
+            QtGui.QApplication.restoreOverrideCursor()
+
+    def _seen(self, is_visible: bool) -> None:
+        """Takes the construction away with the panel."""
+        if not is_visible and self.dock.isHidden():
+            self._construction.clear()
+            self._judge.take_back()
+
+    # -- FreeCAD tells of what changes in documents
+
+    def slotChangedObject(self, changed: object, what: str) -> None:
+        """Says so where the sketch isn't any more what was judged."""
+        if self._read is not None and what in ("Constraints", "Geometry"):
+            try:
+                is_changed = stored_of(self._read.sketch) != self._read.stored
+            except Trouble:
+                is_changed = True
+            if is_changed:
+                self._read = None
+                self.note.setText(translate(CONTEXT, CHANGED))
+
+
+def _label(name: str) -> QtGui.QLabel:
+    made = QtGui.QLabel()
+    made.setObjectName(name)
+    made.setWordWrap(True)
+    made.setTextFormat(QtCore.Qt.PlainText)
+    made.setTextInteractionFlags(QtCore.Qt.TextSelectableByMouse)
+    return made
+
+
+_PANELS: list[Panel] = []
+
+
+def the_panel() -> Panel:
+    """The one panel of the window, made when it is first asked for."""
+    if not _PANELS:
+        _PANELS.append(Panel())
+    return _PANELS[0]

@@ -1,0 +1,64 @@
+"""The sketch that is edited or selected, and its selected constraints."""
+from __future__ import annotations
+
+import re
+from collections.abc import Iterable
+
+import FreeCADGui
+
+from pertxogai_freecad.freecad_types import OwnSketch
+from pertxogai_freecad.trouble import Trouble
+
+SKETCH = "Sketcher::SketchObject"
+CONSTRAINT = re.compile(r"Constraint(\d+)")
+
+
+def edited_sketch() -> OwnSketch | None:
+    """The sketch that is edited."""
+    document = FreeCADGui.ActiveDocument
+    edited = document.getInEdit() if document else None
+    found: OwnSketch | None = edited.Object if edited else None
+    return found if found is not None and found.TypeId == SKETCH else None
+
+
+def chosen_sketch() -> OwnSketch | None:
+    """The sketch that is edited, else the first that is selected, else the document's only one."""
+    edited = edited_sketch()
+    if edited is not None:
+        return edited
+    selected = [each for each in FreeCADGui.Selection.getSelection() if each.TypeId == SKETCH]
+    document = FreeCADGui.ActiveDocument
+    if not selected and document is not None:
+        all_of_it = [each for each in document.Document.Objects if each.TypeId == SKETCH]
+        selected = all_of_it if len(all_of_it) == 1 else []
+    return selected[0] if selected else None
+
+
+def the_sketch() -> OwnSketch:
+    """The sketch that is meant. Raises Trouble where none is."""
+    found = chosen_sketch()
+    if found is None:
+        raise Trouble("no sketch is selected: click on one in the tree, and ask again")
+    return found
+
+
+def selected_constraints(sketch: OwnSketch) -> frozenset[int]:
+    """The constraints that are selected, by FreeCAD's numbers from 0."""
+    names = [name for each in FreeCADGui.Selection.getSelectionEx(sketch.Document.Name)
+             if each.ObjectName == sketch.Name for name in each.SubElementNames]
+    found = (CONSTRAINT.fullmatch(name) for name in names)
+    return frozenset(int(each[1]) - 1 for each in found if each is not None)
+
+
+def select_constraints(sketch: OwnSketch, indices: Iterable[int]) -> None:
+    """Selects constraints: in the sketch while it is edited; else they are only marked as
+    selected, since FreeCAD shows constraints nowhere else."""
+    FreeCADGui.Selection.clearSelection()
+    for index in indices:
+        FreeCADGui.Selection.addSelection(sketch.Document.Name, sketch.Name,
+                                          f"Constraint{index + 1}")
+
+
+def edit(sketch: OwnSketch) -> None:
+    """Opens a sketch in the Sketcher."""
+    FreeCADGui.getDocument(sketch.Document.Name).setEdit(sketch.Name)

@@ -1,0 +1,297 @@
+"""Works the add-on in FreeCAD's own window as a user does, and writes what came of it.
+
+    xvfb-run -a -s "-screen 0 1600x1000x24" freecad python/tests/with_programs/window_check.py
+
+The add-on is installed in FreeCAD's folder Mod. FOLDER has copies of the files of
+python/tests/files that may be changed; TOLD names the file to write: one object of JSON with the
+facts of each check by its name; PICTURES the folder in which a picture of the window is put for
+each. What is expected stands in python/tests/test_freecad_window.py. FreeCAD's first page is a
+browser, so root sets QTWEBENGINE_DISABLE_SANDBOX=1.
+"""
+import json
+import os
+import traceback
+from pathlib import Path
+
+import FreeCAD
+import FreeCADGui
+from PySide import QtCore, QtGui
+
+WIDTH, HEIGHT = 1500, 900
+TURNS, PAUSE_MS = 10, 10
+COMMANDS = ("Judge", "Repair", "Complete", "Range", "Certify", "Construction")
+TOLD = {}
+
+
+def spin():
+    """Has the window do what it has to."""
+    for _ in range(TURNS):
+        QtGui.QApplication.processEvents()
+        QtCore.QThread.msleep(PAUSE_MS)
+
+
+def picture(name):
+    """The window as it is seen."""
+    FreeCADGui.SendMsgToActiveView("ViewFit")
+    window = FreeCADGui.getMainWindow()
+    window.findChild(QtGui.QDockWidget, "Report view").hide()  # It comes with each error.
+    spin()
+    shot = QtGui.QApplication.primaryScreen().grabWindow(window.winId())
+    shot.save(os.path.join(os.environ["PICTURES"], name + ".png"))
+
+
+def opened(name):
+    """The sketch of a file, open, seen and selected."""
+    document = FreeCAD.openDocument(os.path.join(os.environ["FOLDER"], name + ".FCStd"))
+    sketch = document.getObject("Sketch")
+    sketch.ViewObject.Visibility = True
+    document.recompute()
+    FreeCADGui.Selection.clearSelection()
+    FreeCADGui.Selection.addSelection(sketch)
+    FreeCADGui.ActiveDocument.ActiveView.viewTop()
+    spin()
+    document.save()
+    return sketch
+
+
+def closed(sketch):
+    """Closes the document, without asking."""
+    FreeCADGui.getDocument(sketch.Document.Name).resetEdit()
+    FreeCAD.closeDocument(sketch.Document.Name)
+    spin()
+
+
+def found(kind, name):
+    """A widget of the panel."""
+    return FreeCADGui.getMainWindow().findChild(kind, "Pertxogai" + name)
+
+
+def text(name):
+    """What a label or a text of the panel shows."""
+    label = found(QtGui.QLabel, name)
+    return label.text() if label is not None else found(QtGui.QPlainTextEdit, name).toPlainText()
+
+
+def rows(name):
+    """What a table of the panel shows."""
+    table = found(QtGui.QTreeWidget, name)
+    items = [table.topLevelItem(place) for place in range(table.topLevelItemCount())]
+    return [[item.text(column) for column in range(table.columnCount())] for item in items]
+
+
+def click_row(name, first):
+    """Selects the row of a table that begins so."""
+    table = found(QtGui.QTreeWidget, name)
+    place = [row[0] for row in rows(name)].index(first)
+    table.setCurrentItem(table.topLevelItem(place))
+    spin()
+
+
+def press(name):
+    """Presses a button, and tells whether it could be."""
+    button = found(QtGui.QPushButton, name)
+    is_there = button.isEnabled()
+    button.click()
+    spin()
+    return is_there
+
+
+def run(command):
+    """Runs a command of FreeCAD's."""
+    FreeCADGui.runCommand("Pertxogai_" + command)
+    spin()
+
+
+def stored(sketch):
+    """All that is stored of a sketch's constraints and shapes."""
+    return [each.Content for each in [*sketch.Constraints, *sketch.Geometry]]
+
+
+def selected():
+    """What is selected within objects."""
+    return [list(each.SubElementNames) for each in FreeCADGui.Selection.getSelectionEx()]
+
+
+def check_workbench():
+    """The workbench, its toolbar, menu and page of preferences."""
+    document = FreeCAD.newDocument("none")
+    bars = FreeCADGui.getMainWindow().findChildren(QtGui.QToolBar, "Pertxogai")
+    menus = [each.text().replace("&", "") for each in
+             FreeCADGui.getMainWindow().menuBar().actions()]
+    page = FreeCADGui.UiLoader().load(os.path.join(
+        os.path.dirname(os.path.realpath(os.environ["ADDON"] + "/InitGui.py")),
+        "resources", "ui", "preferences.ui"))
+    facts = {"name": FreeCADGui.activeWorkbench().name(),
+             "buttons": [each.text() for each in bars[0].actions()], "menu": "Pertxogai" in menus,
+             "active": FreeCADGui.Command.get("Pertxogai_Judge").isActive(),
+             "preferences": sorted(each.objectName() for each in page.children()
+                                   if each.property("prefEntry"))}
+    FreeCAD.closeDocument(document.Name)
+    return facts
+
+
+def check_untouched():
+    """No command changes a document: FreeCAD doesn't call it modified after any."""
+    document = FreeCAD.openDocument(os.path.join(os.environ["FOLDER"], "plate.FCStd"))
+    shown = FreeCADGui.getDocument(document.Name)
+    FreeCADGui.Selection.clearSelection()
+    FreeCADGui.Selection.addSelection(document.getObject("Sketch"))
+    before = shown.Modified
+    after = {}
+    for command in COMMANDS:
+        run(command)
+        after[command] = shown.Modified
+    FreeCAD.closeDocument(document.Name)
+    return {"before": before, "after": after}
+
+
+def check_judge():
+    """A sketch that is selected and judged: nothing of it changes."""
+    sketch = opened("twice")
+    before = stored(sketch)
+    run("Judge")
+    facts = {"seen": found(QtGui.QDockWidget, "Panel").isVisible(), "headline": text("Headline"),
+             "facts": text("Facts"), "rows": rows("Rows"), "told": text("Told"),
+             "place": found(QtGui.QPushButton, "Place").isEnabled(),
+             "same": stored(sketch) == before, "undo": list(sketch.Document.UndoNames)}
+    picture("judge")
+    click_row("Rows", "above")
+    facts["selected"] = selected()
+    closed(sketch)
+    return facts
+
+
+def check_repair():
+    """While it is edited: a row selects its constraint, and the button removes it; undo."""
+    sketch = opened("contradiction")
+    before = stored(sketch)
+    FreeCADGui.ActiveDocument.setEdit("Sketch")
+    run("Repair")
+    untouched = stored(sketch) == before
+    facts = {"rows": rows("Candidates"), "before": found(QtGui.QPushButton, "Remove").isEnabled()}
+    click_row("Candidates", "above")
+    facts.update(selected=selected(), untouched=untouched)
+    picture("repair")
+    facts["pressed"] = press("Remove")
+    facts.update(headline=text("Headline"), note=text("Note"), count=len(sketch.Constraints),
+                 undo=list(sketch.Document.UndoNames), left=rows("Candidates")[0][0])
+    picture("repaired")
+    sketch.Document.undo()
+    spin()
+    facts.update(undone=stored(sketch) == before, stale=text("Note"))
+    closed(sketch)
+    return facts
+
+
+def check_complete():
+    """What is missing is added by a button, and taken back by undo."""
+    sketch = opened("plate-without-height")
+    before = stored(sketch)
+    run("Complete")
+    facts = {"rows": [row[0] for row in rows("Proposals")], "untouched": stored(sketch) == before}
+    picture("complete")
+    facts["pressed"] = press("AddAll")
+    facts.update(headline=text("Headline"), count=len(sketch.Constraints),
+                 undo=list(sketch.Document.UndoNames))
+    sketch.Document.undo()
+    spin()
+    facts["undone"] = stored(sketch) == before
+    closed(sketch)
+    return facts
+
+
+def check_construction():
+    """The steps over the sketch, which are gone with the panel."""
+    sketch = opened("plate")
+    before, scene = stored(sketch), FreeCADGui.ActiveDocument.ActiveView.getSceneGraph()
+    children = scene.getNumChildren()
+    run("Construction")
+    slider = found(QtGui.QSlider, "Slider")
+    facts = {"steps": slider.maximum(), "first": text("Step"),
+             "drawn": scene.getNumChildren() - children}
+    slider.setValue(4)
+    picture("construction")
+    press("Play")
+    facts["plays"] = found(QtGui.QPushButton, "Play").text()
+    found(QtGui.QDockWidget, "Panel").hide()
+    spin()
+    facts.update(left=scene.getNumChildren() - children, same=stored(sketch) == before)
+    closed(sketch)
+    return facts
+
+
+def check_range_and_certify():
+    """The range of the selected dimension, and a claim beside the document."""
+    sketch = opened("plate")
+    FreeCADGui.ActiveDocument.setEdit("Sketch")
+    FreeCADGui.Selection.addSelection(sketch.Document.Name, "Sketch", "Constraint10")
+    run("Range")
+    facts = {"range": text("Ranges"), "note": text("Note")}
+    picture("range")
+    run("Certify")
+    facts.update(claim=text("Claim").splitlines(), files=sorted(
+        each.name for each in Path(os.environ["FOLDER"]).glob("plate-Sketch.*")))
+    picture("certify")
+    closed(sketch)
+    return facts
+
+
+def check_place():
+    """Shapes are placed by a button, and come back by undo."""
+    sketch = opened("link")
+    FreeCADGui.ActiveDocument.setEdit("Sketch")
+    before = stored(sketch)
+    run("Judge")
+    facts = {"pressed": press("Place"), "undo": list(sketch.Document.UndoNames),
+             "solves": sketch.solve(), "fully": sketch.FullyConstrained}
+    sketch.Document.undo()
+    facts["undone"] = stored(sketch) == before
+    closed(sketch)
+    return facts
+
+
+def check_pieces():
+    """Two leaves of a hinge in two colours, while the button is pressed."""
+    sketch = opened("hinge")
+    before = list(sketch.ViewObject.LineColorArray)
+    run("Judge")
+    press("Pieces")
+    coloured = list(sketch.ViewObject.LineColorArray)
+    picture("pieces")
+    press("Pieces")
+    facts = {"edges": len(coloured), "colours": len(set(coloured)),
+             "back": list(sketch.ViewObject.LineColorArray) == before}
+    closed(sketch)
+    return facts
+
+
+def check_nothing():
+    """Without a sketch the panel says so."""
+    document = FreeCAD.newDocument("none")
+    from pertxogai_freecad.window.command_words import Word
+    from pertxogai_freecad.window.panel import the_panel
+
+    the_panel().do(Word.JUDGE)
+    facts = {"note": text("Note")}
+    FreeCAD.closeDocument(document.Name)
+    return facts
+
+
+def main():
+    """All of it, and the end."""
+    window = FreeCADGui.getMainWindow()
+    window.setGeometry(0, 0, WIDTH, HEIGHT)
+    FreeCADGui.activateWorkbench("PertxogaiWorkbench")
+    for check in (check_workbench, check_untouched, check_judge, check_repair, check_complete,
+                  check_construction, check_range_and_certify, check_place, check_pieces,
+                  check_nothing):
+        name = check.__name__.removeprefix("check_")
+        try:
+            TOLD[name] = check()
+        except Exception:
+            TOLD[name] = {"error": traceback.format_exc()}
+    Path(os.environ["TOLD"]).write_text(json.dumps(TOLD, indent=1))
+    os._exit(0)
+
+
+QtCore.QTimer.singleShot(1500, main)
