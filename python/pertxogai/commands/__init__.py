@@ -1,5 +1,5 @@
-"""The commands `judge`, `draw`, `complete`, `certify` and `page`, as ./pertxogai calls them. Each
-imports what it needs once it is called."""
+"""The commands `judge`, `watch`, `draw`, `complete`, `certify` and `page`, as ./pertxogai calls
+them. Each imports what it needs once it is called."""
 from __future__ import annotations
 
 import argparse
@@ -85,6 +85,7 @@ def command_line() -> argparse.ArgumentParser:
     parser.add_argument("--version", action="version", version=f"pertxogai {__version__}")
     commands = parser.add_subparsers(dest="command", required=True, metavar="COMMAND")
     _add_judge(commands)
+    _add_watch(commands)
     _add_draw(commands)
     _add_complete(commands)
     _add_certify(commands)
@@ -99,9 +100,21 @@ def _add_judge(commands: Commands) -> None:
     judge.add_argument("--jobs", type=int, default=os.cpu_count() or 1, metavar="N", help=JOBS)
     judge.add_argument("--json", action="store_true", help="print one object of JSON for each file")
     judge.add_argument("--write", type=Path, metavar="OUT", help=WRITE)
-    judge.add_argument("--no-search", action="store_true", help=NO_SEARCH)
-    judge.add_argument("--nearly", action="store_true", help=NEARLY)
-    judge.add_argument("--as-stored", action="store_true", help=AS_STORED)
+    _add_more(judge)
+
+
+def _add_watch(commands: Commands) -> None:
+    watch = _command(commands, "watch", "judges a file now, and each time that it is saved")
+    watch.set_defaults(act=_watch, json=False, write=None)
+    watch.add_argument("file", type=Path, metavar="FILE", help=FILE)
+    _add_more(watch)
+
+
+def _add_more(parser: argparse.ArgumentParser) -> None:
+    """Adds what more or less is told of a judged file."""
+    parser.add_argument("--no-search", action="store_true", help=NO_SEARCH)
+    parser.add_argument("--nearly", action="store_true", help=NEARLY)
+    parser.add_argument("--as-stored", action="store_true", help=AS_STORED)
 
 
 def _add_draw(commands: Commands) -> None:
@@ -182,6 +195,12 @@ def _judge(options: argparse.Namespace) -> Exit:
     from pertxogai.commands.many import judge_files
 
     return judge_files(options)
+
+
+def _watch(options: argparse.Namespace) -> Exit:
+    from pertxogai.commands.watching import watch_file
+
+    return watch_file(options)
 
 
 def _draw(options: argparse.Namespace) -> Exit:
