@@ -1,7 +1,7 @@
 """The command Judge: what the program says of a sketch, and how far each constraint is off."""
 from __future__ import annotations
 
-from collections.abc import Iterator
+from collections.abc import Iterator, Mapping
 from dataclasses import dataclass, replace
 from enum import Enum
 from functools import cached_property
@@ -37,6 +37,8 @@ class Standing(Enum):
     REDUNDANT = "redundant"
     CONFLICTING = "conflicting"
     MAY_GO = "may go"
+    IN_PART = "too many in part"
+    """Some of what it says is too many: a tangency at an end also says where the end lies."""
     LEFT_OUT = "left out"
     NOT_ASKED = "not asked for"
     UNKNOWN = ""
@@ -133,13 +135,13 @@ def _searched(judged: CountedDrawing, program: Solver) -> CountedDrawing:
 
 def _rows(judged: JudgedSketch) -> Iterator[Row]:
     read, found = judged.read, judged.read.found
-    surplus = {read.index(each.number): each for each in judged.judged.judgement.surplus}
+    surplus = surplus_by_index(judged)
     for index in sorted({number - 1 for number in found.numbers}):
         numbers = read.numbers(index)
         says = "; ".join(words_of(read.drawing.constraints[each - 1]) for each in numbers)
         name = read.drawing.called(numbers[0])
         if index in surplus:
-            yield Row(index, name, says, *_of_surplus(surplus[index]))
+            yield Row(index, name, says, *of_surplus(read, surplus[index]))
         else:
             yield Row(index, name, says, *_measured(judged, numbers))
     for each in found.aside:
@@ -156,8 +158,19 @@ def _left_out(judged: JudgedSketch) -> Iterator[Row]:
         yield Row(number - 1, each.what, each.why, "", Standing.LEFT_OUT)
 
 
-def _of_surplus(each: Surplus) -> tuple[str, Standing]:
-    """How far a constraint is off that may go, and how it stands to the others."""
+def surplus_by_index(judged: JudgedSketch) -> Mapping[int, Surplus]:
+    """What may go by FreeCAD's numbers; of a constraint that is several in the drawing the
+    first."""
+    found: dict[int, Surplus] = {}
+    for each in judged.judged.judgement.surplus:
+        found.setdefault(judged.read.index(each.number), each)
+    return found
+
+
+def of_surplus(read: ReadSketch, each: Surplus) -> tuple[str, Standing]:
+    """How far a constraint of FreeCAD's is off that may go, and how it stands to the others."""
+    if len(read.numbers(read.index(each.number))) > 1:
+        return "", Standing.IN_PART
     standing = {True: Standing.REDUNDANT, False: Standing.CONFLICTING, None: Standing.MAY_GO}
     return amount_text(each.off) if each.off is not None else "", standing[each.repeats()]
 
@@ -171,8 +184,9 @@ def _measured(judged: JudgedSketch, numbers: tuple[int, ...]) -> tuple[str, Stan
     if not mine:
         return "", Standing.UNKNOWN
     by = BY_NUMBERS if not placed and of.places_by() is PlacesBy.NUMBERS else ""
-    is_off = next(of.limit.beyond(mine), None)
-    return amount_text(_greatest(mine)) + by, Standing.OFF if is_off else Standing.HOLDS
+    off = next(of.limit.beyond(mine), None)
+    standing = Standing.HOLDS if off is None else Standing.OFF
+    return amount_text(off or _greatest(mine)) + by, standing
 
 
 def _greatest(deviations: list[Deviation]) -> Deviation:

@@ -6,17 +6,20 @@ from collections.abc import Iterator
 from dataclasses import dataclass
 from enum import Enum
 
-from pertxogai.judging import Then
-from pertxogai.judging.measure import amount_text
+from pertxogai.judging import Then, judge_at_once
+from pertxogai.judging.surplus import without
+from pertxogai.program.reports import Verdict
 from pertxogai_freecad import changes
-from pertxogai_freecad.judging import JudgedSketch, Standing
-from pertxogai_freecad.trouble import Trouble
+from pertxogai_freecad.judging import JudgedSketch, Standing, of_surplus, surplus_by_index
+from pertxogai_freecad.trouble import Trouble, troubles
 
 REST = {
     None: "", Then.WELL: "fully constrained", Then.OPEN: "under-constrained",
     Then.NO_PLACES: "fully constrained, but has no places", Then.OVER: "still over-constrained",
 }
 """What the program says of the rest, in the trade's words."""
+NOTHING, NOT_COUNTED = ("nothing is too many",
+                        "the program finds nothing too many; by rank that wasn't counted")
 
 
 class By(Enum):
@@ -70,9 +73,13 @@ class Repair:
         yield self.judged.headline()
         yield from (f"  {each.line()}" for each in self.candidates)
         if not self.candidates:
-            yield "  nothing is too many"
+            yield f"  {self.nothing()}"
         elif len(self.candidates) > 1:
             yield "  take one away, and judge again"
+
+    def nothing(self) -> str:
+        """What is said where there is none."""
+        return NOTHING if self.judged.judged.judgement.free is not None else NOT_COUNTED
 
     def take_away(self, index: int) -> None:
         """Takes one of these away, which FreeCAD's undo brings back. Raises Trouble where it is
@@ -84,19 +91,39 @@ class Repair:
 
 def _surplus(judged: JudgedSketch) -> Iterator[Candidate]:
     """What may go of what is over."""
-    standing = {True: Standing.REDUNDANT, False: Standing.CONFLICTING, None: Standing.MAY_GO}
     untried = By.PROGRAM if judged.judged.judgement.free is None else By.RANK
-    for each in judged.judged.judgement.surplus:
-        off = amount_text(each.off) if each.off is not None else ""
-        yield Candidate(judged.read.index(each.number), each.name, standing[each.repeats()], off,
-                        REST[each.then], each.others, untried if each.then is None else By.TRIED)
+    for index, each in surplus_by_index(judged).items():
+        off, standing = of_surplus(judged.read, each)
+        if standing is Standing.IN_PART:
+            yield Candidate(index, judged.read.drawing.called(judged.read.numbers(index)[0]),
+                            standing, rest=REST[_without(judged, index)], by=By.TRIED)
+        else:
+            yield Candidate(index, each.name, standing, off, REST[each.then], each.others,
+                            untried if each.then is None else By.TRIED)
+
+
+def _without(judged: JudgedSketch, index: int) -> Then:
+    """What the program says of the rest, where all goes that a constraint of FreeCAD's says. Raises
+    Trouble."""
+    rest = without(judged.read.drawing, judged.read.numbers(index))
+    with troubles():
+        found = judge_at_once(rest, judged.program, limit=judged.judged.limit)
+    if found.verdict is Verdict.WELL:
+        return Then.WELL if found.solution is not None else Then.NO_PLACES
+    return Then.OPEN if found.verdict is Verdict.OPEN else Then.OVER
 
 
 def _repeats(judged: JudgedSketch) -> Iterator[Candidate]:
     """What says again what follows already, and is no line of the program's sketch."""
     for name in judged.judged.judgement.repeats:
         if name in judged.read.indices:
-            yield Candidate(judged.read.indices[name], name, Standing.REDUNDANT)
+            index = judged.read.indices[name]
+            yield Candidate(index, name, _alone(judged, index, Standing.REDUNDANT))
+
+
+def _alone(judged: JudgedSketch, index: int, standing: Standing) -> Standing:
+    """How a constraint stands, of which that is known of one thing that it says."""
+    return standing if len(judged.read.numbers(index)) == 1 else Standing.IN_PART
 
 
 def _by_rank(judged: JudgedSketch) -> Iterator[Candidate]:
@@ -105,4 +132,6 @@ def _by_rank(judged: JudgedSketch) -> Iterator[Candidate]:
         for name in group:
             if name in judged.read.indices:
                 others = tuple(each for each in group if each != name)
-                yield Candidate(judged.read.indices[name], name, Standing.MAY_GO, others=others)
+                index = judged.read.indices[name]
+                yield Candidate(index, name, _alone(judged, index, Standing.MAY_GO),
+                                others=others)

@@ -13,7 +13,6 @@ HEADINGS = (QT_TRANSLATE_NOOP("Pertxogai", "May go"), QT_TRANSLATE_NOOP("Pertxog
             QT_TRANSLATE_NOOP("Pertxogai", "The rest is then"),
             QT_TRANSLATE_NOOP("Pertxogai", "With"), QT_TRANSLATE_NOOP("Pertxogai", "Found"))
 REMOVE = QT_TRANSLATE_NOOP("Pertxogai", "Remove the selected constraint")
-NOTHING = QT_TRANSLATE_NOOP("Pertxogai", "nothing is too many")
 
 
 class RepairPage:
@@ -31,7 +30,8 @@ class RepairPage:
         self._repair = repair
         rows = [(each.name, each.standing.value, each.off, each.rest, ", ".join(each.others),
                  each.by.value) for each in repair.candidates]
-        self.table.show(rows or [(translate(CONTEXT, NOTHING), *[""] * (len(HEADINGS) - 1))])
+        nothing = translate(CONTEXT, repair.nothing())
+        self.table.show(rows or [(nothing, *[""] * (len(HEADINGS) - 1))])
         self.remove.setEnabled(False)
 
     def clear(self) -> None:
