@@ -56,8 +56,8 @@ def remove(read: ReadSketch, index: int) -> None:
 
 def add(read: ReadSketch, drawing: Drawing, constraints: Iterable[Constraint]) -> None:
     """Adds constraints of a drawing that was completed. Raises Trouble where the sketch was changed
-    since it was read."""
-    read.check_constraints()
+    since it was read: constraints name shapes by their numbers."""
+    read.check_unchanged()
     added = [constraint_of(entry_of(drawing, each)) for each in constraints]
     plural = "dimension" if len(added) == 1 else "dimensions"
     with one_step(read.sketch.Document, f"Add {len(added)} {plural} (Pertxogai)"):
