@@ -7,10 +7,11 @@ from dataclasses import dataclass
 from pathlib import Path
 
 from pertxogai.files.atomic import written_whole
+from pertxogai.files.freecad import read_freecad
 from pertxogai.judging import GoodJudgement
 from pertxogai.judging.claims import Checked, checked, claim_of, scale_of
 from pertxogai_freecad.judging import JudgedSketch
-from pertxogai_freecad.trouble import Trouble, troubles
+from pertxogai_freecad.trouble import NotGoodTrouble, Trouble, troubles
 
 
 @dataclass(frozen=True)
@@ -37,10 +38,11 @@ class Certified:
 
 def certify(judged: JudgedSketch) -> Certified:
     """Writes the claim of a good sketch beside its document, and what the checkers say of it.
-    Raises Trouble where the sketch isn't good, the document was never saved, or nothing can be
-    written."""
+    Raises NotGoodTrouble where the sketch isn't good; Trouble where the document isn't saved with
+    it, or nothing can be written."""
     if not isinstance(judged.good, GoodJudgement):
-        raise Trouble(f"{judged.read.label} isn't good, so no claim is written: {judged.good}")
+        raise NotGoodTrouble(
+            f"{judged.read.label} isn't good, so no claim is written: {judged.good}")
     claim, verification = _paths(judged)
     with troubles():
         text = claim_of(judged.good, judged.program).text()
@@ -54,10 +56,16 @@ def certify(judged: JudgedSketch) -> Certified:
 
 
 def _paths(judged: JudgedSketch) -> tuple[Path, Path]:
-    """Where the claim and its verification go. Raises Trouble."""
+    """Where the claim and its verification go. Raises Trouble where the document's file hasn't the
+    sketch that was judged, since who has both takes the claim for one of the file."""
     sketch = judged.read.sketch
     if not sketch.Document.FileName:
         raise Trouble("the document was never saved: save it, since the claim is written beside it")
     document = Path(sketch.Document.FileName)
+    with troubles():
+        saved = {each.name: each.drawing for each in read_freecad(document)}
+    if saved.get(sketch.Name) != judged.read.drawing:
+        raise Trouble("the sketch isn't saved as it is: save the document, since the claim is "
+                      "written beside it")
     stem = f"{document.stem}-{sketch.Name}"
     return document.with_name(f"{stem}.claim"), document.with_name(f"{stem}.verification")

@@ -8,9 +8,10 @@ from pertxogai.board.construction import Construction
 from pertxogai.board.placed_elements import elements_placed
 from pertxogai.board.protocol import Locus, Step as StepJson
 from pertxogai.judging import GoodJudgement
+from pertxogai.judging.trials import written_by
 from pertxogai.program.reports import Solved, read_plan
 from pertxogai_freecad.judging import JudgedSketch
-from pertxogai_freecad.trouble import Trouble, troubles
+from pertxogai_freecad.trouble import NotGoodTrouble, troubles
 
 Spot = tuple[float, float]
 """A place or a direction in the sketch, in millimetres."""
@@ -64,14 +65,16 @@ class Constructed:
 
 
 def construct(judged: JudgedSketch) -> Constructed:
-    """The construction of a good sketch, as the program has planned it. Raises Trouble where the
-    sketch isn't good."""
+    """The construction of a good sketch, as the program has planned it. Raises NotGoodTrouble where
+    the sketch isn't good, and Trouble."""
     if not isinstance(judged.good, GoodJudgement):
-        raise Trouble(f"{judged.read.label} isn't good, so it has no construction: {judged.good}")
+        raise NotGoodTrouble(
+            f"{judged.read.label} isn't good, so it has no construction: {judged.good}")
     judgement = judged.judged.judgement
     assert isinstance(judgement.asked.solved, Solved)
     with troubles():
-        plan = read_plan(judged.program.ask(("plan",), judgement.asked.spelled.sketch.text()).text)
+        text = judgement.asked.spelled.sketch.text()
+        plan = read_plan(written_by(judged.program, "plan", text))
     placed = elements_placed(judgement, judgement.asked.solved)
     shown = Construction(judgement, plan, placed).shown()
     numbers = {shape.name: count for count, shape in judged.read.curves().items()}

@@ -4,9 +4,10 @@
 
 The commands are judge, repair, complete, range, certify and construction; they print what the
 window shows. The documents stay as they are: `certify` writes its claims beside them, and
-`complete` writes copies with all that it proposes into the folder that is named behind. FreeCAD
-ends with status 0 where all sketches are good (of `certify`: accepted by all checkers), 1 where one
-isn't, 2 where something can't be done."""
+`complete` writes copies with all that it proposes, of those documents of which it proposes
+something, into the folder that is named behind. FreeCAD ends with status 0 where all sketches are
+good (of `certify`: accepted by all checkers), 1 where one isn't, 2 where something can't be
+done."""
 from __future__ import annotations
 
 import sys
@@ -22,12 +23,15 @@ import FreeCAD
 from pertxogai_freecad.freecad_types import OwnDocument
 from pertxogai_freecad.home import find_package, find_program, limit_of
 from pertxogai_freecad.settings import Settings
-from pertxogai_freecad.trouble import Trouble
+from pertxogai_freecad.trouble import NotGoodTrouble, Trouble
 
 if TYPE_CHECKING:  # The package is found by `main`.
     from pertxogai.judging.measure import Limit
     from pertxogai.program import Program
     from pertxogai_freecad.sketches import ReadSketch
+
+SUFFIX = ".fcstd"
+"""How the name of a document ends, in small letters."""
 
 
 class Ends(IntEnum):
@@ -47,8 +51,13 @@ class Asked:
     out: Path | None
 
 
-Found = tuple[Iterator[str], bool]
-"""What is told of a sketch, in lines, and whether it is good."""
+@dataclass(frozen=True)
+class Found:
+    """What is told of a sketch, in lines; whether it is good; and whether it was changed."""
+
+    lines: Iterator[str]
+    is_good: bool = True
+    is_changed: bool = False
 
 
 def main(command: str, folder: str, out: str = "") -> None:
@@ -67,7 +76,9 @@ def run(command: str, folder: Path, out: Path | None = None) -> Ends:
     it. Raises Trouble where nothing can be asked at all."""
     if command not in COMMANDS:
         raise Trouble(f"there is no command {command!r}: write one of {', '.join(COMMANDS)}")
-    paths = sorted(folder.glob("*.FCStd")) if folder.is_dir() else [folder]
+    paths = [folder]
+    if folder.is_dir():
+        paths = sorted(each for each in folder.iterdir() if each.suffix.lower() == SUFFIX)
     if not paths:
         raise Trouble(f"{folder} has no document (.FCStd)")
     settings = Settings.stored()
@@ -80,18 +91,20 @@ def _document(command: str, path: Path, asked: Asked) -> Ends:
     """Does a command for each sketch of one document."""
     from pertxogai_freecad.sketches import read_sketches
 
-    ends = Ends.GOOD
+    out = asked.out / path.name if asked.out is not None else None
     try:
+        if out is not None and out.exists():
+            raise Trouble(f"{out} is there already, and isn't written over: name another folder")
         with _opened(path) as document:
             print()  # FreeCAD's own line of progress has no end.
-            for read in read_sketches(document):
-                ends = max(ends, _sketch(command, read, asked))
-            if command == "complete" and asked.out is not None:
-                _copy(document, asked.out / path.name)
-    except Trouble as trouble:
+            told = [_sketch(command, read, asked) for read in read_sketches(document)]
+            if out is not None and any(is_changed for _, is_changed in told):
+                out.parent.mkdir(parents=True, exist_ok=True)
+                document.saveCopy(str(out))
+    except (Trouble, OSError) as trouble:
         print(f"{path.name}: {trouble}")
         return Ends.TROUBLE
-    return ends
+    return max(ends for ends, _ in told)
 
 
 @contextmanager
@@ -107,25 +120,19 @@ def _opened(path: Path) -> Iterator[OwnDocument]:
         FreeCAD.closeDocument(document.Name)
 
 
-def _sketch(command: str, read: ReadSketch, asked: Asked) -> Ends:
-    """Does a command for one sketch, and prints what came of it."""
+def _sketch(command: str, read: ReadSketch, asked: Asked) -> tuple[Ends, bool]:
+    """Does a command for one sketch, and prints what came of it; how it ends, and whether the
+    sketch was changed."""
     name = f"{Path(read.sketch.Document.FileName).name} {read.sketch.Name}"
     try:
-        lines, is_good = COMMANDS[command](read, asked)
-        for line in lines:
+        found = COMMANDS[command](read, asked)
+        for line in found.lines:
             print(f"{name}: {line}")
     except Trouble as trouble:
         print(f"{name}: {trouble}")
-        return Ends.NOT_GOOD
-    return Ends.GOOD if is_good else Ends.NOT_GOOD
-
-
-def _copy(document: OwnDocument, out: Path) -> None:
-    """Writes a copy of a document. Raises Trouble where a file is there already."""
-    if out.exists():
-        raise Trouble(f"{out} is there already, and isn't written over: name another folder")
-    out.parent.mkdir(parents=True, exist_ok=True)
-    document.saveCopy(str(out))
+        is_sketchs = isinstance(trouble, NotGoodTrouble)
+        return Ends.NOT_GOOD if is_sketchs else Ends.TROUBLE, False
+    return Ends.GOOD if found.is_good else Ends.NOT_GOOD, found.is_changed
 
 
 def _judge(read: ReadSketch, asked: Asked) -> Found:
@@ -133,7 +140,7 @@ def _judge(read: ReadSketch, asked: Asked) -> Found:
     from pertxogai_freecad.judging import judge_sketch
 
     judged = judge_sketch(read, asked.program, asked.limit)
-    return judged.lines(), isinstance(judged.good, GoodJudgement)
+    return Found(judged.lines(), isinstance(judged.good, GoodJudgement))
 
 
 def _repair(read: ReadSketch, asked: Asked) -> Found:
@@ -141,7 +148,7 @@ def _repair(read: ReadSketch, asked: Asked) -> Found:
     from pertxogai_freecad.repairing import Repair
 
     repair = Repair.of(judge_sketch(read, asked.program, asked.limit))
-    return repair.lines(), not repair.candidates
+    return Found(repair.lines(), not repair.candidates)
 
 
 def _complete(read: ReadSketch, asked: Asked) -> Found:
@@ -149,15 +156,17 @@ def _complete(read: ReadSketch, asked: Asked) -> Found:
     from pertxogai_freecad.completing import Proposed
 
     proposed = Proposed.of(read, asked.program, asked.limit)
-    if asked.out is not None and proposed.proposals:
+    is_changed = asked.out is not None and bool(proposed.proposals)
+    if is_changed:
         proposed.take_all()
-    return proposed.lines(), is_whole(proposed.found, [*map(str, read.found.left_out)])
+    is_good = is_whole(proposed.found, [*map(str, read.found.left_out)])
+    return Found(proposed.lines(), is_good, is_changed)
 
 
 def _range(read: ReadSketch, asked: Asked) -> Found:
     from pertxogai_freecad.ranging import ranges
 
-    return ranges(read, asked.program, asked.limit), True
+    return Found(ranges(read, asked.program, asked.limit))
 
 
 def _certify(read: ReadSketch, asked: Asked) -> Found:
@@ -165,14 +174,14 @@ def _certify(read: ReadSketch, asked: Asked) -> Found:
     from pertxogai_freecad.judging import judge_sketch
 
     certified = certify(judge_sketch(read, asked.program, asked.limit))
-    return certified.lines(), certified.is_accepted()
+    return Found(certified.lines(), certified.is_accepted())
 
 
 def _construction(read: ReadSketch, asked: Asked) -> Found:
     from pertxogai_freecad.constructing import construct
     from pertxogai_freecad.judging import judge_sketch
 
-    return construct(judge_sketch(read, asked.program, asked.limit)).lines(), True
+    return Found(construct(judge_sketch(read, asked.program, asked.limit)).lines())
 
 
 COMMANDS: dict[str, Callable[["ReadSketch", Asked], Found]] = {

@@ -9,7 +9,7 @@ from pertxogai.judging.measure import Limit
 from pertxogai.judging.remembering import Remembering
 from pertxogai.program import Program
 from pertxogai_freecad.sketches import ReadSketch
-from pertxogai_freecad.trouble import Trouble, troubles
+from pertxogai_freecad.trouble import NotGoodTrouble, Trouble, troubles
 
 MISSING = ("this version of the package pertxogai has no ranges (its module pertxogai.ranging is "
            "missing): install a later one")
@@ -24,7 +24,8 @@ def check_there() -> None:
 def ranges(read: ReadSketch, program: Program, limit: Limit,
            indices: frozenset[int] | None = None) -> Iterator[str]:
     """How far the dimensions of these of FreeCAD's numbers may go, or all of them, in lines to
-    read. Raises Trouble where the sketch isn't good, or none of these has a range."""
+    read. Raises NotGoodTrouble where the sketch isn't good; Trouble where none of these has a
+    range, or the package can't tell ranges."""
     check_there()
     from pertxogai.output.ranges_text import ranges_lines
     from pertxogai.ranging import NoRange, Ranging
@@ -34,7 +35,7 @@ def ranges(read: ReadSketch, program: Program, limit: Limit,
             ranging = Ranging.of(read.drawing, Remembering(program), limit,
                                  tuple(map(str, read.found.left_out)))
         except NoRange as why:
-            raise Trouble(f"{read.label}: no ranges: {why}") from None
+            raise NotGoodTrouble(f"{read.label}: no ranges: {why}") from None
         asked = [each for each in ranging.parameters()
                  if not isinstance(each, Dimension) or indices is None
                  or read.index(each.number) in indices]

@@ -9,6 +9,10 @@ class Trouble(Exception):
     """What the user asked for can't be done. The message is one line, and says what to do."""
 
 
+class NotGoodTrouble(Trouble):
+    """It can't be done of this sketch, since that isn't good."""
+
+
 @contextmanager
 def troubles() -> Iterator[None]:
     """Raises Trouble for whatever the package refuses, with the package's own line."""
