@@ -3,6 +3,7 @@ from __future__ import annotations
 
 import importlib.util
 import os
+import re
 import sys
 from collections.abc import Iterator
 from contextlib import suppress
@@ -19,6 +20,7 @@ if TYPE_CHECKING:  # The package is found by this module.
 
 ADDON = Path(__file__).resolve().parents[1]
 """The folder of the add-on, where links lead."""
+VERSION = re.compile(r"<version>(.*)</version>")
 HOME_VARIABLE = "PERTXOGAI_HOME"
 PROGRAM_VARIABLE = "PERTXOGAI_SKETCH"
 LEAST = (3, 11)
@@ -26,18 +28,30 @@ LEAST = (3, 11)
 
 
 def find_package(settings: Settings) -> None:
-    """Puts the package `pertxogai` on Python's path. Raises Trouble where it isn't found."""
+    """Puts the package `pertxogai` on Python's path. Raises Trouble where it isn't found, or is of
+    another version than the add-on."""
     if sys.version_info < LEAST:
         raise Trouble(f"FreeCAD's Python is {sys.version.split()[0]}: Pertxogai needs 3.11 or "
                       "later")
-    for folder in _folders(settings):
-        if (folder / "pertxogai" / "__init__.py").is_file():
-            if str(folder) not in sys.path:
-                sys.path.insert(0, str(folder))
-            return
+    there = (each for each in _folders(settings)
+             if (each / "pertxogai" / "__init__.py").is_file())
+    folder = next(there, None)
+    if folder is not None and str(folder) not in sys.path:
+        sys.path.insert(0, str(folder))
     if importlib.util.find_spec("pertxogai") is None:
         raise Trouble("the Python package pertxogai isn't found: install Pertxogai, or name the "
                       "folder that has it in Edit, Preferences.., Pertxogai")
+    _check_version()
+
+
+def _check_version() -> None:
+    """Raises Trouble where the package is of another version than the add-on."""
+    import pertxogai
+
+    own = VERSION.search((ADDON / "package.xml").read_text(encoding="utf-8"))
+    if own is not None and own[1] != pertxogai.__version__:
+        raise Trouble(f"the Python package pertxogai is {pertxogai.__version__}, and the add-on "
+                      f"{own[1]}: install the same version of both")
 
 
 def _folders(settings: Settings) -> Iterator[Path]:
