@@ -1,6 +1,7 @@
 """The edges of a sketch in the colours of the program's pieces, while the button is pressed."""
 from __future__ import annotations
 
+from contextlib import suppress
 from typing import Any
 
 import FreeCAD
@@ -30,8 +31,9 @@ class PieceColours:
             self._sketch.ViewObject.LineColorArray = colours
 
     def take_back(self) -> None:
-        """Gives the edges the colours that they had."""
-        self._sketch.ViewObject.LineColorArray = self._before
+        """Gives the edges the colours that they had, unless the sketch is gone."""
+        with suppress(ReferenceError, RuntimeError):
+            self._sketch.ViewObject.LineColorArray = self._before
 
     def _colours(self) -> list[Colour]:
         piece_of = parts_of_shapes(self._judged.judged.judgement)

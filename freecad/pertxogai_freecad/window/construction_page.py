@@ -48,9 +48,9 @@ class ConstructionPage:
         """Stops, and takes what it shows out of the window."""
         self._timer.stop()
         self.play.setText(translate(CONTEXT, PLAY))
-        if self._overlay is not None:
-            self._overlay.remove()
-        self._overlay = self._constructed = None
+        overlay, self._overlay, self._constructed = self._overlay, None, None
+        if overlay is not None:
+            overlay.remove()
         self.told.setText("")
 
     def _show_step(self, number: int) -> None:

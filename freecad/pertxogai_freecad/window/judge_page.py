@@ -66,9 +66,9 @@ class JudgePage:
 
     def take_back(self) -> None:
         """Takes back what it shows in the sketch."""
-        if self._colours is not None:
-            self._colours.take_back()
-        self._colours = None
+        colours, self._colours = self._colours, None
+        if colours is not None:
+            colours.take_back()
         self.pieces.setChecked(False)
 
     def _selected(self, row: int) -> None:

@@ -4,6 +4,7 @@ from __future__ import annotations
 
 import math
 from collections.abc import Iterable, Sequence
+from contextlib import suppress
 from typing import Any
 
 import FreeCADGui
@@ -43,9 +44,10 @@ class Overlay:
             self._root.addChild(_point(step.at))
 
     def remove(self) -> None:
-        """Takes all of it out of the scene."""
-        self._root.removeAllChildren()
-        self._scene.removeChild(self._root)
+        """Takes all of it out of the scene, unless the view is gone."""
+        with suppress(ReferenceError, RuntimeError):
+            self._root.removeAllChildren()
+            self._scene.removeChild(self._root)
 
     def _polyline(self, index: int) -> list[Spot]:
         curve = self._sketch.Geometry[index]
