@@ -16,6 +16,7 @@ import pytest
 
 from addon import ADDON, CHECKS, CONSOLE, FILES, Installed
 from conftest import TOP
+from pertxogai import __version__
 from pertxogai.program import Program
 
 sys.path.insert(0, str(TOP / "tools"))
@@ -93,6 +94,20 @@ def test_what_may_go_goes_and_comes_back(name: str, standing: str, off: str,
     assert facts["stale"] == CHANGED
 
 
+def test_what_says_two_things_is_tried_as_a_whole(told: dict[str, Any]) -> None:
+    """A tangency at an end has the end on the circle, and the line along it there. That is said
+    once more of the end, and without the tangency the line may turn."""
+    facts = told["repair_in_part tangency"]
+    assert facts["told"]["Constraint3"] == [
+        "too many in part", "", "under-constrained", "by rank, and tried by the program"]
+    assert facts["then"] == OPEN
+
+
+def test_a_shape_that_was_drawn_since_keeps_dimensions_from_being_added(
+        told: dict[str, Any]) -> None:
+    assert told["complete_moved shape"] == {"stale": CHANGED, "same": True}
+
+
 @pytest.mark.parametrize("name", ["plate-without-height", "hinge", "plate-with-loose-hole"])
 def test_the_one_dimension_that_is_missing_is_taken_and_comes_back(
         name: str, told: dict[str, Any]) -> None:
@@ -135,6 +150,7 @@ def test_no_claim_of_what_is_not_good_or_not_saved(told: dict[str, Any]) -> None
     over = "Sketch isn't good, so no claim is written: it is over"
     assert told["certify twice"]["trouble"] == over
     assert told["certify unsaved"]["trouble"].startswith("the document was never saved: save it")
+    assert told["certify changed"]["trouble"].startswith("the sketch isn't saved as it is: save")
 
 
 def test_a_construction_joins_three_clusters_at_each_step(told: dict[str, Any]) -> None:
@@ -195,6 +211,14 @@ def test_a_folder_of_documents_is_judged_without_a_window(program: Program,
     assert sums(here.folder) == before
 
 
+def test_a_sketch_that_is_not_good_is_told_from_what_cannot_be_done(program: Program,
+                                                                    tmp_path: Path) -> None:
+    here = Installed.by_link(tmp_path)
+    here.copy("twice")
+    status, lines = asked(here, program, "certify", str(here.folder / "twice.FCStd"))
+    assert status == 1 and lines[0].endswith("so no claim is written: it is over")
+
+
 def test_a_folder_is_completed_into_another(program: Program, tmp_path: Path) -> None:
     here = Installed.by_link(tmp_path)
     here.copy("plate-without-height")
@@ -220,6 +244,20 @@ def test_the_add_on_of_a_release_has_all_that_it_needs(program: Program, tmp_pat
     ended = here.console("-c", code, PERTXOGAI_SKETCH="")
     assert ended.returncode == 0, ended.stdout + ended.stderr
     assert (here.folder / "link-Sketch.verification").read_text().count(": verified steps 12 ") == 3
+
+
+def test_another_version_of_the_package_is_told(program: Program, tmp_path: Path) -> None:
+    here = Installed.by_link(tmp_path)
+    here.copy("plate")
+    old = tmp_path / "old" / "python" / "pertxogai"
+    old.mkdir(parents=True)
+    (old / "__init__.py").write_text('__version__ = "0.0.1"\n')
+    code = f"from pertxogai_freecad.documents import main; main('judge', {str(here.folder)!r})"
+    ended = here.console("-c", code, PERTXOGAI_SKETCH=program.path,
+                         PERTXOGAI_HOME=str(tmp_path / "old"))
+    assert ended.returncode == 2
+    assert (f"the Python package pertxogai is 0.0.1, and the add-on {__version__}: install the same"
+            in ended.stderr)
 
 
 @pytest.mark.skipif(Path("/usr/lib/python3/dist-packages/pertxogai").exists(),

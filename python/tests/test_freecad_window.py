@@ -107,7 +107,9 @@ def test_shapes_are_placed_by_a_button_and_come_back(told: dict[str, Any]) -> No
 
 
 def test_pieces_have_their_colours_while_a_button_is_pressed(told: dict[str, Any]) -> None:
-    assert told["pieces"] == {"edges": 6, "colours": 2, "back": True}
+    facts = told["pieces"]
+    assert facts["edges"] == 6 and facts["colours"] == 2 and facts["back"]
+    assert facts["next"] == WELL  # Of another sketch, once the coloured one was closed.
 
 
 def test_without_a_sketch_the_panel_says_so(told: dict[str, Any]) -> None:

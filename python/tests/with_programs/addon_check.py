@@ -12,6 +12,8 @@ import traceback
 from pathlib import Path
 
 import FreeCAD
+import Part
+import Sketcher
 from pertxogai_freecad.home import find_package, find_program, limit_of
 from pertxogai_freecad.settings import Settings
 from pertxogai_freecad.trouble import Trouble
@@ -29,6 +31,8 @@ from pertxogai_freecad.sketches import read_sketch, stored_of  # noqa: E402
 
 ARCS, END = (0, 1), 2
 """The numbers of two arcs of the link, and of a shape's end."""
+RING, TAIL, START = 0, 1, 1
+"""The numbers of the circle and of the line that touches it of tangent-forms, and of a start."""
 WIDTH, HEIGHT = 9, 10
 """The numbers of two dimensions of the plate, from 0."""
 PROGRAM, LIMIT = find_program(SETTINGS), limit_of(SETTINGS)
@@ -97,6 +101,29 @@ def check_repair():
                      "left": [len(names), "above" in names], "says": says, "undo": undo,
                      "then": after.headline(), "undone": stored_of(sketch) == before}
         FreeCAD.closeDocument(document.Name)
+
+
+def check_repair_in_part():
+    """A point that is told again to lie on the circle on which a tangency at an end has it."""
+    sketch = opened("tangent-forms")
+    sketch.addConstraint(Sketcher.Constraint("PointOnObject", TAIL, START, RING))
+    repair = Repair.of(judged(sketch))
+    told = {each.name: [each.standing.value, each.off, each.rest, each.by.value]
+            for each in repair.candidates}
+    (tangency,) = (each for each in repair.candidates if each.name == "Constraint3")
+    repair.take_away(tangency.index)
+    yield "tangency", {"told": told, "then": judged(sketch).headline()}
+    FreeCAD.closeDocument(sketch.Document.Name)
+
+
+def check_complete_moved():
+    """A shape that was drawn since: what is proposed isn't added."""
+    sketch = opened("plate-without-height")
+    proposed = Proposed.of(read_sketch(sketch), PROGRAM, LIMIT)
+    sketch.addGeometry(Part.Point(FreeCAD.Vector(5, 5, 0)))
+    before = stored_of(sketch)
+    yield "shape", {"stale": trouble_of(proposed.take_all), "same": stored_of(sketch) == before}
+    FreeCAD.closeDocument(sketch.Document.Name)
 
 
 def check_complete():
@@ -175,6 +202,10 @@ def check_certify():
     sketch = opened("twice")
     yield "twice", {"trouble": trouble_of(lambda: certify(judged(sketch)))}
     FreeCAD.closeDocument(sketch.Document.Name)
+    sketch = opened("plate")
+    sketch.setDatum(WIDTH, 61.0)
+    yield "changed", {"trouble": trouble_of(lambda: certify(judged(sketch)))}
+    FreeCAD.closeDocument(sketch.Document.Name)
     document = FreeCAD.newDocument("unsaved")
     copied = document.copyObject(opened("plate"))
     yield "unsaved", {"trouble": trouble_of(lambda: certify(judged(copied)))}
@@ -208,7 +239,8 @@ def check_program():
 def main():
     """All of it, and the end."""
     told = {}
-    for check in (check_judge, check_repair, check_complete, check_complete_two,
+    for check in (check_judge, check_repair, check_repair_in_part, check_complete,
+                  check_complete_two, check_complete_moved,
                   check_complete_nothing, check_place, check_certify, check_construction,
                   check_range, check_program):
         word = check.__name__.removeprefix("check_")

@@ -261,6 +261,11 @@ def check_pieces():
     press("Pieces")
     facts = {"edges": len(coloured), "colours": len(set(coloured)),
              "back": list(sketch.ViewObject.LineColorArray) == before}
+    press("Pieces")
+    closed(sketch)
+    sketch = opened("plate")
+    run("Judge")
+    facts["next"] = text("Headline")
     closed(sketch)
     return facts
 
