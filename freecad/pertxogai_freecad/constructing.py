@@ -4,51 +4,34 @@ from __future__ import annotations
 from collections.abc import Iterator
 from dataclasses import dataclass
 
-from pertxogai.board.construction import Construction
-from pertxogai.board.placed_elements import elements_placed
-from pertxogai.board.protocol import Locus, Step as StepJson
-from pertxogai.judging import GoodJudgement
+from pertxogai.judging import GoodJudgement, Judgement
 from pertxogai.judging.trials import written_by
+from pertxogai.language.clusters import ClusterName
+from pertxogai.output.construction import Construction, Locus
+from pertxogai.output.placed_elements import ElementPoint, elements_placed
+from pertxogai.program import Program
 from pertxogai.program.reports import Solved, read_plan
 from pertxogai_freecad.judging import JudgedSketch
 from pertxogai_freecad.trouble import NotGoodTrouble, troubles
-
-Spot = tuple[float, float]
-"""A place or a direction in the sketch, in millimetres."""
-
-
-@dataclass(frozen=True)
-class HelpCircle:
-    """A circle on which what is constructed lies."""
-
-    centre: Spot
-    radius: float
-
-
-@dataclass(frozen=True)
-class HelpLine:
-    """A line on which what is constructed lies, without ends; `way` has length 1."""
-
-    through: Spot
-    way: Spot
 
 
 @dataclass(frozen=True)
 class Step:
     """A step of the construction. made: what it makes, by its name in the sketch, and where that
-    lies; None of a line. joins: what it joins, in words. help: where what is made lies by the
-    others. shapes: the shapes of which all points stand, once it is done, by FreeCAD's numbers."""
+    lies, in millimetres; None of a line. joins: what it joins, in words, each once. loci: where
+    what is made lies by the others. shapes: the shapes of which all points stand, once it is done,
+    by FreeCAD's numbers."""
 
     number: int
     made: str
-    at: Spot | None
+    at: tuple[float, float] | None
     joins: tuple[str, ...]
-    help: tuple[HelpCircle | HelpLine, ...]
+    loci: tuple[Locus, ...]
     shapes: frozenset[int]
 
     def line(self) -> str:
         """All of it, to read."""
-        return f"step {self.number}: {self.made}, by {'; '.join(self.joins)}"
+        return f"step {self.number} makes {self.made} by {'; by '.join(self.joins)}"
 
 
 @dataclass(frozen=True)
@@ -60,7 +43,8 @@ class Constructed:
 
     def lines(self) -> Iterator[str]:
         """The steps, in lines to read."""
-        yield f"{self.judged.read.label} is constructed in {len(self.steps)} steps"
+        steps = "1 step" if len(self.steps) == 1 else f"{len(self.steps)} steps"
+        yield f"{self.judged.read.label} is constructed in {steps}"
         yield from (f"  {each.line()}" for each in self.steps)
 
 
@@ -70,34 +54,27 @@ def construct(judged: JudgedSketch) -> Constructed:
     if not isinstance(judged.good, GoodJudgement):
         raise NotGoodTrouble(
             f"{judged.read.label} isn't good, so it has no construction: {judged.good}")
-    judgement = judged.judged.judgement
-    assert isinstance(judgement.asked.solved, Solved)
     with troubles():
-        text = judgement.asked.spelled.sketch.text()
-        plan = read_plan(written_by(judged.program, "plan", text))
-    placed = elements_placed(judgement, judgement.asked.solved)
-    shown = Construction(judgement, plan, placed).shown()
-    numbers = {shape.name: count for count, shape in judged.read.curves().items()}
+        construction = _planned(judged.judged.judgement, judged.program)
+    return Constructed(judged, tuple(_steps(construction, judged)))
+
+
+def _planned(judgement: Judgement, program: Program) -> Construction:
+    """What the program plans of what it has placed. Raises ProgramError, Refusal."""
+    asked = judgement.asked
+    assert isinstance(asked.solved, Solved)
+    plan = read_plan(written_by(program, "plan", asked.spelled.sketch.text()))
+    return Construction(judgement, plan, elements_placed(judgement, asked.solved))
+
+
+def _steps(construction: Construction, judged: JudgedSketch) -> Iterator[Step]:
+    numbers = {shape.name: number for number, shape in judged.read.curves().items()}
     standing: frozenset[int] = frozenset()
-    steps = []
-    for each in shown["steps"]:
-        standing |= {numbers[name] for name in _shapes(each) if name in numbers}
-        made = shown["elements"][each["made"]]
-        steps.append(Step(each["number"], made["called"], made.get("at"), _joins(each),
-                          tuple(map(_help, each["loci"])), standing))
-    return Constructed(judged, tuple(steps))
-
-
-def _shapes(step: StepJson) -> Iterator[str]:
-    for cluster in step["joins"]:
-        yield from cluster["shapes"]
-
-
-def _joins(step: StepJson) -> tuple[str, ...]:
-    return tuple(each["called"] for each in step["joins"])
-
-
-def _help(locus: Locus) -> HelpCircle | HelpLine:
-    if "circle" in locus:
-        return HelpCircle(locus["circle"], locus["radius"])
-    return HelpLine(locus["line"], locus["way"])
+    for each in construction.steps():
+        made = construction.placed[each.made]
+        stands = construction.shapes(ClusterName(True, each.number))
+        standing |= {numbers[name] for name in stands if name in numbers}
+        yield Step(each.number, construction.called(each.made),
+                   made.at if isinstance(made, ElementPoint) else None,
+                   tuple(dict.fromkeys(joined.called for joined in each.joins)), each.loci,
+                   standing)

@@ -58,7 +58,7 @@ PATHS = {
     "outline.dxf": "files.dxf.entities",
     "page": "board",
     "page.attending": "board.overlap",
-    "page.frame": "board.placed_elements",
+    "page.frame": "output.placed_elements",
     "page.freenames": "board.new_names",
     "page.judging": "board.board_drawing",
     "page.motion": "output.picture.fitting",

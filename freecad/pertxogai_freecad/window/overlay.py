@@ -10,11 +10,15 @@ from typing import Any
 import FreeCADGui
 from pivy import coin
 
-from pertxogai_freecad.constructing import HelpCircle, HelpLine, Spot, Step
+from pertxogai.output.construction import Locus, LocusLine
+from pertxogai_freecad.constructing import Step
 from pertxogai_freecad.freecad_types import OwnSketch
+from pertxogai_freecad.trouble import Trouble
 
-STANDING, HELP, MADE = (0.0, 0.62, 0.45), (0.34, 0.71, 0.91), (0.84, 0.37, 0.0)
-"""The colours of the shapes that stand, of the helping lines, and of what is made."""
+STANDING, LOCI, MADE = (0.0, 0.62, 0.45), (0.34, 0.71, 0.91), (0.84, 0.37, 0.0)
+"""The colours of the shapes that stand, of where what is made may lie, and of what is made."""
+Spot = tuple[float, float]
+"""A place in the sketch, in millimetres."""
 CORNERS = 48
 """Into how many pieces a curve is cut to be shown."""
 DASHES = 0x0F0F
@@ -26,9 +30,12 @@ class Overlay:
     """What is drawn over one sketch."""
 
     def __init__(self, sketch: OwnSketch) -> None:
+        """Raises Trouble where the view in front shows no shapes, as that of a spreadsheet."""
         self._sketch = sketch
         self._root = coin.SoSeparator()
         view = FreeCADGui.getDocument(sketch.Document.Name).ActiveView
+        if not hasattr(view, "getSceneGraph"):
+            raise Trouble("the document's 3D view isn't in front: choose its tab, and ask again")
         self._scene = view.getSceneGraph()
         self._scene.addChild(self._root)
 
@@ -39,7 +46,7 @@ class Overlay:
         reach = self._reach()
         standing = [self._polyline(each) for each in sorted(step.shapes)]
         self._root.addChild(_lines(standing, STANDING, 4))
-        self._root.addChild(_lines([_help(each, reach) for each in step.help], HELP, 2, DASHES))
+        self._root.addChild(_lines([_locus(each, reach) for each in step.loci], LOCI, 2, DASHES))
         if step.at is not None:
             self._root.addChild(_point(step.at))
 
@@ -69,8 +76,8 @@ def _placed(sketch: OwnSketch) -> Any:
     return found
 
 
-def _help(each: HelpCircle | HelpLine, reach: float) -> list[Spot]:
-    if isinstance(each, HelpLine):
+def _locus(each: Locus, reach: float) -> list[Spot]:
+    if isinstance(each, LocusLine):
         (x, y), (u, v) = each.through, each.way
         return [(x - reach * u, y - reach * v), (x + reach * u, y + reach * v)]
     turns = (2 * math.pi * corner / CORNERS for corner in range(CORNERS + 1))

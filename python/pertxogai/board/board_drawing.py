@@ -5,11 +5,10 @@ from dataclasses import dataclass
 from functools import cached_property
 from typing import TYPE_CHECKING
 
-from pertxogai.board.construction import Construction
+from pertxogai.board.construction import PlayedConstruction
 from pertxogai.board.drawing_json import Sight
 from pertxogai.board.judgement_json import places_shown
 from pertxogai.board.panel import Untold
-from pertxogai.board.placed_elements import elements_placed
 from pertxogai.board.placed_parts import LaidPart, parts_laid, shown_between
 from pertxogai.board.protocol import Judgement as JudgementJson, Places
 from pertxogai.board.shortage import shortage
@@ -26,7 +25,9 @@ from pertxogai.judging.settled import solution_of
 from pertxogai.language import Refusal
 from pertxogai.language.claim import Claim
 from pertxogai.language.flips import Flip, Flips
+from pertxogai.output.construction import Construction
 from pertxogai.output.picture.drawings import DrawnPlaces
+from pertxogai.output.placed_elements import elements_placed
 from pertxogai.program import ProgramError, Solver, Status
 from pertxogai.program.reports import (
     ClaimFails, Flipped, Plan, Refused, Shape, Solved, Verdict, Verified, read_answer, read_flips,
@@ -202,10 +203,10 @@ class BoardDrawing:
         except ProgramError:
             return ""
 
-    def construction(self) -> Construction:
+    def construction(self) -> PlayedConstruction:
         """The steps to be watched. Raises NotPlaced."""
-        return Construction(self.judgement, self.plan,
-                            elements_placed(self.judgement, self.solved()))
+        placed = elements_placed(self.judgement, self.solved())
+        return PlayedConstruction(Construction(self.judgement, self.plan, placed))
 
     def flipped(self, steps: tuple[int, ...]) -> Solution | Flipped:
         """Where the other shape lies, in which the choices of these steps are turned over; else
