@@ -146,16 +146,8 @@ def _rows(judged: JudgedSketch) -> Iterator[Row]:
             yield Row(index, name, says, *_measured(judged, numbers))
     for each in found.aside:
         yield Row(each.number - 1, each.name, each.why.value, "", Standing.NOT_ASKED)
-    yield from _left_out(judged)
-
-
-def _left_out(judged: JudgedSketch) -> Iterator[Row]:
-    """The constraints that the drawing can't say."""
-    known = {*judged.read.found.numbers, *(each.number for each in judged.read.found.aside)}
-    lost = [number for number in range(1, len(judged.read.stored[0]) + 1) if number not in known]
-    constraints = [each for each in judged.read.found.left_out][-len(lost):] if lost else []
-    for number, each in zip(lost, constraints):
-        yield Row(number - 1, each.what, each.why, "", Standing.LEFT_OUT)
+    yield from (Row(each.number - 1, each.what, each.why, "", Standing.LEFT_OUT)
+                for each in found.left_out if each.number is not None)
 
 
 def surplus_by_index(judged: JudgedSketch) -> Mapping[int, Surplus]:

@@ -52,7 +52,7 @@ class DrawingBuilder:
             for constraint in said:
                 check_constraint(self._scene, constraint)
         except WordFault as fault:
-            self.leave_out(name, str(fault))
+            self.leave_out(name, str(fault), number)
             return
         for constraint in said:
             self._constraints.append(replace(constraint, name=self._free_name(name)))
@@ -64,9 +64,9 @@ class DrawingBuilder:
         along, across = self._way(first), self._way(second)
         return along[0] * across[1] - along[1] * across[0] >= 0
 
-    def leave_out(self, what: str, why: str) -> None:
-        """Notes what is left out, and why."""
-        self._left_out.append(LeftOut(what, why))
+    def leave_out(self, what: str, why: str, number: int | None = None) -> None:
+        """Notes what is left out, and why; of a constraint also its number in the file, from 1."""
+        self._left_out.append(LeftOut(what, why, number))
 
     def found(self, name: str, label: str, aside: Sequence[NotDriving] = ()) -> FileSketch:
         """The sketch of all that was added."""

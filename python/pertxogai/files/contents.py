@@ -19,10 +19,12 @@ class NotSayable(Exception):
 
 @dataclass(frozen=True)
 class LeftOut:
-    """A shape or a constraint of the file that the drawing doesn't have, and why."""
+    """A shape or a constraint of the file that the drawing doesn't have, and why. number: of a
+    constraint its number in the file, from 1, where the file numbers them."""
 
     what: str
     why: str
+    number: int | None = None
 
     def __str__(self) -> str:
         return f"{self.what}: {self.why}"

@@ -70,7 +70,7 @@ def _sketch(kept: Kept, shelf: Shelf) -> FileSketch:
             said = [bound.attached(count, each) for each in say(read_entry(node, count), shapes)]
             gathering.add_constraints(said, name, count)
         except NotSayable as unsaid:
-            gathering.leave_out(name, str(unsaid))
+            gathering.leave_out(name, str(unsaid), count)
     return gathering.found(kept.name, _label(kept), aside)
 
 

@@ -108,7 +108,7 @@ def _sketch(group: Record, contents: Contents) -> FileSketch:
         gathering.add_constraints([said(entry)], entry.name, entry.number)
     for entry in entries:
         if entry.number in refused:
-            gathering.leave_out(entry.name, refused[entry.number])
+            gathering.leave_out(entry.name, refused[entry.number], entry.number)
     name = name_of_group(group)
     return gathering.found(name, f"{name}-{group.fields.get('name', '')}", aside)
 
@@ -161,7 +161,7 @@ def _entries(group: Record, contents: Contents, plane: Plane, gathering: Drawing
         except NotSayable as unsaid:
             told = None
             if record.whole("reference") == 0:
-                gathering.leave_out(name, str(unsaid))
+                gathering.leave_out(name, str(unsaid), number)
         if record.whole("reference") == 1:
             kept = () if told is None or isinstance(told, Touch) else (told,)
             aside.append(NotDriving(number, name, NotDrivingCause.REFERENCE, kept))
