@@ -33,23 +33,23 @@ VALUED = {Kind.DISTANCE, Kind.DISTANCE_X, Kind.DISTANCE_Y, Kind.ANGLE, Kind.RADI
 
 @contextmanager
 def one_step(document: OwnDocument, name: str) -> Iterator[None]:
-    """What is done within is one step of FreeCAD's undo, or isn't done at all. Raises Trouble where
-    FreeCAD refuses it."""
+    """What is done within, and what FreeCAD moves then, is one step of its undo, or isn't done at
+    all. Raises Trouble where FreeCAD refuses it."""
     document.openTransaction(name)
     try:
         yield
+        document.recompute()
     except Exception as error:  # FreeCAD raises ValueError, TypeError and errors of its own.
         document.abortTransaction()
         raise Trouble(f"FreeCAD refuses it, and nothing is changed: {error}") from error
     document.commitTransaction()
-    document.recompute()
 
 
 def remove(read: ReadSketch, index: int) -> None:
     """Takes a constraint away, by FreeCAD's number from 0. Raises Trouble where the sketch was
     changed since it was read."""
     read.check_constraints()
-    name = next((name for name, of in read.indices.items() if of == index), f"{index + 1}")
+    name = read.drawing.called(read.numbers(index)[0])
     with one_step(read.sketch.Document, f"Remove {name} (Pertxogai)"):
         read.sketch.delConstraint(index)
 
