@@ -11,6 +11,7 @@ from pertxogai.judging.surplus import without
 from pertxogai.program.reports import Verdict
 from pertxogai_freecad import changes
 from pertxogai_freecad.judging import JudgedSketch, Standing, of_surplus, surplus_by_index
+from pertxogai_freecad.translating import QT_TRANSLATE_NOOP
 from pertxogai_freecad.trouble import Trouble, troubles
 
 REST = {
@@ -18,8 +19,9 @@ REST = {
     Then.NO_PLACES: "fully constrained, but has no places", Then.OVER: "still over-constrained",
 }
 """What the program says of the rest, in the trade's words."""
-NOTHING, NOT_COUNTED = ("nothing is too many",
-                        "the program finds nothing too many; by rank that wasn't counted")
+NOTHING = QT_TRANSLATE_NOOP("Pertxogai", "nothing is too many")
+NOT_COUNTED = QT_TRANSLATE_NOOP(
+    "Pertxogai", "the program finds nothing too many; by rank that wasn't counted")
 
 
 class By(Enum):

@@ -3,11 +3,8 @@ from __future__ import annotations
 
 from enum import Enum
 
-import FreeCAD
-
-from pertxogai_freecad.window.words import CONTEXT, translate
-
-QT_TRANSLATE_NOOP = FreeCAD.Qt.QT_TRANSLATE_NOOP
+from pertxogai_freecad.translating import QT_TRANSLATE_NOOP
+from pertxogai_freecad.window.words import shown
 
 
 class Word(Enum):
@@ -32,11 +29,11 @@ class Word(Enum):
 
     def text(self) -> str:
         """What menus show."""
-        return translate(CONTEXT, self.value)
+        return shown(self.value)
 
     def tip(self) -> str:
         """What it does, in a sentence."""
-        return translate(CONTEXT, TIPS[self])
+        return shown(TIPS[self])
 
 
 TIPS = {

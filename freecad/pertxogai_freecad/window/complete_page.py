@@ -2,7 +2,8 @@
 from __future__ import annotations
 
 from pertxogai_freecad.completing import Proposed
-from pertxogai_freecad.window.command_words import QT_TRANSLATE_NOOP, Word
+from pertxogai_freecad.translating import QT_TRANSLATE_NOOP
+from pertxogai_freecad.window.command_words import Word
 from pertxogai_freecad.window.judge_page import Does
 from pertxogai_freecad.window.tables import Table, button, read_only, stacked
 

@@ -4,10 +4,10 @@ from __future__ import annotations
 from PySide import QtCore, QtGui
 
 from pertxogai_freecad.constructing import Constructed
-from pertxogai_freecad.window.command_words import QT_TRANSLATE_NOOP
+from pertxogai_freecad.translating import QT_TRANSLATE_NOOP
 from pertxogai_freecad.window.overlay import Overlay
 from pertxogai_freecad.window.tables import button, stacked
-from pertxogai_freecad.window.words import CONTEXT, translate
+from pertxogai_freecad.window.words import shown
 
 PLAY = QT_TRANSLATE_NOOP("Pertxogai", "Play")
 PAUSE = QT_TRANSLATE_NOOP("Pertxogai", "Pause")
@@ -42,12 +42,13 @@ class ConstructionPage:
         self._overlay = Overlay(constructed.judged.read.sketch)
         self.slider.setMaximum(max(1, len(constructed.steps)))
         self.slider.setValue(1)
+        self.told.setText(next(constructed.lines()))
         self._show_step(1)
 
     def clear(self) -> None:
         """Stops, and takes what it shows out of the window."""
         self._timer.stop()
-        self.play.setText(translate(CONTEXT, PLAY))
+        self.play.setText(shown(PLAY))
         overlay, self._overlay, self._constructed = self._overlay, None, None
         if overlay is not None:
             overlay.remove()
@@ -70,7 +71,7 @@ class ConstructionPage:
             self._timer.stop()
         else:
             self._timer.start()
-        self.play.setText(translate(CONTEXT, PLAY if is_playing else PAUSE))
+        self.play.setText(shown(PLAY if is_playing else PAUSE))
 
     def _next(self) -> None:
         """Goes on to the next step, and from the last to the first."""

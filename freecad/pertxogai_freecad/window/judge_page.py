@@ -8,7 +8,8 @@ from pertxogai.judging import GoodJudgement
 from pertxogai_freecad.changes import place
 from pertxogai_freecad.judging import JudgedSketch, Standing
 from pertxogai_freecad.window.colours import PieceColours
-from pertxogai_freecad.window.command_words import QT_TRANSLATE_NOOP, Word
+from pertxogai_freecad.translating import QT_TRANSLATE_NOOP
+from pertxogai_freecad.window.command_words import Word
 from pertxogai_freecad.window.selection import edit, edited_sketch, select_constraints
 from pertxogai_freecad.window.tables import Table, button, read_only, stacked
 

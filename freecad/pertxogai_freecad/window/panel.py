@@ -23,7 +23,8 @@ from pertxogai_freecad.repairing import Repair
 from pertxogai_freecad.settings import Settings
 from pertxogai_freecad.sketches import CHANGED, ReadSketch, read_sketch, stored_of
 from pertxogai_freecad.trouble import Trouble
-from pertxogai_freecad.window.command_words import QT_TRANSLATE_NOOP, Word
+from pertxogai_freecad.translating import QT_TRANSLATE_NOOP
+from pertxogai_freecad.window.command_words import Word
 from pertxogai_freecad.window.complete_page import CompletePage
 from pertxogai_freecad.window.construction_page import ConstructionPage
 from pertxogai_freecad.window.judge_page import JudgePage
@@ -32,7 +33,7 @@ from pertxogai_freecad.window.resources import icon
 from pertxogai_freecad.window.selection import selected_constraints, the_sketch
 from pertxogai_freecad.window.tables import stacked
 from pertxogai_freecad.window.text_page import TextPage
-from pertxogai_freecad.window.words import CONTEXT, translate
+from pertxogai_freecad.window.words import shown
 
 NAME = "PertxogaiPanel"
 GOOD = QT_TRANSLATE_NOOP("Pertxogai", "good: all of it holds within the limit")
@@ -124,7 +125,7 @@ class Panel:
         self.headline.setText(judged.headline())
         self.facts.setText(f"{judged.freedoms()}; {judged.tolerance()}")
         is_good = isinstance(judged.good, GoodJudgement)
-        self.note.setText(translate(CONTEXT, GOOD) if is_good else f"not good: {judged.good}")
+        self.note.setText(shown(GOOD) if is_good else f"not good: {judged.good}")
 
     def _clear(self) -> None:
         """Takes away what was shown of another sketch, or by another command."""
@@ -168,7 +169,7 @@ class Panel:
                 is_changed = True
             if is_changed:
                 self._read = None
-                self.note.setText(translate(CONTEXT, CHANGED))
+                self.note.setText(shown(CHANGED))
 
 
 def _label(name: str) -> QtGui.QLabel:

@@ -5,7 +5,7 @@ from collections.abc import Callable, Sequence
 
 from PySide import QtCore, QtGui
 
-from pertxogai_freecad.window.words import CONTEXT, translate
+from pertxogai_freecad.window.words import shown
 
 
 class Table:
@@ -18,7 +18,7 @@ class Table:
         clicked on twice."""
         self.widget = QtGui.QTreeWidget()
         self.widget.setObjectName(name)
-        self.widget.setHeaderLabels([translate(CONTEXT, each) for each in headings])
+        self.widget.setHeaderLabels([shown(each) for each in headings])
         self.widget.setRootIsDecorated(False)
         self.widget.setAlternatingRowColors(True)
         if selected is not None:
@@ -60,7 +60,7 @@ class Table:
 
 def button(text: str, name: str, act: Callable[[], None]) -> QtGui.QPushButton:
     """A button that does something."""
-    made = QtGui.QPushButton(translate(CONTEXT, text))
+    made = QtGui.QPushButton(shown(text))
     made.setObjectName(name)
     made.clicked.connect(lambda *_: act())
     return made

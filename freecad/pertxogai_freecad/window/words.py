@@ -1,13 +1,13 @@
-"""What the window says, in the user's language: `resources/translations/Pertxogai.ts` has all of
-it, and takes translations."""
+"""What the window says, in the user's language."""
 from __future__ import annotations
 
 import FreeCAD
 
-CONTEXT = "Pertxogai"
+from pertxogai_freecad.translating import CONTEXT
 
 
-def translate(context: str, text: str) -> str:
-    """A text in the user's language; as it stands where it isn't translated."""
-    translated: str = FreeCAD.Qt.translate(context, text)
+def shown(text: str) -> str:
+    """A text that is marked for translation, in the user's language; as it stands where it isn't
+    translated."""
+    translated: str = FreeCAD.Qt.translate(CONTEXT, text)
     return translated

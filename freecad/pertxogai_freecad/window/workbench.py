@@ -3,16 +3,20 @@ from __future__ import annotations
 
 import FreeCADGui
 
+from pertxogai_freecad.translating import QT_TRANSLATE_NOOP
 from pertxogai_freecad.window.resources import ICONS, PREFERENCES, TRANSLATIONS, icon
-from pertxogai_freecad.window.words import CONTEXT, translate
+from pertxogai_freecad.window.words import shown
+
+TIP = QT_TRANSLATE_NOOP(
+    "Pertxogai", "Asks the proved program about sketches: what is too many, what is missing, how "
+    "far it is off")
 
 
 class PertxogaiWorkbench(FreeCADGui.Workbench):  # type: ignore[misc]
     """Asks the proved program about sketches."""
 
     MenuText = "Pertxogai"
-    ToolTip = translate(CONTEXT, "Asks the proved program about sketches: what is too many, what "
-                        "is missing, how far it is off")
+    ToolTip = shown(TIP)
     Icon = icon("Pertxogai")
 
     def Initialize(self) -> None:
