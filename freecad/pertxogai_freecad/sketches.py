@@ -1,6 +1,7 @@
 """A sketch of an open document, and what the package reads of it."""
 from __future__ import annotations
 
+import re
 from collections.abc import Mapping
 from dataclasses import dataclass
 from functools import cached_property
@@ -13,15 +14,17 @@ from pertxogai.files.freecad import read_freecad
 from pertxogai.files.freecad.reading import SKETCH
 from pertxogai.files.freecad.shapes import number_of
 from pertxogai_freecad.freecad_types import OwnDocument, OwnSketch
+from pertxogai_freecad.translating import QT_TRANSLATE_NOOP
 from pertxogai_freecad.trouble import Trouble, troubles
 
-CHANGED = "the sketch was changed since: judge it again"
+CHANGED = QT_TRANSLATE_NOOP("Pertxogai", "the sketch was changed since: judge it again")
+SHOWN_ONLY = re.compile(r' (?:LabelDistance|LabelPosition|IsInVirtualSpace)="[^"]*"')
+"""What of a constraint says where its text stands, and whether that is shown."""
 
 
 @dataclass(frozen=True)
 class ReadSketch:
-    """A sketch, and what is read of it. stored: its constraints and its shapes, as FreeCAD stores
-    them, when it was read."""
+    """A sketch, and what is read of it. stored: what was stored of it when it was read."""
 
     sketch: OwnSketch
     found: FileSketch
@@ -49,7 +52,14 @@ class ReadSketch:
 
     def numbers(self, index: int) -> tuple[int, ...]:
         """What a constraint of FreeCAD's says in the drawing, by places from 1."""
-        return tuple(number for number, of in enumerate(self.found.numbers, 1) if of == index + 1)
+        return self._numbers.get(index, ())
+
+    @cached_property
+    def _numbers(self) -> Mapping[int, tuple[int, ...]]:
+        found: dict[int, tuple[int, ...]] = {}
+        for number, of in enumerate(self.found.numbers, 1):
+            found[of - 1] = (*found.get(of - 1, ()), number)
+        return found
 
     def curves(self) -> Mapping[int, Shape]:
         """The drawing's shapes by FreeCAD's numbers from 0, but for outer geometry."""
@@ -67,10 +77,10 @@ class ReadSketch:
 
 
 def stored_of(sketch: OwnSketch) -> tuple[tuple[str, ...], tuple[str, ...]]:
-    """A sketch's constraints and shapes as FreeCAD stores them. Raises Trouble where the sketch is
-    gone."""
+    """A sketch's constraints and shapes as FreeCAD stores them, without how constraints are shown.
+    Raises Trouble where the sketch is gone."""
     try:
-        return (tuple(each.Content for each in sketch.Constraints),
+        return (tuple(SHOWN_ONLY.sub("", each.Content) for each in sketch.Constraints),
                 tuple(each.Content for each in sketch.Geometry))
     except ReferenceError:
         raise Trouble("the sketch was deleted: select another, and judge that") from None
