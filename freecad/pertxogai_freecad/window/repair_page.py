@@ -2,16 +2,16 @@
 from __future__ import annotations
 
 from pertxogai_freecad.repairing import Repair
-from pertxogai_freecad.window.command_words import QT_TRANSLATE_NOOP, Word
+from pertxogai_freecad.translating import QT_TRANSLATE_NOOP
+from pertxogai_freecad.window.command_words import Word
 from pertxogai_freecad.window.judge_page import Does
 from pertxogai_freecad.window.selection import edit, edited_sketch, select_constraints
-from pertxogai_freecad.window.tables import Table, button, stacked
-from pertxogai_freecad.window.words import CONTEXT, translate
+from pertxogai_freecad.window.tables import Table, button, read_only, stacked
+from pertxogai_freecad.window.words import shown
 
 HEADINGS = (QT_TRANSLATE_NOOP("Pertxogai", "May go"), QT_TRANSLATE_NOOP("Pertxogai", "It is"),
             QT_TRANSLATE_NOOP("Pertxogai", "Off by"),
-            QT_TRANSLATE_NOOP("Pertxogai", "The rest is then"),
-            QT_TRANSLATE_NOOP("Pertxogai", "With"), QT_TRANSLATE_NOOP("Pertxogai", "Found"))
+            QT_TRANSLATE_NOOP("Pertxogai", "The rest is then"))
 REMOVE = QT_TRANSLATE_NOOP("Pertxogai", "Remove the selected constraint")
 
 
@@ -23,21 +23,24 @@ class RepairPage:
         self._repair: Repair | None = None
         self.table = Table("PertxogaiCandidates", HEADINGS, self._selected, self._opened)
         self.remove = button(REMOVE, "PertxogaiRemove", self._remove)
-        self.widget = stacked(self.table.widget, (self.remove,))
+        self.told = read_only("PertxogaiRepair")
+        self.widget = stacked(self.table.widget, self.told, (self.remove,))
 
     def show(self, repair: Repair) -> None:
         """Shows what may go."""
         self._repair = repair
-        rows = [(each.name, each.standing.value, each.off, each.rest, ", ".join(each.others),
-                 each.by.value) for each in repair.candidates]
-        nothing = translate(CONTEXT, repair.nothing())
+        rows = [(each.name, each.standing.value, each.off, each.rest)
+                for each in repair.candidates]
+        nothing = shown(repair.nothing())
         self.table.show(rows or [(nothing, *[""] * (len(HEADINGS) - 1))])
+        self.told.setPlainText("\n".join(repair.lines()))
         self.remove.setEnabled(False)
 
     def clear(self) -> None:
         """Shows nothing."""
         self._repair = None
         self.table.show([])
+        self.told.clear()
         self.remove.setEnabled(False)
 
     def _index(self) -> int | None:
