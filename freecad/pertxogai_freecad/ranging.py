@@ -4,7 +4,8 @@ from __future__ import annotations
 from collections.abc import Iterator
 from importlib.util import find_spec
 
-from pertxogai.drawing import Dimension
+from pertxogai.drawing import (
+    VALUED, Constraint, Dimension, Drawing, Parameter, parameters)
 from pertxogai.judging.measure import Limit
 from pertxogai.judging.remembering import Remembering
 from pertxogai.program import Program
@@ -24,8 +25,9 @@ def check_there() -> None:
 def ranges(read: ReadSketch, program: Program, limit: Limit,
            indices: frozenset[int] | None = None) -> Iterator[str]:
     """How far the dimensions of these of FreeCAD's numbers may go, or all of them, in lines to
-    read. Raises NotGoodTrouble where the sketch isn't good; Trouble where none of these has a
-    range, or the package can't tell ranges."""
+    read; where one follows from named constraints, how far these may go. Raises NotGoodTrouble
+    where the sketch isn't good; Trouble where none of these has a range, or the package can't tell
+    ranges."""
     check_there()
     from pertxogai.output.ranges_text import ranges_lines
     from pertxogai.ranging import NoRange, Ranging
@@ -36,13 +38,34 @@ def ranges(read: ReadSketch, program: Program, limit: Limit,
                                  tuple(map(str, read.found.left_out)))
         except NoRange as why:
             raise NotGoodTrouble(f"{read.label}: no ranges: {why}") from None
-        asked = [each for each in ranging.parameters()
-                 if not isinstance(each, Dimension) or indices is None
-                 or read.index(each.number) in indices]
-        if indices is not None:
-            asked = [each for each in asked if isinstance(each, Dimension)]
+        asked = [each for each in parameters(read.drawing)
+                 if indices is None or _is_of(each, read, indices)]
         if not asked:
             raise Trouble(f"{read.label}: no dimension is selected: click on one of its "
                           "dimensions, and ask again")
         yield from ranges_lines(read.label, read.drawing,
                                 [ranging.range_of(each) for each in asked])
+
+
+def _is_of(parameter: Parameter, read: ReadSketch, indices: frozenset[int]) -> bool:
+    """Whether constraints of FreeCAD's numbers have a number that may go, or follow from it."""
+    if isinstance(parameter, Dimension):
+        return read.index(parameter.number) in indices
+    said = (read.drawing.constraints[number - 1] for index in indices
+            for number in read.numbers(index))
+    return any(parameter.name in _names_behind(each, read.drawing) for each in said)
+
+
+def _names_behind(constraint: Constraint, drawing: Drawing) -> frozenset[str]:
+    """The values that a constraint follows from."""
+    found: set[str] = set()
+    due: list[str] = []
+    if isinstance(constraint, VALUED) and constraint.expression is not None:
+        due += constraint.expression.names
+    behind = {each.name: each.expression.names for each in drawing.values}
+    while due:
+        name = due.pop()
+        if name not in found:
+            found.add(name)
+            due += behind.get(name, ())
+    return frozenset(found)
