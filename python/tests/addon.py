@@ -5,19 +5,46 @@ import os
 import shutil
 import signal
 import subprocess
+from contextlib import suppress
 from dataclasses import dataclass
 from pathlib import Path
 
+import pytest
+
 from conftest import TOP
+from screens import screen
 
 ADDON = TOP / "freecad"
 FILES = TOP / "python" / "tests" / "files"
 CHECKS = TOP / "python" / "tests" / "with_programs"
 CONSOLE = shutil.which("freecadcmd") or shutil.which("/usr/lib/freecad/bin/freecadcmd-python3")
 WINDOW = shutil.which("freecad") or shutil.which("/usr/lib/freecad/bin/freecad-python3")
-XVFB = shutil.which("xvfb-run")
-SECONDS = 480
+SECONDS = 240
 """How long FreeCAD may take; a quiet machine takes a tenth of it."""
+SETTINGS = """<?xml version="1.0" encoding="UTF-8" standalone="no" ?>
+<FCParameters>
+  <FCParamGroup Name="Root"><FCParamGroup Name="BaseApp"><FCParamGroup Name="Preferences">
+    <FCParamGroup Name="General">
+      <FCText Name="AutoloadModule">SketcherWorkbench</FCText>
+    </FCParamGroup>
+  </FCParamGroup></FCParamGroup></FCParamGroup>
+</FCParameters>
+"""
+"""FreeCAD begins with the Sketcher, and not with its first page, which is a browser."""
+
+
+@dataclass(frozen=True)
+class Ended:
+    """How FreeCAD has ended: its status, what it wrote, and of what it complained."""
+
+    status: int
+    out: str
+    complaint: str
+
+    @property
+    def all(self) -> str:
+        """All that it wrote."""
+        return self.out + self.complaint
 
 
 @dataclass(frozen=True)
@@ -68,27 +95,34 @@ class Installed:
         return {**os.environ, "HOME": str(self.home), "QT_QPA_PLATFORM": "offscreen",
                 "FOLDER": str(self.folder), **more}
 
-    def window(self, script: Path, **more: str) -> subprocess.CompletedProcess[str]:
-        """FreeCAD's window with a script that ends it, on a screen that isn't seen."""
-        assert WINDOW is not None and XVFB is not None
-        environment = self.environment(QTWEBENGINE_DISABLE_SANDBOX="1", **more)
-        environment.pop("QT_QPA_PLATFORM")
-        return _run([XVFB, "-a", "-s", "-screen 0 1600x1000x24", WINDOW, str(script)], environment)
+    def window(self, script: Path, **more: str) -> Ended:
+        """FreeCAD's window with a script that ends it, on a screen of its own that isn't seen."""
+        assert WINDOW is not None
+        settings = self.home / ".config" / "FreeCAD" / "user.cfg"
+        settings.parent.mkdir(parents=True, exist_ok=True)
+        settings.write_text(SETTINGS)
+        with screen() as display:
+            environment = {**self.environment(**more), "DISPLAY": display}
+            environment.pop("QT_QPA_PLATFORM")
+            return self._run([WINDOW, str(script)], environment)
 
-    def console(self, *words: str | Path, **more: str) -> subprocess.CompletedProcess[str]:
+    def console(self, *words: str | Path, **more: str) -> Ended:
         """FreeCAD's console with these words, to its end."""
         assert CONSOLE is not None
-        return _run([CONSOLE, *map(str, words)], self.environment(**more))
+        return self._run([CONSOLE, *map(str, words)], self.environment(**more))
 
-
-def _run(words: list[str], environment: dict[str, str]) -> subprocess.CompletedProcess[str]:
-    """A command, run to its end; what takes too long is stopped with all that it started."""
-    with subprocess.Popen(words, env=environment, stdin=subprocess.DEVNULL,
-                          stdout=subprocess.PIPE, stderr=subprocess.PIPE, text=True,
-                          start_new_session=True) as process:
-        try:
-            out, complaint = process.communicate(timeout=SECONDS)
-        except subprocess.TimeoutExpired:
-            os.killpg(process.pid, signal.SIGKILL)
-            raise
-    return subprocess.CompletedProcess(words, process.returncode, out, complaint)
+    def _run(self, words: list[str], environment: dict[str, str]) -> Ended:
+        """A command, run to its end; what it has started ends with it, also where that takes too
+        long."""
+        out, complaint = self.home / "stdout", self.home / "stderr"
+        with out.open("w") as written, complaint.open("w") as complained, subprocess.Popen(
+                words, env=environment, stdin=subprocess.DEVNULL, stdout=written,
+                stderr=complained, start_new_session=True) as process:
+            try:
+                status = process.wait(SECONDS)
+            except subprocess.TimeoutExpired:
+                pytest.fail(f"FreeCAD takes over {SECONDS} s: {complaint.read_text()}")
+            finally:
+                with suppress(ProcessLookupError):
+                    os.killpg(process.pid, signal.SIGKILL)
+        return Ended(status, out.read_text(errors="replace"), complaint.read_text(errors="replace"))

@@ -18,6 +18,7 @@ if TYPE_CHECKING:
 TESTS = Path(__file__).resolve().parent
 TOP = TESTS.parents[1]
 LONGEST = ("board/test_board_browser", "hunt/test_answers_are_so", "test_redrawn", "test_style",
+           "test_freecad_commands", "test_freecad_window",
            "board/test_board_hand", "board/test_board_dragging", "board/test_board_guesses",
            "board/test_board_types", "board/test_board_gallery", "board/test_board_random",
            "board/test_board_pointing", "board/test_board_room", "board/test_board_again",

@@ -42,7 +42,7 @@ def told(program: Program, tmp_path_factory: pytest.TempPathFactory) -> dict[str
     here.copy(*(each.stem for each in FILES.glob("*.FCStd")))
     out = here.home / "told"
     ended = here.console(CHECKS / "addon_check.py", TOLD=str(out), PERTXOGAI_SKETCH=program.path)
-    assert out.exists(), ended.stdout + ended.stderr
+    assert out.exists(), ended.all
     found: dict[str, Any] = json.loads(out.read_text())
     for facts in found.values():
         assert "error" not in facts, facts["error"]
@@ -92,6 +92,11 @@ def test_what_may_go_goes_and_comes_back(name: str, standing: str, off: str,
     assert facts["left"] == [11, False] and facts["says"] == SOLVED and facts["then"] == WELL
     assert facts["undo"] == ["Remove above (Pertxogai)"] and facts["undone"]
     assert facts["stale"] == CHANGED
+
+
+def test_what_moves_with_a_repair_comes_back_with_it(told: dict[str, Any]) -> None:
+    """A plate that is drawn 60 mm wide, of which 55 mm are left."""
+    assert told["repair_moves width"] == {"widths": [60, 55, 60], "undone": True}
 
 
 def test_what_says_two_things_is_tried_as_a_whole(told: dict[str, Any]) -> None:
@@ -154,9 +159,10 @@ def test_no_claim_of_what_is_not_good_or_not_saved(told: dict[str, Any]) -> None
 
 
 def test_a_construction_joins_three_clusters_at_each_step(told: dict[str, Any]) -> None:
-    """13 constraints of 8 elements become one cluster by 6 steps, each of two helping lines."""
+    """13 constraints of 8 elements become one cluster by 6 steps; what each makes lies by two of
+    its three clusters."""
     facts = told["construction plate"]
-    assert facts["steps"] == [1, 2, 3, 4, 5, 6] and facts["help"] == [2] * 6
+    assert facts["steps"] == [1, 2, 3, 4, 5, 6] and facts["loci"] == [2] * 6
     assert facts["last"] == [0, 1, 2, 3, 4, 5]
     assert told["construction twice"]["trouble"].endswith("so it has no construction: it is over")
 
@@ -193,8 +199,7 @@ def asked(here: Installed, program: Program, *words: str) -> tuple[int, list[str
     """How FreeCAD ends that is asked about a folder, and what is told of its documents."""
     code = f"from pertxogai_freecad.documents import main; main{words!r}"
     ended = here.console("-c", code, PERTXOGAI_SKETCH=program.path)
-    lines = [*ended.stdout.splitlines(), *ended.stderr.splitlines()]
-    return ended.returncode, [each for each in lines
+    return ended.status, [each for each in ended.all.splitlines()
                               if re.match(r"\S+\.FCStd( \w+)?: |pertxogai: ", each)]
 
 
@@ -242,7 +247,7 @@ def test_the_add_on_of_a_release_has_all_that_it_needs(program: Program, tmp_pat
     here.copy("link")
     code = f"from pertxogai_freecad.documents import main; main('certify', {str(here.folder)!r})"
     ended = here.console("-c", code, PERTXOGAI_SKETCH="")
-    assert ended.returncode == 0, ended.stdout + ended.stderr
+    assert ended.status == 0, ended.all
     assert (here.folder / "link-Sketch.verification").read_text().count(": verified steps 12 ") == 3
 
 
@@ -255,9 +260,9 @@ def test_another_version_of_the_package_is_told(program: Program, tmp_path: Path
     code = f"from pertxogai_freecad.documents import main; main('judge', {str(here.folder)!r})"
     ended = here.console("-c", code, PERTXOGAI_SKETCH=program.path,
                          PERTXOGAI_HOME=str(tmp_path / "old"))
-    assert ended.returncode == 2
+    assert ended.status == 2
     assert (f"the Python package pertxogai is 0.0.1, and the add-on {__version__}: install the same"
-            in ended.stderr)
+            in ended.complaint)
 
 
 @pytest.mark.skipif(Path("/usr/lib/python3/dist-packages/pertxogai").exists(),

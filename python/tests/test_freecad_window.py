@@ -8,8 +8,9 @@ from typing import Any
 
 import pytest
 
-from addon import ADDON, CHECKS, FILES, WINDOW, XVFB, Installed
+from addon import ADDON, CHECKS, FILES, WINDOW, Installed
 from pertxogai.program import Program
+from screens import XVFB
 
 pytestmark = [
     pytest.mark.skipif(WINDOW is None, reason="Debian's freecad isn't installed"),
@@ -31,10 +32,10 @@ def told(program: Program, tmp_path_factory: pytest.TempPathFactory) -> dict[str
     pictures.mkdir()
     ended = here.window(CHECKS / "window_check.py", TOLD=str(out), PICTURES=str(pictures),
                         ADDON=str(ADDON), PERTXOGAI_SKETCH=program.path)
-    assert out.exists(), ended.stdout + ended.stderr
+    assert out.exists(), ended.all
     found: dict[str, Any] = json.loads(out.read_text())
     for facts in found.values():
-        assert "error" not in facts, facts["error"]
+        assert "error" not in facts, facts
     return {**found, "pictures": {each.stem: each.stat().st_size
                                   for each in pictures.glob("*.png")}}
 
@@ -45,6 +46,10 @@ def test_the_workbench_has_its_commands_and_preferences(told: dict[str, Any]) ->
     assert facts["buttons"] == ["Judge", "Repair", "Complete", "Range", "Certify", "Construction"]
     assert not facts["active"]  # There is no sketch.
     assert facts["preferences"] == ["package", "program", "seconds", "within"]
+
+
+def test_no_dialogue_waits_for_an_answer(told: dict[str, Any]) -> None:
+    assert told["dialogues"] == []
 
 
 def test_no_command_by_itself_modifies_a_document(told: dict[str, Any]) -> None:
@@ -90,6 +95,15 @@ def test_a_construction_is_drawn_over_the_sketch_and_goes_with_the_panel(
     assert facts["plays"] == "Pause"
 
 
+def test_a_construction_lies_over_a_sketch_that_is_turned(told: dict[str, Any]) -> None:
+    """A plate of 60 x 40 mm that stands on its lower edge, 20 mm behind the origin."""
+    facts = told["construction_turned"]
+    assert facts["least"][0] <= 10.001 and facts["most"][0] >= 69.999
+    assert facts["least"][2] <= 30.001 and facts["most"][2] >= 69.999
+    assert all(abs(facts[end][1] - 20) < 0.02 for end in ("least", "most"))
+    assert facts["sheet"].startswith("the document's 3D view isn't in front: choose its tab")
+
+
 def test_a_range_and_a_claim(told: dict[str, Any]) -> None:
     facts = told["range_and_certify"]
     if HAS_RANGES:
@@ -109,6 +123,7 @@ def test_shapes_are_placed_by_a_button_and_come_back(told: dict[str, Any]) -> No
 def test_pieces_have_their_colours_while_a_button_is_pressed(told: dict[str, Any]) -> None:
     facts = told["pieces"]
     assert facts["edges"] == 6 and facts["colours"] == 2 and facts["back"]
+    assert facts["saved"]  # The file keeps none of them.
     assert facts["next"] == WELL  # Of another sketch, once the coloured one was closed.
 
 

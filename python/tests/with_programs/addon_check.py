@@ -35,6 +35,8 @@ RING, TAIL, START = 0, 1, 1
 """The numbers of the circle and of the line that touches it of tangent-forms, and of a start."""
 WIDTH, HEIGHT = 9, 10
 """The numbers of two dimensions of the plate, from 0."""
+FLOOR, BELOW = 0, 9
+"""The numbers of a plate's lower edge, and of its width there."""
 PROGRAM, LIMIT = find_program(SETTINGS), limit_of(SETTINGS)
 
 
@@ -101,6 +103,23 @@ def check_repair():
                      "left": [len(names), "above" in names], "says": says, "undo": undo,
                      "then": after.headline(), "undone": stored_of(sketch) == before}
         FreeCAD.closeDocument(document.Name)
+
+
+def check_repair_moves():
+    """The width that is left isn't the drawn one, so the shapes move, and come back by one step of
+    undo. That a constraint was hidden since doesn't matter."""
+    sketch = opened("contradiction")
+    sketch.Document.recompute()
+    before, widths = stored_of(sketch), [sketch.getPoint(FLOOR, END).x]
+    repair = Repair.of(judged(sketch))
+    sketch.setVirtualSpace(BELOW, True)
+    repair.take_away(BELOW)
+    widths.append(sketch.getPoint(FLOOR, END).x)
+    sketch.Document.undo()
+    widths.append(sketch.getPoint(FLOOR, END).x)
+    yield "width", {"widths": [round(each, 6) for each in widths],
+                    "undone": stored_of(sketch) == before}
+    FreeCAD.closeDocument(sketch.Document.Name)
 
 
 def check_repair_in_part():
@@ -215,7 +234,7 @@ def check_construction():
     """A plate with two holes, step by step, and one that isn't good."""
     found = construct(judged(opened("plate")))
     yield "plate", {"steps": [each.number for each in found.steps],
-                    "help": [len(each.help) for each in found.steps],
+                    "loci": [len(each.loci) for each in found.steps],
                     "last": sorted(found.steps[-1].shapes)}
     yield "twice", {"trouble": trouble_of(lambda: construct(judged(opened("twice"))))}
 
@@ -239,8 +258,8 @@ def check_program():
 def main():
     """All of it, and the end."""
     told = {}
-    for check in (check_judge, check_repair, check_repair_in_part, check_complete,
-                  check_complete_two, check_complete_moved,
+    for check in (check_judge, check_repair, check_repair_moves, check_repair_in_part,
+                  check_complete, check_complete_two, check_complete_moved,
                   check_complete_nothing, check_place, check_certify, check_construction,
                   check_range, check_program):
         word = check.__name__.removeprefix("check_")

@@ -1,43 +1,87 @@
 """Works the add-on in FreeCAD's own window as a user does, and writes what came of it.
 
-    xvfb-run -a -s "-screen 0 1600x1000x24" freecad python/tests/with_programs/window_check.py
+    freecad python/tests/with_programs/window_check.py
 
 The add-on is installed in FreeCAD's folder Mod. FOLDER has copies of the files of
 python/tests/files that may be changed; TOLD names the file to write: one object of JSON with the
 facts of each check by its name; PICTURES the folder in which a picture of the window is put for
-each. What is expected stands in python/tests/test_freecad_window.py. FreeCAD's first page is a
-browser, so root sets QTWEBENGINE_DISABLE_SANDBOX=1.
+each. What is expected stands in python/tests/test_freecad_window.py, which starts it on a screen of
+its own, and ends it where it takes too long.
+
+A dialogue that FreeCAD opens would wait for an answer: each is closed, and told as an error.
 """
+import faulthandler
 import json
 import os
+import sys
+import time
 import traceback
 from pathlib import Path
 
 import FreeCAD
 import FreeCADGui
 from PySide import QtCore, QtGui
+from pivy import coin
 
 WIDTH, HEIGHT = 1500, 900
-TURNS, PAUSE_MS = 10, 10
+FIRST = "SketcherWorkbench"
+"""With what FreeCAD begins, as it is set."""
+PLACE_MM = (10, 20, 30)
+"""Where a sketch is laid that doesn't lie at the origin."""
+SECONDS, PAUSE_MS = 30, 20
+"""How long a condition may take to come, and how long it isn't looked at."""
+STUCK_SECONDS = 200
+"""After so long where Python is at is written to the standard error."""
 COMMANDS = ("Judge", "Repair", "Complete", "Range", "Certify", "Construction")
-TOLD = {}
+TOLD, DIALOGUES = {}, []
 
 
 def spin():
     """Has the window do what it has to."""
-    for _ in range(TURNS):
+    for _ in range(2):
         QtGui.QApplication.processEvents()
+        QtGui.QApplication.sendPostedEvents()
+
+
+def wait(condition, what):
+    """Has the window do what it has to, until a condition comes."""
+    end = time.monotonic() + SECONDS
+    while not condition():
+        if time.monotonic() > end:
+            raise AssertionError(f"{what} doesn't come within {SECONDS} s")
+        spin()
         QtCore.QThread.msleep(PAUSE_MS)
 
 
-def picture(name):
-    """The window as it is seen."""
-    FreeCADGui.SendMsgToActiveView("ViewFit")
+def refuse_dialogues():
+    """Closes a dialogue that waits for an answer, and notes what it says."""
+    dialogue = QtGui.QApplication.activeModalWidget()
+    if dialogue is not None:
+        said = dialogue.text() if isinstance(dialogue, QtGui.QMessageBox) else ""
+        DIALOGUES.append(f"{dialogue.windowTitle()}: {said}")
+        dialogue.close()
+
+
+def seen():
+    """The window as the screen has it."""
     window = FreeCADGui.getMainWindow()
-    window.findChild(QtGui.QDockWidget, "Report view").hide()  # It comes with each error.
+    return QtGui.QApplication.primaryScreen().grabWindow(window.winId()).toImage()
+
+
+def picture(name):
+    """The window as it is seen, once it stands still."""
+    FreeCADGui.SendMsgToActiveView("ViewFit")
+    for view in ("Report view", "Python console"):
+        FreeCADGui.getMainWindow().findChild(QtGui.QDockWidget, view).hide()
+    shots = [None, seen()]
+
+    def stands_still():
+        shots[:] = [shots[1], seen()]
+        return shots[0] == shots[1]
+
     spin()
-    shot = QtGui.QApplication.primaryScreen().grabWindow(window.winId())
-    shot.save(os.path.join(os.environ["PICTURES"], name + ".png"))
+    wait(stands_still, f"the picture {name}")
+    shots[1].save(os.path.join(os.environ["PICTURES"], name + ".png"))
 
 
 def opened(name):
@@ -220,6 +264,31 @@ def check_construction():
     return facts
 
 
+def check_construction_turned():
+    """Over a sketch that lies elsewhere; and not where a spreadsheet is in front."""
+    sketch = opened("plate")
+    sketch.Placement = FreeCAD.Placement(
+        FreeCAD.Vector(*PLACE_MM), FreeCAD.Rotation(FreeCAD.Vector(1, 0, 0), 90))
+    sketch.Document.recompute()
+    run("Construction")
+    slider = found(QtGui.QSlider, "Slider")
+    slider.setValue(slider.maximum())
+    view = FreeCADGui.ActiveDocument.ActiveView
+    measure = coin.SoGetBoundingBoxAction(coin.SbViewportRegion(WIDTH, HEIGHT))
+    measure.apply(view.getSceneGraph().getChild(view.getSceneGraph().getNumChildren() - 1))
+    least, most = (list(corner) for corner in measure.getBoundingBox().getBounds())
+    facts = {"least": least, "most": most}
+    sheet = sketch.Document.addObject("Spreadsheet::Sheet", "Sheet")
+    sheet.ViewObject.doubleClicked()
+    spin()
+    FreeCADGui.Selection.clearSelection()
+    FreeCADGui.Selection.addSelection(sketch)
+    run("Construction")
+    facts["sheet"] = text("Note")
+    closed(sketch)
+    return facts
+
+
 def check_range_and_certify():
     """The range of the selected dimension, and a claim beside the document."""
     sketch = opened("plate")
@@ -262,6 +331,9 @@ def check_pieces():
     facts = {"edges": len(coloured), "colours": len(set(coloured)),
              "back": list(sketch.ViewObject.LineColorArray) == before}
     press("Pieces")
+    sketch.Document.save()
+    facts["saved"] = list(sketch.ViewObject.LineColorArray) == before
+    press("Pieces")
     closed(sketch)
     sketch = opened("plate")
     run("Judge")
@@ -282,21 +354,32 @@ def check_nothing():
     return facts
 
 
+CHECKS = (check_workbench, check_untouched, check_judge, check_repair, check_complete,
+          check_construction, check_construction_turned, check_range_and_certify, check_place,
+          check_pieces, check_nothing)
+
+
 def main():
     """All of it, and the end."""
     window = FreeCADGui.getMainWindow()
+    wait(window.isVisible, "FreeCAD's window")
+    wait(lambda: FreeCADGui.activeWorkbench().name() == FIRST, FIRST)
     window.setGeometry(0, 0, WIDTH, HEIGHT)
     FreeCADGui.activateWorkbench("PertxogaiWorkbench")
-    for check in (check_workbench, check_untouched, check_judge, check_repair, check_complete,
-                  check_construction, check_range_and_certify, check_place, check_pieces,
-                  check_nothing):
-        name = check.__name__.removeprefix("check_")
+    for check in CHECKS:
+        name, began = check.__name__.removeprefix("check_"), time.monotonic()
         try:
             TOLD[name] = check()
         except Exception:
             TOLD[name] = {"error": traceback.format_exc()}
+        print(f"{name}: {time.monotonic() - began:.1f} s", file=sys.__stderr__, flush=True)
+    TOLD["dialogues"] = DIALOGUES
     Path(os.environ["TOLD"]).write_text(json.dumps(TOLD, indent=1))
     os._exit(0)
 
 
-QtCore.QTimer.singleShot(1500, main)
+faulthandler.dump_traceback_later(STUCK_SECONDS, file=sys.__stderr__)
+WATCH = QtCore.QTimer()
+WATCH.timeout.connect(refuse_dialogues)
+WATCH.start(500)
+QtCore.QTimer.singleShot(0, main)
