@@ -10,7 +10,6 @@ from .made import Made
 NAME = "Pertxogai"
 """What the folder is called."""
 MACHINE = "x86_64-linux"
-LICENCES = ("LICENSE-MIT", "LICENSE-APACHE")
 NOT_PACKED = "__pycache__"
 
 
@@ -31,8 +30,6 @@ def make_addon(made: Made, to: Path) -> Path:
 def _members(made: Made) -> Iterator[tuple[str, Path]]:
     """What lies in the folder, and where it comes from."""
     yield "bin/sketch", made.program
-    for name in LICENCES:
-        yield name, made.tree / name
     for below, folder in (("", "freecad"), ("python/pertxogai/", "python/pertxogai"), ("checker/", "checker"),
                           ("licences/", "licences")):
         for each in (made.tree / folder).rglob("*"):
