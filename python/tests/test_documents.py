@@ -10,7 +10,8 @@ from conftest import TOP
 
 PAGES = [
     page
-    for form in ("*.md", "crates/*/*.md", "python/**/*.md", "docs/*.md", "*s/README.md", "checker/*.md")
+    for form in ("*.md", "crates/*/*.md", "python/**/*.md", "docs/*.md", "*s/README.md",
+                 "checker/*.md", "freecad/*.md")
     for page in sorted(TOP.glob(form))
 ]
 CRATES = sorted(it.parent for it in TOP.glob("crates/*/src"))
