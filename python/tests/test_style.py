@@ -42,7 +42,8 @@ def test_the_files_that_begin_first_stand() -> None:
 
 @pytest.mark.skipif(importlib.util.find_spec("mypy") is None, reason="without python3-mypy")
 def test_types_hold_throughout(tmp_path: Path) -> None:
-    told = run("mypy", "--strict", "--no-error-summary", "--cache-dir", str(tmp_path), "pertxogai")
+    told = run("mypy", "--strict", "--no-error-summary", "--cache-dir", str(tmp_path), "pertxogai",
+               "../freecad/pertxogai_freecad")
     assert told.splitlines() == []
 
 
