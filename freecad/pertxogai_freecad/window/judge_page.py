@@ -9,15 +9,20 @@ from pertxogai_freecad.changes import place
 from pertxogai_freecad.judging import JudgedSketch, Standing
 from pertxogai_freecad.window.colours import PieceColours
 from pertxogai_freecad.translating import QT_TRANSLATE_NOOP
+from pertxogai_freecad.trouble import Trouble
 from pertxogai_freecad.window.command_words import Word
-from pertxogai_freecad.window.selection import edit, edited_sketch, select_constraints
+from pertxogai_freecad.window.selection import (
+    deselect, edit, edited_sketch, select_constraints)
 from pertxogai_freecad.window.tables import Table, button, read_only, stacked
+from pertxogai_freecad.window.words import shown
 
 HEADINGS = (QT_TRANSLATE_NOOP("Pertxogai", "Constraint"),
             QT_TRANSLATE_NOOP("Pertxogai", "Standing"), QT_TRANSLATE_NOOP("Pertxogai", "Off by"),
             QT_TRANSLATE_NOOP("Pertxogai", "Says"))
 PLACE = QT_TRANSLATE_NOOP("Pertxogai", "Place")
 PIECES = QT_TRANSLATE_NOOP("Pertxogai", "Colour the pieces")
+EDITED = QT_TRANSLATE_NOOP(
+    "Pertxogai", "while the sketch is edited FreeCAD shows its own colours: close it first")
 STRONG = {Standing.OFF, Standing.REDUNDANT, Standing.CONFLICTING, Standing.MAY_GO,
           Standing.LEFT_OUT}
 TOLD_LINES = 6
@@ -28,6 +33,7 @@ class Does(Protocol):
     """What does something for a page, and shows the trouble that it meets."""
 
     def change(self, act: Callable[[], None], then: Word) -> None: ...
+    def attempt(self, act: Callable[[], None]) -> None: ...
 
 
 class JudgePage:
@@ -89,8 +95,18 @@ class JudgePage:
             self._panel.change(lambda: place(judged.read, good), Word.JUDGE)
 
     def _colour(self) -> None:
-        if self._colours is None and self._judged is not None:
-            self._colours = PieceColours(self._judged)
-            self._colours.show()
+        judged = self._judged
+        if self._colours is None and judged is not None:
+            self._panel.attempt(lambda: self._show_colours(judged))
+            self.pieces.setChecked(self._colours is not None)
         else:
             self.take_back()
+
+    def _show_colours(self, judged: JudgedSketch) -> None:
+        """Colours the pieces, with nothing selected, since FreeCAD shows what is selected in one
+        colour. Raises Trouble while the sketch is edited."""
+        if edited_sketch() is not None:
+            raise Trouble(shown(EDITED))
+        deselect()
+        self._colours = PieceColours(judged)
+        self._colours.show()

@@ -44,6 +44,7 @@ class Panel:
     """The panel of FreeCAD's window."""
 
     def __init__(self) -> None:
+        self._sketch: OwnSketch | None = None
         self._read: ReadSketch | None = None
         self._judge, self._repair = JudgePage(self), RepairPage(self)
         self._complete, self._construction = CompletePage(self), ConstructionPage()
@@ -90,13 +91,19 @@ class Panel:
         self._clear()
         self._pages.setCurrentWidget(self._widgets[word])
         with self._told():
-            self._ask(word, the_sketch())
+            self._sketch = the_sketch(self._sketch)
+            self._ask(word, self._sketch)
 
     def change(self, act: Callable[[], None], then: Word) -> None:
         """Does what a button says, and a command on the sketch as it is then."""
         with self._told():
             act()
             self.do(then)
+
+    def attempt(self, act: Callable[[], None]) -> None:
+        """Does what changes nothing but what the window shows."""
+        with self._told():
+            act()
 
     def _ask(self, word: Word, sketch: OwnSketch) -> None:
         """Asks about a sketch. Raises Trouble."""

@@ -34,12 +34,24 @@ def chosen_sketch() -> OwnSketch | None:
     return selected[0] if selected else None
 
 
-def the_sketch() -> OwnSketch:
-    """The sketch that is meant. Raises Trouble where none is."""
+def the_sketch(last: OwnSketch | None) -> OwnSketch:
+    """The sketch that is meant: where none is chosen, the last one that was asked about, if its
+    document is in front. Raises Trouble where none is."""
     found = chosen_sketch()
+    if found is None and last is not None and _is_in_front(last):
+        return last
     if found is None:
         raise Trouble("no sketch is selected: click on one in the tree, and ask again")
     return found
+
+
+def _is_in_front(sketch: OwnSketch) -> bool:
+    """Whether a sketch is there still, in the active document."""
+    try:
+        return FreeCADGui.ActiveDocument is not None and bool(
+            FreeCADGui.ActiveDocument.Document.Name == sketch.Document.Name)
+    except ReferenceError:
+        return False
 
 
 def selected_constraints(sketch: OwnSketch) -> frozenset[int]:
@@ -53,10 +65,15 @@ def selected_constraints(sketch: OwnSketch) -> frozenset[int]:
 def select_constraints(sketch: OwnSketch, indices: Iterable[int]) -> None:
     """Selects constraints: in the sketch while it is edited; else they are only marked as
     selected, since FreeCAD shows constraints nowhere else."""
-    FreeCADGui.Selection.clearSelection()
+    deselect()
     for index in indices:
         FreeCADGui.Selection.addSelection(sketch.Document.Name, sketch.Name,
                                           f"Constraint{index + 1}")
+
+
+def deselect() -> None:
+    """Selects nothing."""
+    FreeCADGui.Selection.clearSelection()
 
 
 def edit(sketch: OwnSketch) -> None:

@@ -20,6 +20,7 @@ from pathlib import Path
 
 import FreeCAD
 import FreeCADGui
+import numpy
 from PySide import QtCore, QtGui
 from pivy import coin
 
@@ -82,6 +83,15 @@ def picture(name):
     spin()
     wait(stands_still, f"the picture {name}")
     shots[1].save(os.path.join(os.environ["PICTURES"], name + ".png"))
+    return shots[1]
+
+
+def pixels_of(image, colour):
+    """How many pixels of an image have a colour, to a tenth of its range."""
+    image = image.convertToFormat(QtGui.QImage.Format_RGB32)
+    bgr = numpy.frombuffer(image.constBits(), numpy.uint8).reshape(image.height(), -1, 4)[..., :3]
+    away = abs(bgr / 255 - numpy.array(colour[2::-1]))
+    return int((away < 0.1).all(axis=2).sum())
 
 
 def opened(name):
@@ -276,8 +286,8 @@ def check_construction_turned():
     view = FreeCADGui.ActiveDocument.ActiveView
     measure = coin.SoGetBoundingBoxAction(coin.SbViewportRegion(WIDTH, HEIGHT))
     measure.apply(view.getSceneGraph().getChild(view.getSceneGraph().getNumChildren() - 1))
-    least, most = (list(corner) for corner in measure.getBoundingBox().getBounds())
-    facts = {"least": least, "most": most}
+    box = measure.getBoundingBox()
+    facts = {"least": list(box.getMin().getValue()), "most": list(box.getMax().getValue())}
     sheet = sketch.Document.addObject("Spreadsheet::Sheet", "Sheet")
     sheet.ViewObject.doubleClicked()
     spin()
@@ -326,9 +336,10 @@ def check_pieces():
     run("Judge")
     press("Pieces")
     coloured = list(sketch.ViewObject.LineColorArray)
-    picture("pieces")
+    image = picture("pieces")
+    seen_colours = [pixels_of(image, colour) for colour in sorted(set(coloured))]
     press("Pieces")
-    facts = {"edges": len(coloured), "colours": len(set(coloured)),
+    facts = {"edges": len(coloured), "colours": len(set(coloured)), "pixels": seen_colours,
              "back": list(sketch.ViewObject.LineColorArray) == before}
     press("Pieces")
     sketch.Document.save()
