@@ -19,7 +19,7 @@ FILES = TOP / "python" / "tests" / "files"
 CHECKS = TOP / "python" / "tests" / "with_programs"
 CONSOLE = shutil.which("freecadcmd") or shutil.which("/usr/lib/freecad/bin/freecadcmd-python3")
 WINDOW = shutil.which("freecad") or shutil.which("/usr/lib/freecad/bin/freecad-python3")
-SECONDS = 240
+SECONDS = 480
 """How long FreeCAD may take; a quiet machine takes a tenth of it."""
 SETTINGS = """<?xml version="1.0" encoding="UTF-8" standalone="no" ?>
 <FCParameters>

@@ -6,6 +6,7 @@ from PySide import QtCore, QtGui
 from pertxogai_freecad.constructing import Constructed
 from pertxogai_freecad.translating import QT_TRANSLATE_NOOP
 from pertxogai_freecad.window.overlay import Overlay
+from pertxogai_freecad.window.selection import deselect
 from pertxogai_freecad.window.tables import button, stacked
 from pertxogai_freecad.window.words import shown
 
@@ -36,8 +37,10 @@ class ConstructionPage:
         self.widget.layout().addStretch()
 
     def show(self, constructed: Constructed) -> None:
-        """Shows the first step of a construction."""
+        """Shows the first step of a construction, with nothing selected, so that what isn't
+        constructed yet is told from what is."""
         self.clear()
+        deselect()
         self._constructed = constructed
         self._overlay = Overlay(constructed.judged.read.sketch)
         self.slider.setMaximum(max(1, len(constructed.steps)))

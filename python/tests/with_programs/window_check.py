@@ -31,7 +31,7 @@ PLACE_MM = (10, 20, 30)
 """Where a sketch is laid that doesn't lie at the origin."""
 SECONDS, PAUSE_MS = 30, 20
 """How long a condition may take to come, and how long it isn't looked at."""
-STUCK_SECONDS = 200
+STUCK_SECONDS = 420
 """After so long where Python is at is written to the standard error."""
 COMMANDS = ("Judge", "Repair", "Complete", "Range", "Certify", "Construction")
 TOLD, DIALOGUES = {}, []
@@ -376,6 +376,7 @@ def main():
     wait(window.isVisible, "FreeCAD's window")
     wait(lambda: FreeCADGui.activeWorkbench().name() == FIRST, FIRST)
     window.setGeometry(0, 0, WIDTH, HEIGHT)
+    window.findChild(QtGui.QDockWidget, "Combo View").show()
     FreeCADGui.activateWorkbench("PertxogaiWorkbench")
     for check in CHECKS:
         name, began = check.__name__.removeprefix("check_"), time.monotonic()
