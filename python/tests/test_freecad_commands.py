@@ -169,11 +169,13 @@ def test_a_construction_joins_three_clusters_at_each_step(told: dict[str, Any]) 
 
 @pytest.mark.skipif(not HAS_RANGES, reason="the package has no ranges yet")
 def test_a_plate_is_as_narrow_as_its_second_hole_lets_it_be(told: dict[str, Any]) -> None:
-    """The hole's centre lies 45 mm from the left edge, and its radius is 5 mm."""
-    first, second, *_ = told["range plate"]["lines"]
-    assert first == "Sketch: 1 range"
-    least = re.match(r"  Constraint10: from (\S+) to \S+ mm, now 60, ", second)
-    assert least is not None and 50 <= float(least[1]) <= 50.001
+    """The hole's centre lies 45 mm from the left edge, and its radius is 5 mm. A height of two
+    thirds of the width is 25 mm, as much as the holes take, at 37.5 mm only."""
+    for name, called in (("plate", "Constraint10"), ("height by width", "width")):
+        first, second, *_ = told[f"range {name}"]["lines"]
+        assert first == "Sketch: 1 range"
+        least = re.match(rf"  {called}: from (\S+) to \S+ mm, now 60, ", second)
+        assert least is not None and 49.999 <= float(least[1]) <= 50.001
     assert "no dimension is selected: click on one" in told["range nothing"]["trouble"]
 
 

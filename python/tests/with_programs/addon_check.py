@@ -239,13 +239,24 @@ def check_construction():
     yield "twice", {"trouble": trouble_of(lambda: construct(judged(opened("twice"))))}
 
 
+def ranges_of(sketch, asked):
+    """What is told of the ranges of some constraints, by their numbers from 0."""
+    lines = []
+    trouble = trouble_of(lambda: lines.extend(
+        ranges(read_sketch(sketch), PROGRAM, LIMIT, frozenset(asked))))
+    return {"lines": lines, "trouble": trouble}
+
+
 def check_range():
-    """How far a plate's width may go, and what is told where no dimension is selected."""
-    read = read_sketch(opened("plate"))
+    """How far a plate's width may go, also where its height that follows from it is selected, and
+    what is told where no dimension is."""
+    sketch = opened("plate")
     for name, asked in (("plate", {WIDTH}), ("nothing", set())):
-        lines = []
-        trouble = trouble_of(lambda: lines.extend(ranges(read, PROGRAM, LIMIT, frozenset(asked))))
-        yield name, {"lines": lines, "trouble": trouble}
+        yield name, ranges_of(sketch, asked)
+    sketch.renameConstraint(WIDTH, "width")
+    sketch.setExpression(f"Constraints[{HEIGHT}]", "Constraints.width * 2 / 3")
+    sketch.Document.recompute()
+    yield "height by width", ranges_of(sketch, {HEIGHT})
 
 
 def check_program():
