@@ -21,7 +21,7 @@ WELL = "Sketch is well: fully constrained"
 OVER = "Sketch is over: over-constrained"
 HAS_RANGES = find_spec("pertxogai.ranging") is not None
 CHANGED = "the sketch was changed since: judge it again"
-PICTURES = {"judge", "repair", "repaired", "complete", "construction", "range", "certify", "pieces"}
+PICTURES = {"judge", "repair", "repaired", "complete", "construction", "range", "certify", "clusters"}
 
 
 @pytest.fixture(scope="module")
@@ -121,8 +121,8 @@ def test_shapes_are_placed_by_a_button_and_come_back(told: dict[str, Any]) -> No
     assert facts["solves"] == 0 and facts["fully"]
 
 
-def test_pieces_have_their_colours_while_a_button_is_pressed(told: dict[str, Any]) -> None:
-    facts = told["pieces"]
+def test_clusters_have_their_colours_while_a_button_is_pressed(told: dict[str, Any]) -> None:
+    facts = told["clusters"]
     assert facts["edges"] == 6 and facts["colours"] == 2 and facts["back"]
     assert min(facts["pixels"]) > 100  # Both are seen, though the sketch was selected.
     assert facts["saved"]  # The file keeps none of them.

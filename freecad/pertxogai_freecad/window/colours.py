@@ -1,4 +1,5 @@
-"""The edges of a sketch in the colours of the program's pieces, while the button is pressed."""
+"""The edges of a sketch in the colours of the program's rigid clusters, while the button is
+pressed."""
 from __future__ import annotations
 
 from contextlib import suppress
@@ -17,7 +18,7 @@ LOOSE: Colour = (0.45, 0.45, 0.45)
 NEAR_MM = 1e-6
 
 
-class PieceColours:
+class ClusterColours:
     """The colours of one sketch, and those that it had before."""
 
     def __init__(self, judged: JudgedSketch) -> None:
@@ -25,7 +26,7 @@ class PieceColours:
         self._before = list(self._sketch.ViewObject.LineColorArray)
 
     def show(self) -> None:
-        """Colours each edge by the piece that its shape lies in."""
+        """Colours each edge by the rigid cluster that its shape lies in."""
         colours = self._colours()
         if colours:
             self._sketch.ViewObject.LineColorArray = colours
@@ -36,8 +37,8 @@ class PieceColours:
             self._sketch.ViewObject.LineColorArray = self._before
 
     def _colours(self) -> list[Colour]:
-        piece_of = parts_of_shapes(self._judged.judged.judgement)
-        own = [(_mark(self._sketch.Geometry[count].toShape()), piece_of.get(shape.name))
+        cluster_of = parts_of_shapes(self._judged.judged.judgement)
+        own = [(_mark(self._sketch.Geometry[count].toShape()), cluster_of.get(shape.name))
                for count, shape in self._judged.read.curves().items()
                if type(shape).__name__ != "Point"]
         level = self._sketch.Shape.copy()

@@ -7,7 +7,7 @@ from typing import Protocol
 from pertxogai.judging import GoodJudgement
 from pertxogai_freecad.changes import place
 from pertxogai_freecad.judging import JudgedSketch, Standing
-from pertxogai_freecad.window.colours import PieceColours
+from pertxogai_freecad.window.colours import ClusterColours
 from pertxogai_freecad.translating import QT_TRANSLATE_NOOP
 from pertxogai_freecad.trouble import Trouble
 from pertxogai_freecad.window.command_words import Word
@@ -20,7 +20,7 @@ HEADINGS = (QT_TRANSLATE_NOOP("Pertxogai", "Constraint"),
             QT_TRANSLATE_NOOP("Pertxogai", "Standing"), QT_TRANSLATE_NOOP("Pertxogai", "Off by"),
             QT_TRANSLATE_NOOP("Pertxogai", "Says"))
 PLACE = QT_TRANSLATE_NOOP("Pertxogai", "Place")
-PIECES = QT_TRANSLATE_NOOP("Pertxogai", "Colour the pieces")
+CLUSTERS = QT_TRANSLATE_NOOP("Pertxogai", "Colour the clusters")
 EDITED = QT_TRANSLATE_NOOP(
     "Pertxogai", "while the sketch is edited FreeCAD shows its own colours: close it first")
 STRONG = {Standing.OFF, Standing.REDUNDANT, Standing.CONFLICTING, Standing.MAY_GO,
@@ -43,14 +43,14 @@ class JudgePage:
     def __init__(self, panel: Does) -> None:
         self._panel = panel
         self._judged: JudgedSketch | None = None
-        self._colours: PieceColours | None = None
+        self._colours: ClusterColours | None = None
         self.table = Table("PertxogaiRows", HEADINGS, self._selected, self._opened)
         self.place = button(PLACE, "PertxogaiPlace", self._place)
-        self.pieces = button(PIECES, "PertxogaiPieces", self._colour)
-        self.pieces.setCheckable(True)
+        self.clusters = button(CLUSTERS, "PertxogaiClusters", self._colour)
+        self.clusters.setCheckable(True)
         self.told = read_only("PertxogaiTold")
         self.told.setMaximumHeight(TOLD_LINES * self.told.fontMetrics().lineSpacing())
-        self.widget = stacked(self.table.widget, self.told, (self.place, self.pieces))
+        self.widget = stacked(self.table.widget, self.told, (self.place, self.clusters))
 
     def show(self, judged: JudgedSketch) -> None:
         """Shows a judged sketch."""
@@ -76,7 +76,7 @@ class JudgePage:
         colours, self._colours = self._colours, None
         if colours is not None:
             colours.take_back()
-        self.pieces.setChecked(False)
+        self.clusters.setChecked(False)
 
     def _selected(self, row: int) -> None:
         assert self._judged is not None
@@ -98,15 +98,15 @@ class JudgePage:
         judged = self._judged
         if self._colours is None and judged is not None:
             self._panel.attempt(lambda: self._show_colours(judged))
-            self.pieces.setChecked(self._colours is not None)
+            self.clusters.setChecked(self._colours is not None)
         else:
             self.take_back()
 
     def _show_colours(self, judged: JudgedSketch) -> None:
-        """Colours the pieces, with nothing selected, since FreeCAD shows what is selected in one
+        """Colours the clusters, with nothing selected, since FreeCAD shows what is selected in one
         colour. Raises Trouble while the sketch is edited."""
         if edited_sketch() is not None:
             raise Trouble(shown(EDITED))
         deselect()
-        self._colours = PieceColours(judged)
+        self._colours = ClusterColours(judged)
         self._colours.show()

@@ -37,6 +37,9 @@ from pertxogai_freecad.window.words import shown
 
 NAME = "PertxogaiPanel"
 GOOD = QT_TRANSLATE_NOOP("Pertxogai", "good: all of it holds within the limit")
+ASKING = QT_TRANSLATE_NOOP("Pertxogai", "asking the program ..")
+FAULT = QT_TRANSLATE_NOOP(
+    "Pertxogai", "this is a fault of the add-on: FreeCAD's report view has the details")
 WIDTH = 420
 
 
@@ -92,6 +95,7 @@ class Panel:
         self._pages.setCurrentWidget(self._widgets[word])
         with self._told():
             self._sketch = the_sketch(self._sketch)
+            self._say_asking()
             self._ask(word, self._sketch)
 
     def change(self, act: Callable[[], None], then: Word) -> None:
@@ -126,6 +130,11 @@ class Panel:
         else:
             self._construction.show(construct(judged))
 
+    def _say_asking(self) -> None:
+        """Has the panel seen before the program is asked, which may take long."""
+        self.note.setText(shown(ASKING))
+        QtGui.QApplication.processEvents(QtCore.QEventLoop.ExcludeUserInputEvents)
+
     def _show(self, judged: JudgedSketch) -> None:
         """Shows the verdict, and whether all is good."""
         self._read = judged.read
@@ -152,6 +161,9 @@ class Panel:
         except Trouble as trouble:
             self.note.setText(str(trouble))
             FreeCAD.Console.PrintError(f"Pertxogai: {trouble}\n")
+        except Exception:
+            self.note.setText(shown(FAULT))
+            raise
         finally:
             QtGui.QApplication.restoreOverrideCursor()
 

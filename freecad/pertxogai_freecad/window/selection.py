@@ -77,5 +77,9 @@ def deselect() -> None:
 
 
 def edit(sketch: OwnSketch) -> None:
-    """Opens a sketch in the Sketcher."""
+    """Opens a sketch in the Sketcher, and shows all of it where nothing of it was seen before, as
+    of one that FreeCAD's solver doesn't solve."""
+    was_seen = bool(sketch.Shape.Edges)
     FreeCADGui.getDocument(sketch.Document.Name).setEdit(sketch.Name)
+    if not was_seen:
+        FreeCADGui.SendMsgToActiveView("ViewFit")

@@ -92,7 +92,11 @@
    <translation type="unfinished" />
   </message>
   <message>
-   <source>Colour the pieces</source>
+   <source>Colour the clusters</source>
+   <translation type="unfinished" />
+  </message>
+  <message>
+   <source>while the sketch is edited FreeCAD shows its own colours: close it first</source>
    <translation type="unfinished" />
   </message>
   <message>
@@ -113,6 +117,14 @@
   </message>
   <message>
    <source>good: all of it holds within the limit</source>
+   <translation type="unfinished" />
+  </message>
+  <message>
+   <source>asking the program ..</source>
+   <translation type="unfinished" />
+  </message>
+  <message>
+   <source>this is a fault of the add-on: FreeCAD's report view has the details</source>
    <translation type="unfinished" />
   </message>
   <message>

@@ -329,22 +329,22 @@ def check_place():
     return facts
 
 
-def check_pieces():
+def check_clusters():
     """Two leaves of a hinge in two colours, while the button is pressed."""
     sketch = opened("hinge")
     before = list(sketch.ViewObject.LineColorArray)
     run("Judge")
-    press("Pieces")
+    press("Clusters")
     coloured = list(sketch.ViewObject.LineColorArray)
-    image = picture("pieces")
+    image = picture("clusters")
     seen_colours = [pixels_of(image, colour) for colour in sorted(set(coloured))]
-    press("Pieces")
+    press("Clusters")
     facts = {"edges": len(coloured), "colours": len(set(coloured)), "pixels": seen_colours,
              "back": list(sketch.ViewObject.LineColorArray) == before}
-    press("Pieces")
+    press("Clusters")
     sketch.Document.save()
     facts["saved"] = list(sketch.ViewObject.LineColorArray) == before
-    press("Pieces")
+    press("Clusters")
     closed(sketch)
     sketch = opened("plate")
     run("Judge")
@@ -367,7 +367,7 @@ def check_nothing():
 
 CHECKS = (check_workbench, check_untouched, check_judge, check_repair, check_complete,
           check_construction, check_construction_turned, check_range_and_certify, check_place,
-          check_pieces, check_nothing)
+          check_clusters, check_nothing)
 
 
 def main():
