@@ -1,6 +1,8 @@
 """The page of the panel for Complete: the dimensions that are proposed, to be added."""
 from __future__ import annotations
 
+from functools import partial
+
 from pertxogai_freecad.completing import Proposed
 from pertxogai_freecad.translating import QT_TRANSLATE_NOOP
 from pertxogai_freecad.window.command_words import Word
@@ -19,7 +21,7 @@ class CompletePage:
     def __init__(self, panel: Does) -> None:
         self._panel = panel
         self._proposed: Proposed | None = None
-        self.table = Table("PertxogaiProposals", HEADINGS, lambda row: self.add.setEnabled(True))
+        self.table = Table("PertxogaiProposals", HEADINGS, self._selected)
         self.add = button(ADD, "PertxogaiAdd", self._add)
         self.add_all = button(ADD_ALL, "PertxogaiAddAll", self._add_all)
         self.told = read_only("PertxogaiCompletion")
@@ -41,10 +43,13 @@ class CompletePage:
         self.add.setEnabled(False)
         self.add_all.setEnabled(False)
 
+    def _selected(self, row: int) -> None:
+        self.add.setEnabled(True)
+
     def _add(self) -> None:
         proposed, place = self._proposed, self.table.place
         if proposed is not None and place is not None:
-            self._panel.change(lambda: proposed.take([place]), Word.COMPLETE)
+            self._panel.change(partial(proposed.take, [place]), Word.COMPLETE)
 
     def _add_all(self) -> None:
         proposed = self._proposed

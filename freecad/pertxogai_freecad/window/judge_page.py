@@ -2,6 +2,7 @@
 from __future__ import annotations
 
 from collections.abc import Callable
+from functools import partial
 from typing import Protocol
 
 from pertxogai.judging import GoodJudgement
@@ -92,12 +93,12 @@ class JudgePage:
         judged = self._judged
         if judged is not None and isinstance(judged.good, GoodJudgement):
             good = judged.good
-            self._panel.change(lambda: place(judged.read, good), Word.JUDGE)
+            self._panel.change(partial(place, judged.read, good), Word.JUDGE)
 
     def _colour(self) -> None:
         judged = self._judged
         if self._colours is None and judged is not None:
-            self._panel.attempt(lambda: self._show_colours(judged))
+            self._panel.attempt(partial(self._show_colours, judged))
             self.clusters.setChecked(self._colours is not None)
         else:
             self.take_back()

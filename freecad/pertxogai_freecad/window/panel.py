@@ -6,6 +6,7 @@ from __future__ import annotations
 
 from collections.abc import Callable, Iterator
 from contextlib import contextmanager
+from typing import Protocol
 
 import FreeCAD
 import FreeCADGui
@@ -41,6 +42,12 @@ ASKING = QT_TRANSLATE_NOOP("Pertxogai", "asking the program ..")
 FAULT = QT_TRANSLATE_NOOP(
     "Pertxogai", "this is a fault of the add-on: FreeCAD's report view has the details")
 WIDTH = 420
+
+
+class Page(Protocol):
+    """A page of the panel, for one command."""
+
+    def clear(self) -> None: ...
 
 
 class Panel:
@@ -146,8 +153,9 @@ class Panel:
     def _clear(self) -> None:
         """Takes away what was shown of another sketch, or by another command."""
         self._read = None
-        for page in (self._judge, self._repair, self._complete, self._range, self._certify,
-                     self._construction):
+        pages: tuple[Page, ...] = (self._judge, self._repair, self._complete, self._range,
+                                   self._certify, self._construction)
+        for page in pages:
             page.clear()
         for label in (self.headline, self.facts, self.note):
             label.setText("")

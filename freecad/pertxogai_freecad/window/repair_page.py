@@ -1,6 +1,8 @@
 """The page of the panel for Repair: what may go, and a button that removes one."""
 from __future__ import annotations
 
+from functools import partial
+
 from pertxogai_freecad.repairing import Repair
 from pertxogai_freecad.translating import QT_TRANSLATE_NOOP
 from pertxogai_freecad.window.command_words import Word
@@ -29,10 +31,9 @@ class RepairPage:
     def show(self, repair: Repair) -> None:
         """Shows what may go."""
         self._repair = repair
-        rows = [(each.name, each.standing.value, each.off, each.rest)
+        rows = [[each.name, each.standing.value, each.off, each.rest]
                 for each in repair.candidates]
-        nothing = shown(repair.nothing())
-        self.table.show(rows or [(nothing, *[""] * (len(HEADINGS) - 1))])
+        self.table.show(rows or [[shown(repair.nothing())]])
         self.told.setPlainText("\n".join(repair.lines()))
         self.remove.setEnabled(False)
 
@@ -64,4 +65,4 @@ class RepairPage:
     def _remove(self) -> None:
         repair, index = self._repair, self._index()
         if repair is not None and index is not None:
-            self._panel.change(lambda: repair.take_away(index), Word.REPAIR)
+            self._panel.change(partial(repair.take_away, index), Word.REPAIR)
