@@ -91,7 +91,7 @@ def test_what_is_missing_is_added_by_a_button_and_goes_again(told: dict[str, Any
 def test_a_construction_is_drawn_over_the_sketch_and_goes_with_the_panel(
         told: dict[str, Any]) -> None:
     facts = told["construction"]
-    assert facts["steps"] == 6 and facts["first"].startswith("step 1: ")
+    assert facts["steps"] == 6 and facts["first"].startswith("step 1 makes ")
     assert facts["drawn"] == 1 and facts["left"] == 0 and facts["same"]
     assert facts["plays"] == "Pause"
 
