@@ -11,6 +11,7 @@ done."""
 from __future__ import annotations
 
 import sys
+import traceback
 from collections.abc import Callable, Iterator
 from contextlib import contextmanager
 from dataclasses import dataclass
@@ -103,6 +104,10 @@ def _document(command: str, path: Path, asked: Asked) -> Ends:
                 document.saveCopy(str(out))
     except (Trouble, OSError) as trouble:
         print(f"{path.name}: {trouble}")
+        return Ends.TROUBLE
+    except Exception as fault:  # The package's own; the other documents are asked all the same.
+        traceback.print_exc()
+        print(f"{path.name}: {type(fault).__name__}: {' '.join(str(fault).split())}")
         return Ends.TROUBLE
     return max(ends for ends, _ in told)
 

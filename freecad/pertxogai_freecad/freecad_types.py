@@ -6,8 +6,10 @@ from typing import Any, Protocol
 
 
 class OwnConstraint(Protocol):
-    """A constraint of the Sketcher. Content: all of it, as FreeCAD stores it."""
+    """A constraint of the Sketcher. Name: empty where it has none of its own. Content: all of it,
+    as FreeCAD stores it."""
 
+    Name: str
     Content: str
 
 

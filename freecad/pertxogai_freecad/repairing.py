@@ -3,13 +3,14 @@ by how much."""
 from __future__ import annotations
 
 from collections.abc import Iterator
-from dataclasses import dataclass
+from dataclasses import dataclass, replace
 from enum import Enum
 
 from pertxogai.judging import Then, judge_at_once
 from pertxogai.judging.surplus import without
 from pertxogai.program.reports import Verdict
 from pertxogai_freecad import changes
+from pertxogai_freecad.following import followers
 from pertxogai_freecad.judging import JudgedSketch, Standing, of_surplus, surplus_by_index
 from pertxogai_freecad.translating import QT_TRANSLATE_NOOP
 from pertxogai_freecad.trouble import Trouble, troubles
@@ -32,12 +33,21 @@ class By(Enum):
     PROGRAM = "named by the program"
 
 
+def stays_for(following: tuple[str, ...]) -> str:
+    """Why a constraint can't be removed that these follow from; empty where none does."""
+    if not following:
+        return ""
+    verb = "follows" if len(following) == 1 else "follow"
+    return f"it can't be removed while {', '.join(following)} {verb} from it"
+
+
 @dataclass(frozen=True)
 class Candidate:
     """A constraint of FreeCAD's that may go. index: its number, from 0. off: how far it is off
     where the rest is placed, empty where that isn't known. rest: what the rest is without it, empty
     where that wasn't tried. others: the constraints that it follows from or contradicts. by: who
-    says that it may go."""
+    says that it may go. followers: what follows from it by FreeCAD's expressions: it stays as long
+    as there is any."""
 
     index: int
     name: str
@@ -46,13 +56,20 @@ class Candidate:
     rest: str = ""
     others: tuple[str, ...] = ()
     by: By = By.RANK
+    followers: tuple[str, ...] = ()
+
+    def stays(self) -> str:
+        """Why it can't be removed; empty where it can."""
+        return stays_for(self.followers)
 
     def line(self) -> str:
         """All of it, to read."""
+        stays = f"; {self.stays()}" if self.followers else ""
         off = f", off by {self.off}" if self.off else ""
         with_others = f", with {', '.join(self.others)}" if self.others else ""
         rest = f"; the rest is {self.rest} without it" if self.rest else ""
-        return f"{self.name}: {self.standing.value}{off}{with_others}{rest} ({self.by.value})"
+        return (f"{self.name}: {self.standing.value}{off}{with_others}{rest} "
+                f"({self.by.value}){stays}")
 
 
 @dataclass(frozen=True)
@@ -67,7 +84,9 @@ class Repair:
         """Contradictions first; where it isn't over, what repeats others all the same."""
         found: dict[int, Candidate] = {}
         for each in (*_surplus(judged), *_repeats(judged), *_by_rank(judged)):
-            found.setdefault(each.index, each)
+            if each.index not in found:
+                found[each.index] = replace(
+                    each, followers=followers(judged.read.sketch, each.index))
         return Repair(judged, tuple(found.values()))
 
     def lines(self) -> Iterator[str]:
@@ -85,9 +104,14 @@ class Repair:
 
     def take_away(self, index: int) -> None:
         """Takes one of these away, which FreeCAD's undo brings back. Raises Trouble where it is
-        none of these, or the sketch was changed since."""
-        if all(each.index != index for each in self.candidates):
+        none of these, something follows from it, or the sketch was changed since."""
+        chosen = next((each for each in self.candidates if each.index == index), None)
+        if chosen is None:
             raise Trouble(f"constraint {index + 1} isn't among those that may go")
+        self.judged.read.check_constraints()
+        stays = stays_for(followers(self.judged.read.sketch, index))
+        if stays:
+            raise Trouble(f"{chosen.name}: {stays}: give that a number first, or remove another")
         changes.remove(self.judged.read, index)
 
 
@@ -97,8 +121,7 @@ def _surplus(judged: JudgedSketch) -> Iterator[Candidate]:
     for index, each in surplus_by_index(judged).items():
         off, standing = of_surplus(judged.read, each)
         if standing is Standing.IN_PART:
-            yield Candidate(index, judged.read.drawing.called(judged.read.numbers(index)[0]),
-                            standing, rest=REST[_without(judged, index)], by=By.TRIED)
+            yield _in_part(judged, index)
         else:
             yield Candidate(index, each.name, standing, off, REST[each.then], each.others,
                             untried if each.then is None else By.TRIED)
@@ -119,13 +142,23 @@ def _repeats(judged: JudgedSketch) -> Iterator[Candidate]:
     """What says again what follows already, and is no line of the program's sketch."""
     for name in judged.judged.judgement.repeats:
         if name in judged.read.indices:
-            index = judged.read.indices[name]
-            yield Candidate(index, name, _alone(judged, index, Standing.REDUNDANT))
+            yield _known_of_one(judged, judged.read.indices[name], name, Standing.REDUNDANT)
 
 
-def _alone(judged: JudgedSketch, index: int, standing: Standing) -> Standing:
-    """How a constraint stands, of which that is known of one thing that it says."""
-    return standing if len(judged.read.numbers(index)) == 1 else Standing.IN_PART
+def _known_of_one(judged: JudgedSketch, index: int, name: str, standing: Standing,
+                  others: tuple[str, ...] = ()) -> Candidate:
+    """A constraint of which it is known of one thing that it says how that stands; where it says
+    several, it is tried as a whole."""
+    if len(judged.read.numbers(index)) == 1:
+        return Candidate(index, name, standing, others=others)
+    return _in_part(judged, index, others)
+
+
+def _in_part(judged: JudgedSketch, index: int, others: tuple[str, ...] = ()) -> Candidate:
+    """A constraint that says several things, of which one is too many, tried as a whole."""
+    return Candidate(index, judged.read.drawing.called(judged.read.numbers(index)[0]),
+                     Standing.IN_PART, rest=REST[_without(judged, index)], others=others,
+                     by=By.TRIED)
 
 
 def _by_rank(judged: JudgedSketch) -> Iterator[Candidate]:
@@ -134,6 +167,5 @@ def _by_rank(judged: JudgedSketch) -> Iterator[Candidate]:
         for name in group:
             if name in judged.read.indices:
                 others = tuple(each for each in group if each != name)
-                index = judged.read.indices[name]
-                yield Candidate(index, name, _alone(judged, index, Standing.MAY_GO),
-                                others=others)
+                yield _known_of_one(judged, judged.read.indices[name], name, Standing.MAY_GO,
+                                    others)

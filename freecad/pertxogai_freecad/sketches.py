@@ -18,6 +18,7 @@ from pertxogai_freecad.translating import QT_TRANSLATE_NOOP
 from pertxogai_freecad.trouble import Trouble, troubles
 
 CHANGED = QT_TRANSLATE_NOOP("Pertxogai", "the sketch was changed since: judge it again")
+GONE = "the sketch was deleted: select another, and judge that"
 SHOWN_ONLY = re.compile(r' (?:LabelDistance|LabelPosition|IsInVirtualSpace)="[^"]*"')
 """What of a constraint says where its text stands, and whether that is shown."""
 
@@ -83,7 +84,7 @@ def stored_of(sketch: OwnSketch) -> tuple[tuple[str, ...], tuple[str, ...]]:
         return (tuple(SHOWN_ONLY.sub("", each.Content) for each in sketch.Constraints),
                 tuple(each.Content for each in sketch.Geometry))
     except ReferenceError:
-        raise Trouble("the sketch was deleted: select another, and judge that") from None
+        raise Trouble(GONE) from None
 
 
 def read_sketch(sketch: OwnSketch) -> ReadSketch:

@@ -64,7 +64,7 @@ class ConstructionPage:
         try:
             self._overlay.show(steps[number - 1])
             self.told.setText(f"{steps[number - 1].line()} ({number} / {len(steps)})")
-        except ReferenceError:  # The sketch was deleted meanwhile.
+        except (ReferenceError, IndexError):  # The sketch or one of its shapes was deleted.
             self.clear()
 
     def _turn(self) -> None:

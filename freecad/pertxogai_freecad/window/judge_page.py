@@ -80,14 +80,16 @@ class JudgePage:
         self.clusters.setChecked(False)
 
     def _selected(self, row: int) -> None:
-        assert self._judged is not None
-        select_constraints(self._judged.read.sketch, [self._judged.rows()[row].index])
+        judged = self._judged
+        if judged is not None:
+            self._panel.attempt(partial(select_constraints, judged.read.sketch,
+                                        [judged.rows()[row].index]))
 
     def _opened(self, row: int) -> None:
-        assert self._judged is not None
-        if edited_sketch() is None:
-            edit(self._judged.read.sketch)
-        self._selected(row)
+        judged = self._judged
+        if judged is not None:
+            self._panel.attempt(partial(edit, judged.read.sketch))
+            self._selected(row)
 
     def _place(self) -> None:
         judged = self._judged

@@ -16,13 +16,13 @@ from pertxogai.judging import GoodJudgement
 from pertxogai_freecad.certifying import certify
 from pertxogai_freecad.completing import Proposed
 from pertxogai_freecad.constructing import construct
-from pertxogai_freecad.freecad_types import OwnSketch
+from pertxogai_freecad.freecad_types import OwnDocument, OwnSketch
 from pertxogai_freecad.home import find_program, limit_of
 from pertxogai_freecad.judging import JudgedSketch, judge_sketch
 from pertxogai_freecad.ranging import ranges
 from pertxogai_freecad.repairing import Repair
 from pertxogai_freecad.settings import Settings
-from pertxogai_freecad.sketches import CHANGED, ReadSketch, read_sketch, stored_of
+from pertxogai_freecad.sketches import CHANGED, GONE, ReadSketch, read_sketch, stored_of
 from pertxogai_freecad.trouble import Trouble
 from pertxogai_freecad.translating import QT_TRANSLATE_NOOP
 from pertxogai_freecad.window.command_words import Word
@@ -31,7 +31,8 @@ from pertxogai_freecad.window.construction_page import ConstructionPage
 from pertxogai_freecad.window.judge_page import JudgePage
 from pertxogai_freecad.window.repair_page import RepairPage
 from pertxogai_freecad.window.resources import icon
-from pertxogai_freecad.window.selection import selected_constraints, the_sketch
+from pertxogai_freecad.window.selection import (
+    is_in_front, selected_constraints, the_sketch)
 from pertxogai_freecad.window.tables import stacked
 from pertxogai_freecad.window.text_page import TextPage
 from pertxogai_freecad.window.words import shown
@@ -56,6 +57,7 @@ class Panel:
     def __init__(self) -> None:
         self._sketch: OwnSketch | None = None
         self._read: ReadSketch | None = None
+        self._document = ""
         self._judge, self._repair = JudgePage(self), RepairPage(self)
         self._complete, self._construction = CompletePage(self), ConstructionPage()
         self._range, self._certify = TextPage("PertxogaiRanges"), TextPage("PertxogaiClaim")
@@ -96,20 +98,32 @@ class Panel:
 
     def do(self, word: Word) -> None:
         """Does a command on the sketch that is edited or selected, and shows what came of it."""
-        self.dock.show()
-        self.dock.raise_()
         self._clear()
-        self._pages.setCurrentWidget(self._widgets[word])
+        self._turn_to(word)
         with self._told():
             self._sketch = the_sketch(self._sketch)
             self._say_asking()
             self._ask(word, self._sketch)
 
     def change(self, act: Callable[[], None], then: Word) -> None:
-        """Does what a button says, and a command on the sketch as it is then."""
+        """Does what a button says of the sketch that was asked about, and then a command on the
+        same. Its document has to be in front, since FreeCAD's undo is that of the one in front."""
         with self._told():
+            sketch = self._sketch
+            if sketch is None or not is_in_front(sketch):
+                raise Trouble("the sketch's document isn't in front: choose its tab, and press "
+                              "again")
             act()
-            self.do(then)
+            self._clear()
+            self._turn_to(then)
+            self._say_asking()
+            self._ask(then, sketch)
+
+    def _turn_to(self, word: Word) -> None:
+        """Shows the page of a command."""
+        self.dock.show()
+        self.dock.raise_()
+        self._pages.setCurrentWidget(self._widgets[word])
 
     def attempt(self, act: Callable[[], None]) -> None:
         """Does what changes nothing but what the window shows."""
@@ -144,15 +158,17 @@ class Panel:
 
     def _show(self, judged: JudgedSketch) -> None:
         """Shows the verdict, and whether all is good."""
-        self._read = judged.read
-        self.headline.setText(judged.headline())
+        self._read, self._document = judged.read, judged.read.sketch.Document.Name
+        document = judged.read.sketch.Document.Label
+        several = len(FreeCAD.listDocuments()) > 1
+        self.headline.setText(f"{document}: {judged.headline()}" if several else judged.headline())
         self.facts.setText(f"{judged.freedoms()}; {judged.tolerance()}")
         is_good = isinstance(judged.good, GoodJudgement)
         self.note.setText(shown(GOOD) if is_good else f"not good: {judged.good}")
 
     def _clear(self) -> None:
         """Takes away what was shown of another sketch, or by another command."""
-        self._read = None
+        self._read, self._document = None, ""
         pages: tuple[Page, ...] = (self._judge, self._repair, self._complete, self._range,
                                    self._certify, self._construction)
         for page in pages:
@@ -167,13 +183,19 @@ class Panel:
         try:
             yield
         except Trouble as trouble:
-            self.note.setText(str(trouble))
-            FreeCAD.Console.PrintError(f"Pertxogai: {trouble}\n")
+            self._complain(str(trouble))
+        except ReferenceError:  # What FreeCAD raises where an object was deleted.
+            self._clear()
+            self._complain(GONE)
         except Exception:
             self.note.setText(shown(FAULT))
             raise
         finally:
             QtGui.QApplication.restoreOverrideCursor()
+
+    def _complain(self, line: str) -> None:
+        self.note.setText(line)
+        FreeCAD.Console.PrintError(f"Pertxogai: {line}\n")
 
     def _seen(self, is_visible: bool) -> None:
         """Takes the construction away with the panel."""
@@ -196,7 +218,20 @@ class Panel:
                 is_changed = True
             if is_changed:
                 self._read = None
+                self._construction.clear()
+                self._judge.take_back()
                 self.note.setText(shown(CHANGED))
+
+    def slotDeletedObject(self, deleted: OwnSketch) -> None:
+        """Shows nothing of a sketch any more that is deleted."""
+        if self._read is not None and deleted is self._read.sketch:
+            self._clear()
+            self.note.setText(GONE)
+
+    def slotDeletedDocument(self, deleted: OwnDocument) -> None:
+        """Shows nothing of a sketch any more whose document is closed."""
+        if self._document == deleted.Name:
+            self._clear()
 
 
 def _label(name: str) -> QtGui.QLabel:

@@ -7,7 +7,7 @@ from pertxogai_freecad.repairing import Repair
 from pertxogai_freecad.translating import QT_TRANSLATE_NOOP
 from pertxogai_freecad.window.command_words import Word
 from pertxogai_freecad.window.judge_page import Does
-from pertxogai_freecad.window.selection import edit, edited_sketch, select_constraints
+from pertxogai_freecad.window.selection import edit, select_constraints
 from pertxogai_freecad.window.tables import Table, button, read_only, stacked
 from pertxogai_freecad.window.words import shown
 
@@ -31,7 +31,7 @@ class RepairPage:
     def show(self, repair: Repair) -> None:
         """Shows what may go."""
         self._repair = repair
-        rows = [[each.name, each.standing.value, each.off, each.rest]
+        rows = [[each.name, each.standing.value, each.off, each.stays() or each.rest]
                 for each in repair.candidates]
         self.table.show(rows or [[shown(repair.nothing())]])
         self.told.setPlainText("\n".join(repair.lines()))
@@ -55,12 +55,13 @@ class RepairPage:
         index = self._index()
         self.remove.setEnabled(index is not None)
         if self._repair is not None and index is not None:
-            select_constraints(self._repair.judged.read.sketch, [index])
+            self._panel.attempt(partial(select_constraints, self._repair.judged.read.sketch,
+                                        [index]))
 
     def _opened(self, row: int) -> None:
-        if self._repair is not None and edited_sketch() is None:
-            edit(self._repair.judged.read.sketch)
-        self._selected(row)
+        if self._repair is not None:
+            self._panel.attempt(partial(edit, self._repair.judged.read.sketch))
+            self._selected(row)
 
     def _remove(self) -> None:
         repair, index = self._repair, self._index()

@@ -38,14 +38,14 @@ def the_sketch(last: OwnSketch | None) -> OwnSketch:
     """The sketch that is meant: where none is chosen, the last one that was asked about, if its
     document is in front. Raises Trouble where none is."""
     found = chosen_sketch()
-    if found is None and last is not None and _is_in_front(last):
+    if found is None and last is not None and is_in_front(last):
         return last
     if found is None:
         raise Trouble("no sketch is selected: click on one in the tree, and ask again")
     return found
 
 
-def _is_in_front(sketch: OwnSketch) -> bool:
+def is_in_front(sketch: OwnSketch) -> bool:
     """Whether a sketch is there still, in the active document."""
     try:
         return FreeCADGui.ActiveDocument is not None and bool(
@@ -78,7 +78,9 @@ def deselect() -> None:
 
 def edit(sketch: OwnSketch) -> None:
     """Opens a sketch in the Sketcher, and shows all of it where nothing of it was seen before, as
-    of one that FreeCAD's solver doesn't solve."""
+    of one that FreeCAD's solver doesn't solve. While one is edited, that stays so."""
+    if edited_sketch() is not None:
+        return
     was_seen = bool(sketch.Shape.Edges)
     FreeCADGui.getDocument(sketch.Document.Name).setEdit(sketch.Name)
     if not was_seen:
