@@ -99,6 +99,16 @@ def test_what_moves_with_a_repair_comes_back_with_it(told: dict[str, Any]) -> No
     assert told["repair_moves width"] == {"widths": [60, 55, 60], "undone": True}
 
 
+def test_what_others_follow_from_stays(told: dict[str, Any]) -> None:
+    """By expressions of the sketch itself, of a box and of a cell; another sketch has a `below`
+    of its own."""
+    facts = told["repair_followed width"]
+    stays = "it can't be removed while Constraint11, Box.Length, Sheet.A1 follow from it"
+    assert facts["stays"] == {"above": stays, "below": "", "Constraint6": "", "Constraint8": ""}
+    assert facts["trouble"] == f"above: {stays}: give that a number first, or remove another"
+    assert facts["same"]
+
+
 def test_what_says_two_things_is_tried_as_a_whole(told: dict[str, Any]) -> None:
     """A tangency at an end has the end on the circle, and the line along it there. That is said
     once more of the end, and without the tangency the line may turn."""
@@ -146,6 +156,7 @@ def test_a_claim_and_its_verification_lie_beside_the_document(told: dict[str, An
     facts = told["certify link"]
     assert facts["files"] == ["link-Sketch.claim", "link-Sketch.verification"]
     assert facts["beside"] and facts["accepted"] and facts["claim"] == "sketch 1\n"
+    assert told["certify again"]["line"].endswith(".verification, in place of earlier ones")
     checkers = [line.partition(": ") for line in facts["verification"]]
     assert [each[0] for each in checkers] == ["sketch verify", "sketch_claim.py", "sketch_claim.c"]
     assert all(each[2].startswith("verified steps ") for each in checkers)
@@ -154,6 +165,8 @@ def test_a_claim_and_its_verification_lie_beside_the_document(told: dict[str, An
 def test_no_claim_of_what_is_not_good_or_not_saved(told: dict[str, Any]) -> None:
     over = "Sketch isn't good, so no claim is written: it is over"
     assert told["certify twice"]["trouble"] == over
+    earlier = "; twice-Sketch.claim beside it is of an earlier state"
+    assert told["certify earlier"]["trouble"] == over + earlier
     assert told["certify unsaved"]["trouble"].startswith("the document was never saved: save it")
     assert told["certify changed"]["trouble"].startswith("the sketch isn't saved as it is: save")
 
@@ -224,6 +237,19 @@ def test_a_sketch_that_is_not_good_is_told_from_what_cannot_be_done(program: Pro
     here.copy("twice")
     status, lines = asked(here, program, "certify", str(here.folder / "twice.FCStd"))
     assert status == 1 and lines[0].endswith("so no claim is written: it is over")
+
+
+def test_a_fault_of_the_package_keeps_no_document_from_being_asked(program: Program,
+                                                                   tmp_path: Path) -> None:
+    here = Installed.by_link(tmp_path)
+    here.copy("plate", "twice")
+    code = ("from pertxogai_freecad import documents; "
+            "documents.COMMANDS['judge'] = lambda read, asked: {}['lost']; "
+            f"documents.main('judge', {str(here.folder)!r})")
+    ended = here.console("-c", code, PERTXOGAI_SKETCH=program.path)
+    assert ended.status == 2
+    told = [line for line in ended.out.splitlines() if "KeyError" in line]
+    assert told == ["plate.FCStd: KeyError: 'lost'", "twice.FCStd: KeyError: 'lost'"]
 
 
 def test_a_folder_is_completed_into_another(program: Program, tmp_path: Path) -> None:

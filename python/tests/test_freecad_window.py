@@ -21,7 +21,8 @@ WELL = "Sketch is well: fully constrained"
 OVER = "Sketch is over: over-constrained"
 HAS_RANGES = find_spec("pertxogai.ranging") is not None
 CHANGED = "the sketch was changed since: judge it again"
-PICTURES = {"judge", "repair", "repaired", "complete", "construction", "range", "certify", "clusters"}
+PICTURES = {"judge", "repair", "repaired", "complete", "construction", "range", "certify",
+            "clusters"}
 
 
 @pytest.fixture(scope="module")
@@ -79,6 +80,19 @@ def test_a_conflict_is_removed_by_a_button_and_comes_back(told: dict[str, Any]) 
     assert facts["note"].startswith("good: ") and facts["left"] == "nothing is too many"
     assert facts["undo"] == ["Remove above (Pertxogai)"]
     assert facts["undone"] and facts["stale"] == CHANGED
+
+
+def test_a_button_changes_the_sketch_that_was_asked_about_or_none(told: dict[str, Any]) -> None:
+    facts = told["two_documents"]
+    assert facts["note"].startswith("the sketch's document isn't in front: choose its tab")
+    assert facts["same"] and facts["undo"] == []
+    assert facts["headline"] == f"contradiction: {WELL}" and facts["count"] == 11
+
+
+def test_what_is_shown_of_a_sketch_goes_with_it(told: dict[str, Any]) -> None:
+    facts = told["gone"]
+    assert facts["left"] == 0 and facts["note"] == CHANGED
+    assert facts["before"] > 0 and facts["after"] == [] and facts["headline"] == ""
 
 
 def test_what_is_missing_is_added_by_a_button_and_goes_again(told: dict[str, Any]) -> None:

@@ -122,6 +122,28 @@ def check_repair_moves():
     FreeCAD.closeDocument(sketch.Document.Name)
 
 
+def check_repair_followed():
+    """A width that a height, a box and a cell of a spreadsheet follow from stays."""
+    sketch = opened("contradiction")
+    document = sketch.Document
+    sketch.setExpression(f"Constraints[{HEIGHT}]", "Constraints.above * 2 / 3")
+    document.addObject("Part::Box", "Box").setExpression("Length", "Sketch.Constraints.above")
+    document.addObject("Spreadsheet::Sheet", "Sheet").set("A1", "=Sketch.Constraints.above")
+    other = document.addObject("Sketcher::SketchObject", "Other")
+    other.addGeometry(Part.LineSegment(FreeCAD.Vector(0, 0, 0), FreeCAD.Vector(5, 0, 0)))
+    other.addConstraint(Sketcher.Constraint("Distance", 0, 5.0))
+    other.renameConstraint(0, "below")
+    other.addConstraint(Sketcher.Constraint("DistanceX", 0, 1, 4.0))
+    other.setExpression("Constraints[1]", "Constraints.below * 2")
+    before = stored_of(sketch)
+    repair = Repair.of(judged(sketch))
+    stays = {each.name: each.stays() for each in repair.candidates}
+    (above,) = (each for each in repair.candidates if each.name == "above")
+    yield "width", {"stays": stays, "trouble": trouble_of(lambda: repair.take_away(above.index)),
+                    "same": stored_of(sketch) == before}
+    FreeCAD.closeDocument(document.Name)
+
+
 def check_repair_in_part():
     """A point that is told again to lie on the circle on which a tangency at an end has it."""
     sketch = opened("tangent-forms")
@@ -217,9 +239,12 @@ def check_certify():
                    "beside": str(found.claim.parent) == os.environ["FOLDER"],
                    "accepted": found.is_accepted(), "claim": found.claim.read_text()[:9],
                    "verification": found.verification.read_text().splitlines()}
+    yield "again", {"line": next(certify(judged(sketch)).lines())}
     FreeCAD.closeDocument(sketch.Document.Name)
     sketch = opened("twice")
     yield "twice", {"trouble": trouble_of(lambda: certify(judged(sketch)))}
+    Path(os.environ["FOLDER"], "twice-Sketch.claim").touch()
+    yield "earlier", {"trouble": trouble_of(lambda: certify(judged(sketch)))}
     FreeCAD.closeDocument(sketch.Document.Name)
     sketch = opened("plate")
     sketch.setDatum(WIDTH, 61.0)
@@ -269,8 +294,8 @@ def check_program():
 def main():
     """All of it, and the end."""
     told = {}
-    for check in (check_judge, check_repair, check_repair_moves, check_repair_in_part,
-                  check_complete, check_complete_two, check_complete_moved,
+    for check in (check_judge, check_repair, check_repair_moves, check_repair_followed,
+                  check_repair_in_part, check_complete, check_complete_two, check_complete_moved,
                   check_complete_nothing, check_place, check_certify, check_construction,
                   check_range, check_program):
         word = check.__name__.removeprefix("check_")

@@ -237,6 +237,40 @@ def check_repair():
     return facts
 
 
+def check_two_documents():
+    """Another document comes to the front after Repair was asked: the button changes neither."""
+    sketch = opened("contradiction")
+    before = stored(sketch)
+    run("Repair")
+    click_row("Candidates", "above")
+    other = opened("twice")
+    press("Remove")
+    facts = {"note": text("Note"), "same": stored(sketch) == before,
+             "undo": list(other.Document.UndoNames)}
+    FreeCAD.setActiveDocument("contradiction")
+    press("Remove")
+    facts.update(headline=text("Headline"), count=len(sketch.Constraints))
+    closed(other)
+    closed(sketch)
+    return facts
+
+
+def check_gone():
+    """A shape, and then the document, goes while a construction is shown."""
+    sketch = opened("plate")
+    scene = FreeCADGui.ActiveDocument.ActiveView.getSceneGraph()
+    children = scene.getNumChildren()
+    run("Construction")
+    sketch.delGeometry(5)
+    spin()
+    facts = {"left": scene.getNumChildren() - children, "note": text("Note")}
+    run("Judge")
+    facts["before"] = len(rows("Rows"))
+    closed(sketch)
+    facts.update(after=rows("Rows"), headline=text("Headline"))
+    return facts
+
+
 def check_complete():
     """What is missing is added by a button, and taken back by undo."""
     sketch = opened("plate-without-height")
@@ -365,9 +399,10 @@ def check_nothing():
     return facts
 
 
-CHECKS = (check_workbench, check_untouched, check_judge, check_repair, check_complete,
+CHECKS = (check_workbench, check_untouched, check_judge, check_repair, check_two_documents,
+          check_complete,
           check_construction, check_construction_turned, check_range_and_certify, check_place,
-          check_clusters, check_nothing)
+          check_clusters, check_gone, check_nothing)
 
 
 def main():
