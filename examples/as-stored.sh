@@ -1,6 +1,6 @@
 #!/bin/sh
-# examples/as-stored.sh FILE ..: for each sketch of files of FreeCAD, SolveSpace or DXF, and of drawings, within what the
-# places that stand in the file hold, as the program measures them.
+# examples/as-stored.sh FILE ..: for each sketch of files of FreeCAD, SolveSpace or DXF, and of drawings, prints the tolerances
+# within which the positions stored in the file meet the constraints, as the program measures them.
 for it; do
     ./pertxogai judge --as-stored "$it" | awk -v it="$it" '
         /^[^ ]/ { name = $0; sub(/: .*/, "", name) }

@@ -1,5 +1,6 @@
 #!/bin/sh
-# examples/how-far.sh FILE ..: for each sketch that is placed, how far its furthest point or centre lies from where it is drawn.
+# examples/how-far.sh FILE ..: for each sketch that can be placed, prints the point or centre that is farthest from where it is
+# drawn, and how far.
 for it; do
     "${SKETCH:-./sketch}" solve frame=drawn <"$it" | awk -v it="$it" '
         $1 != "point" && $1 != "circle" { next }
