@@ -1,7 +1,7 @@
 #!/bin/sh
-# examples/judge-all.sh FILE..: asks the program of each sketch, one process a sketch, and writes its answer beside it, in
-# FILE.answer. On standard output stands a line for each: the status, and the name. COMMAND has the words, check where it
-# isn't set; SKETCH names the program, where it isn't on the path.
+# examples/judge-all.sh FILE..: runs the program on each sketch, one process for each, and writes the answer beside it, in
+# FILE.answer. Prints a line for each: the exit status and the name. Set COMMAND to run another command than check, and
+# SKETCH to name the program if it isn't on the path.
 for it; do
     "${SKETCH:-sketch}" ${COMMAND:-check} < "$it" > "$it.answer"
     echo "$? $it"
