@@ -15,6 +15,7 @@ from pertxogai.judging.departures import warnings
 from pertxogai.judging.faults import Unit as Measure
 from pertxogai.judging.measure import Limit, Solution, Unit
 from pertxogai.judging.judged_drawing import JudgedDrawing
+from pertxogai.judging.shortage import shortage_of
 from pertxogai.output import drawing_json, drawing_lines
 from pertxogai.program.reports import Verdict, read_excess
 from pertxogai.spelling import Style
@@ -232,6 +233,24 @@ def test_the_gap_is_told_in_the_drawings_size(program):
     assert abs(found.failure.amount.low + Fraction(21, 4)) < Fraction(1, 100)
 
 
+def test_a_fault_is_told_by_names_of_the_drawing_alone(program):
+    """Sides of 40, 36 and 3 mm are 1 mm short. By Heron the square of the height over the 40 is
+    4 * 39.5 * -0.5 * 3.5 * 36.5 / 40² = -6.30766 mm²."""
+    text = ("segment A 0 0 40 0\nsegment B A.end 20 30\nsegment C B.end A.start\nlength A 40\nlength B 36\n"
+            "length C 3\n")
+    drawing = read_drawing(text)
+    judgement = judge(drawing, program)
+    found = JudgedDrawing("thin", drawing, judgement, short=shortage_of(judgement, program))
+    lines = list(drawing_lines(found))
+    assert lines[1:4] == [
+        "  can't be placed as drawn: B.end can't be placed. A.start and A.end are 40 mm apart, and B.end is 3 mm "
+        "from A.start and 36 mm from A.end: 1 mm too short to meet.",
+        "    where B.end, A.end, A.start meet",
+        "    the program computes height in step s1 from a number between -6.30766 and -6.30766 mm²"]
+    elements = {each.name for each in judgement.asked.spelled.sketch.elements} - {"A", "B", "C"}
+    assert elements.isdisjoint(re.findall(r"\w+", " ".join(lines)))
+
+
 def test_an_edge_that_turned_about_is_warned_of(program):
     text = ("segment Base 0 0 40 0\nsegment Step Base.end 50 0\ncoincident Base.start Origin\nhorizontal Base Step\n"
             "length Base 40\nx Base.end Step.end -10\n")
@@ -385,8 +404,8 @@ def test_a_drawing_of_too_many_points_is_refused_before_the_program_is_asked():
 def test_what_to_do_is_told_of_five_pairs_at_most(program):
     drawing = read_drawing("\n".join(f"point P{each} {each} {each * each}" for each in range(9)))
     lines = list(drawing_lines(JudgedDrawing("loose", drawing, judge(drawing, program))))
-    assert sum(line.startswith("  what to do: pieces 1 and") for line in lines) == 5
-    assert lines[-1] == "  and 3 more pairs of pieces"
+    assert sum(line.startswith("  what to do: clusters 1 and") for line in lines) == 5
+    assert lines[-1] == "  and 3 more pairs of clusters"
 
 
 def test_json_tells_what_is_left_out_and_what_of_it_holds(program):
@@ -427,7 +446,7 @@ def test_what_has_no_shape_says_without_what_there_is_one(program, text, names):
     assert found.verdict is not Verdict.OVER and found.solution is None
     assert set(names) <= set(found.unmet)
     lines = list(drawing_lines(JudgedDrawing("it", read_drawing(text), found)))
-    assert "  no shape is found near the drawn one that has these values (by numbers)" in lines
+    assert "  no shape with these values was found near the drawing (by numbers)" in lines
     assert not any("share" in line for line in lines)
 
 
@@ -480,7 +499,7 @@ def test_what_holds_since_the_whole_was_laid_so_is_no_repeat(program, text):
     assert found.verdict is Verdict.WELL and not any(each.amount > 1 for each in found.deviations)
     assert found.repeats == () and found.left_out == () and found.held == ("Mirror",)
     lines = list(drawing_lines(JudgedDrawing("it", read_drawing(text), found)))
-    assert "  not told to the program, and holds as it was measured: Mirror" in lines
+    assert "  not passed to the program, but holds as measured: Mirror" in lines
 
 
 def test_points_that_lie_symmetric_to_the_origin_are_laid_about_it(program):
@@ -539,7 +558,7 @@ def test_what_is_well_and_says_too_much_by_rank_says_among_what(program):
     assert (found.held, found.repeats, found.left_out) == (("Mine",), (), ())
     judged = JudgedDrawing("it", read_drawing(BY_A_MIDDLE), found)
     assert drawing_json(judged)["by_rank"]["excess"] == [list(group)]
-    assert ("  one is too many all the same, of: Yours, Right, Up, Long, Far, End (by rank)"
+    assert ("  one of these is redundant all the same (by rank): Yours, Right, Up, Long, Far, End"
             in drawing_lines(judged))
     fewer = judge(read_drawing(BY_A_MIDDLE.replace("End: x S.end +30\n", "")), program)
     assert fewer.verdict is Verdict.WELL and fewer.too_many == ()
@@ -556,7 +575,7 @@ def test_what_is_well_by_its_count_alone_is_over(program):
     assert found.verdict is Verdict.OVER and len(found.surplus) == 7
     height = next(each for each in found.surplus if each.name == "Height")
     assert height.off.amount == pytest.approx(8_419_800, abs=300)
-    assert found.loose == ("nothing tells the height of P2",)
+    assert found.loose == ("no dimension gives the y of P2",)
 
 
 GOES_ON = """segment A 0 0 40 0

@@ -183,7 +183,7 @@ def test_a_sketch_of_the_language_stores_no_places(program: Program, tmp_path, c
     path = tmp_path / "two.sketch"
     path.write_text("sketch 1\npoint A 0 0\npoint B 3 4\ndistance A B 5\nend\n")
     assert main(["judge", str(path), "--as-stored", "--program", program.path]) == 2
-    assert "stores no places" in capsys.readouterr().err
+    assert "stores no positions" in capsys.readouterr().err
 
 
 def test_of_many_files_it_is_told_as_json(program: Program, tmp_path, capsys) -> None:

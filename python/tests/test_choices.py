@@ -116,7 +116,7 @@ def test_what_a_turned_choice_means_for_the_drawing():
                           "end\n")
     step, = plan_of(1, ["turn +"]).steps
     assert change(sketch, step, str) == "draw P2 on the other side of the line through P0 and P1"
-    assert change(sketch, step, {"P0": "A", "P1": "B"}.get) == "turn the choice of step s1 over"
+    assert change(sketch, step, {"P0": "A", "P1": "B"}.get) == "flip the choice of step s1"
     text = ("verdict well\nelements 3\nconstraints 3\nsteps 1\nleaf c1 : on P0 L\n"
             "leaf c2 : on P1 L\nleaf c3 : distance P0 P1 4\n"
             "step s1 joins c3 c2 c1 at P1 L P0 keeps c1 advance +\n")
@@ -137,7 +137,7 @@ def test_a_sketch_that_another_choice_places(program, monkeypatch, capsys, tmp_p
     monkeypatch.setenv("PERTXOGAI_SKETCH", program.path)
     assert main(["judge", str(path)]) == 1
     lines = capsys.readouterr().out.splitlines()
-    assert "  another choice is placed within 1 nm and 0 ppb: flip s1" in lines
+    assert "  an alternative solution is placed within 1 nm and 0 ppb: flip s1" in lines
     assert "    draw C on the other side of the line through A and B" in lines
     assert "draw it so, or change a length" in lines[-1]
     assert main(["judge", "--json", str(path)]) == 1
@@ -171,10 +171,10 @@ def test_the_tolerance_of_another_choice_is_told_of_the_drawing(program):
 
 def test_what_could_not_be_tried_is_told_so():
     line, = tried_lines(SKETCH, Tried(0, False))
-    assert line == "other choices can't be tried: with them the text is too long for the program"
+    assert line == "no alternative solution is tried: the text would be too long for the program"
     assert list(tried_lines(SKETCH, Tried(0, True))) == list(tried_lines(SKETCH, None)) == []
     line, = tried_lines(SKETCH, Tried(64, False))
-    assert line.endswith("has places: 64 were tried, but not all")
+    assert line == "no alternative solution of the steps beneath is placed (64 tried, not all)"
 
 
 def test_where_no_choice_places_it_that_is_told(program):
@@ -186,9 +186,9 @@ def test_where_no_choice_places_it_that_is_told(program):
     drawing = read_drawing(text)
     judged = JudgedDrawing("it", drawing, judge(drawing, program))
     assert judged.judgement.tried.found is None and judged.judgement.tried.whole
-    line, = (line for line in drawing_lines(judged) if "no other choice" in line)
-    assert line.strip() == ("no other choice of the steps beneath has places that meet all of it: "
-                            f"{judged.judgement.tried.lists} were tried, all")
+    line, = (line for line in drawing_lines(judged) if "no alternative" in line)
+    assert line.strip() == ("no alternative solution of the steps beneath meets all of it "
+                            f"({judged.judgement.tried.lists} tried, all there are)")
 
 
 def test_a_constraint_that_another_choice_meets(program):
@@ -199,4 +199,4 @@ def test_a_constraint_that_another_choice_meets(program):
     judged = JudgedDrawing("it", drawing, judge(drawing, program))
     assert [each.lack for each in reasons_against(judged)] == [Lack.OFF]
     assert judged.judgement.tried.lists > 0 and judged.judgement.tried.found is None
-    assert any("no other choice of its steps meets all of it" in line for line in drawing_lines(judged))
+    assert any("no alternative solution meets all of it" in line for line in drawing_lines(judged))

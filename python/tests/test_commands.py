@@ -32,7 +32,7 @@ def test_judge_a_sketch_that_is_well(capsys) -> None:
     status, out, err = judged(capsys, "judge", str(EXAMPLES / "triangle.sketch"))
     assert (status, err) == (0, "")
     assert out.splitlines() == [
-        "triangle: well, elements 3, constraints 3, parts 1",
+        "triangle: well (fully constrained), elements 3, constraints 3, parts 1",
         "  placed within 0 nm and 0 ppb",
         "  point A 0 0",
         "  point B 4000000 0",
@@ -49,16 +49,16 @@ def test_judge_a_sketch_that_is_well(capsys) -> None:
                 "over",
                 "left out of part 1, so that the others can be placed:\n"
                 "    c6 : distance C D 4 repeat off 0 nm\n",
-                "take one of these away",
+                "remove one of these",
             ],
         ),
         (
             "hinge",
-            ["open", "part 2 sound elements 4 held 5 due 5 : Pin Door D1 D2", "tie the parts"],
+            ["open", "part 2 sound elements 4 held 5 due 5 : Pin Door D1 D2", "connect the parts"],
         ),
         (
             "no-triangle",
-            ["well", "fault s1 build height C gap", "of distance A B 5", "change a length"],
+            ["well", "fault s1 build height C gap", "of distance A B 5", "change one of these lengths"],
         ),
     ],
 )
@@ -363,7 +363,7 @@ def test_a_picture_tells_what_is_left_out(capsys, tmp_path) -> None:
     file = Path(__file__).parent / "files" / "ellipse.FCStd"
     for status, words in ((1, ["draw", str(file)]), (0, ["draw", "--as-drawn", str(file)])):
         assert judged(capsys, *words, "-o", str(out))[0] == status
-        assert "left out: Ellipse" in out.read_text()
+        assert "left out of the file: Ellipse" in out.read_text()
 
 
 def test_pieces_that_share_a_line_without_a_name(capsys, tmp_path: Path) -> None:
@@ -374,4 +374,4 @@ def test_pieces_that_share_a_line_without_a_name(capsys, tmp_path: Path) -> None
         "length PlateBottom 100\nlength PlateRight 60\nradius Hole 6\nx Hole 40\n"
     )
     status, out, _ = judged(capsys, "judge", str(path))
-    assert status == 1 and "pieces 1 and 2: they slide along a line: give a distance" in out
+    assert status == 1 and "clusters 1 and 2: they slide along a line: add a distance" in out

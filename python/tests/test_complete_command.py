@@ -118,7 +118,7 @@ def test_a_missing_library_is_named(capsys, monkeypatch):
 def test_judge_tells_what_completes_behind_what_to_do(capsys):
     _, lines, _ = told(capsys, "judge", PLATE)
     at = next(place for place, line in enumerate(lines)
-              if line.startswith("  what to do: add these, with which it is well"))
+              if line.startswith("  what to do: add these lines, with which it is well"))
     assert lines[at + 1] == "    length PlateRight 79"
     _, lines, _ = told(capsys, "judge", PLATE, "--json")
     assert json.loads("\n".join(lines))["sketches"][0]["proposed"] == ["length PlateRight 79"]
@@ -132,8 +132,8 @@ def test_judge_tells_what_a_drawing_nearly_has_where_that_is_asked_for(capsys, t
     path.write_text("segment A 0 0 40 0.3\nfixed A.start\nlength A 40\n"
                     "segment B 0 9 40 9.3\nfixed B\n")
     _, lines, _ = told(capsys, "judge", path, "--nearly")
-    assert "  nearly: horizontal A, off by 0.43 degrees; nothing says so" in lines
-    assert "  nearly: horizontal B, off by 0.43 degrees; what is told says otherwise" in lines
+    assert "  nearly: horizontal A, off by 0.43 degrees; no constraint says so" in lines
+    assert "  nearly: horizontal B, off by 0.43 degrees; the constraints say otherwise" in lines
     _, lines, _ = told(capsys, "judge", path, "--nearly", "--json")
     nearly = json.loads("\n".join(lines))["sketches"][0]["nearly"]
     assert [(each["line"], each["unit"], each["is_free"]) for each in nearly[:2]] == [

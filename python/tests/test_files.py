@@ -70,7 +70,7 @@ def test_two_eyes_and_their_common_tangent(capsys: pytest.CaptureFixture[str]) -
 def test_too_much_is_told_by_name(capsys: pytest.CaptureFixture[str]) -> None:
     status, out, _ = called(capsys, "judge", FILES / "twice.FCStd")
     assert status == 1 and out.startswith("Sketch: over")
-    assert "    above: off by 0 nm; the rest is well without it" in out.splitlines()
+    assert "    above: redundant, off by 0 nm; without it the rest is well" in out.splitlines()
     spare = sketch_of(capsys, FILES / "contradiction.FCStd")["spare"]
     above = next(each for each in spare if each["name"] == "above")
     assert (above["off"], above["unit"], above["repeats"]) == (5 * MM, "nm", False)
@@ -79,25 +79,25 @@ def test_too_much_is_told_by_name(capsys: pytest.CaptureFixture[str]) -> None:
 def test_too_little_is_told_by_pieces(capsys: pytest.CaptureFixture[str]) -> None:
     status, out, _ = called(capsys, "judge", FILES / "hinge.FCStd")
     assert status == 1 and out.startswith("Sketch: open")
-    assert "  lacks 1 dimension at least (by rank)" in out.splitlines()
+    assert "  at least 1 dimension is missing (by rank)" in out.splitlines()
 
 
 def test_each_sketch_of_a_file_is_judged(capsys: pytest.CaptureFixture[str]) -> None:
     status, out, _ = called(capsys, "judge", FILES / "body.FCStd")
     assert status == 0
     assert [line.split(",")[0] for line in out.splitlines() if not line.startswith(" ")] == [
-        "Sketch: well", "Sketch001: well"]
+        "Sketch: well (fully constrained)", "Sketch001: well (fully constrained)"]
 
 
 def test_what_is_left_out_is_told(capsys: pytest.CaptureFixture[str]) -> None:
     status, out, _ = called(capsys, "judge", FILES / "spline.FCStd")
     assert status == 1 and out.startswith("Sketch: well")
-    assert "  left out: BSplineCurve2: a drawing has no spline" in out.splitlines()
+    assert "  left out of the file: BSplineCurve2: a drawing has no spline" in out.splitlines()
 
 
 def test_what_only_measures_is_told(capsys: pytest.CaptureFixture[str]) -> None:
     status, out, _ = called(capsys, "judge", FILES / "reference.FCStd")
-    assert status == 0 and "  not asked for: diagonal (reference)" in out.splitlines()
+    assert status == 0 and "  doesn't constrain the sketch: diagonal (reference)" in out.splitlines()
 
 
 def test_places_are_written_back(capsys: pytest.CaptureFixture[str], tmp_path: Path) -> None:

@@ -139,7 +139,7 @@ def test_a_point_that_is_not_printed_is_not_good(program):
     kept = tuple(each for each in asked.solved.places if each.name != name)
     fewer = replace(asked, solved=replace(asked.solved, places=kept))
     why, = reasons_against(replace(found, judgement=replace(found.judgement, asked=fewer)))
-    assert why.text == "the program has printed no place of Hole.centre"
+    assert why.text == "the program has printed no position of Hole.centre"
 
 
 def test_the_limit_is_told(program):
@@ -196,7 +196,7 @@ def test_no_dxf_is_written_and_no_picture_placed_of_what_is_not_good(program):
     sheet = DrawingSheet(judged(WIDE, program), False)
     with pytest.raises(NoPlaces, match="isn't good: constraint 3 .* is off by 180 degrees"):
         sheet.dxf(Release.R2010)
-    assert "not met: constraint 3 (angle A B 120deg)" in re.sub("<[^>]*>", "", sheet.picture().svg)
+    assert "not good: constraint 3 (angle A B 120deg)" in re.sub("<[^>]*>", "", sheet.picture().svg)
     assert not sheet.is_good() and DrawingSheet(judged(WIDE, program), True).is_good()
 
 
@@ -210,7 +210,7 @@ def test_the_status_and_a_line_say_what_is_off(program, monkeypatch, capsys, tmp
     path.write_text(WIDE)
     status, out, _ = called(program, monkeypatch, capsys, "judge", path)
     assert status == Exit.NOT_GOOD == 1
-    assert out.splitlines()[1] == "  not met: constraint 3 (angle A B 120deg) is off by 180 degrees"
+    assert out.splitlines()[1] == "  not good: constraint 3 (angle A B 120deg) is off by 180 degrees"
     status, out, _ = called(program, monkeypatch, capsys, "judge", "--json", path)
     sketch, = json.loads(out)["sketches"]
     assert (status, sketch["verdict"], sketch["good"]) == (1, "well", False)
@@ -220,7 +220,7 @@ def test_the_status_and_a_line_say_what_is_off(program, monkeypatch, capsys, tmp
     assert called(program, monkeypatch, capsys, "judge", path)[0] == Exit.GOOD == 0
     path.write_text(PLATE.replace("radius Hole 5\n", ""))
     status, out, _ = called(program, monkeypatch, capsys, "judge", path)
-    assert status == 1 and "  its size is told by nothing: Hole, as drawn" in out.splitlines()
+    assert status == 1 and "  no size given for Hole: drawn radius kept" in out.splitlines()
 
 
 def test_a_file_is_written_with_what_is_good_alone(program, monkeypatch, capsys, tmp_path):
@@ -307,8 +307,8 @@ def test_what_lies_mirrored_is_not_good(program):
     found = judged(text, program)
     assert found.judgement.verdict is Verdict.WELL and lacks(found) == [Lack.MIRRORED]
     why, = (each.text for each in reasons_against(found))
-    assert why == "A, B, C lie mirrored: each corner turns to the other side than it is drawn"
-    assert f"  not met: {why}" in drawing_lines(found)
+    assert why == "A, B, C lie mirrored: each corner turns the other way than it is drawn"
+    assert f"  not good: {why}" in drawing_lines(found)
 
 
 BELOW = (TRIANGLE.replace("length B 30\n", "")
@@ -322,7 +322,7 @@ def test_what_lies_mirrored_beside_what_does_not_is_not_good(program):
     beside = ("segment D 0 0 -30 0\nsegment E D.end -30 20\nsegment F E.end D.start\n"
               "coincident D.start Origin\nhorizontal D\nvertical E\nlength D 30\nlength E 20\n")
     assert [each.text for each in reasons_against(judged(BELOW + beside, program))] == [
-        "A, B, C lie mirrored: each corner turns to the other side than it is drawn"]
+        "A, B, C lie mirrored: each corner turns the other way than it is drawn"]
     leg = "segment D A.start -30 1\nlength D 30\nhorizontal D\n"
     assert lacks(judged(BELOW + leg, program)) == [Lack.MIRRORED]
 
@@ -417,7 +417,7 @@ def test_what_is_told_beside_the_drawing_is_not_good(program):
     found = judged(PLATE.replace("x Hole 30\n", ""), SaysMore(program))
     assert found.judgement.verdict is Verdict.WELL
     assert [each.text for each in reasons_against(found)] == [
-        "1 dimension is missing at least, by rank"]
+        "at least 1 dimension is missing, by rank"]
     assert lacks(found) == [Lack.MISSING]
 
 
@@ -432,6 +432,6 @@ def test_what_is_good_and_not_tied_to_the_datum_says_so(text, whole, program):
     found = judged(text, program)
     assert lacks(found) == []
     assert drawing_json(found)["by_rank"]["whole"] == whole
-    line = (f"  not tied to the datum: the whole may still be {whole} (by rank), and lies as it is "
-            "drawn")
+    line = (f"  not tied to the origin and the axes: the whole can still be {whole} (by rank); it "
+            "is placed as drawn")
     assert [each for each in drawing_lines(found) if "not tied" in each] == ([line] if whole else [])

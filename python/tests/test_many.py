@@ -33,7 +33,7 @@ def test_a_line_each_in_their_order_and_a_summary(jobs: str, bad: Path, capsys) 
     out, err = capsys.readouterr()
     first, second, third, fourth, summary = out.splitlines()
     assert (status, err) == (2, "")
-    assert first == f"{NOT_GOOD}: no-triangle: well, not good: it has no places"
+    assert first == f"{NOT_GOOD}: no-triangle: well, not good: it can't be placed as drawn"
     assert second.startswith(f"{bad}: refused: ") and "its start" in second
     assert third == fourth == f"{GOOD}: Sketch: well, good"
     assert summary == "4 files: 2 good, 1 not good, 1 refused"

@@ -32,7 +32,7 @@ def test_what_is_over_as_it_was_measured_says_so(program):
     assert found.judgement.measured_off == (middle,)
     assert drawing_json(found)["measured_over"] == [middle]
     line, = (each for each in drawing_lines(found) if LINE in each)
-    assert line.startswith("  over as it was measured") and middle in line
+    assert line.startswith("  over-constrained as measured") and middle in line
     assert [each.lack for each in reasons_against(found)] == [Lack.VERDICT]
 
 

@@ -224,9 +224,9 @@ def test_parts_have_colours_and_spare_ones_are_marked() -> None:
         "c1: 4",
         "c2: 4",
         "3",
-        "part 1, holds 2, due 1: A B",
+        "part 1, over-constrained, constraints 2, required 1: A B",
         "part 2, placed: C D",
-        "each by itself may go: c1, c2",
+        "removable, each by itself: c1, c2",
     } <= set(texts_of(svg))
     root = ElementTree.fromstring(svg)
     assert {it.get("class") for it in root.iter(f"{SVG}circle")} == {"f1", "f2"}
@@ -304,7 +304,7 @@ def test_a_sketch_without_places_says_why_below_it(program) -> None:
     text = TRIANGLE.text().replace("distance A C 5", "distance A C 9")
     judged = judge_sketch("far", text, program)
     told = texts_of(picture_of_judged(judged).svg)
-    assert any(it.startswith("as drawn, has no places: fault s1 build height C gap") for it in told)
+    assert any(it.startswith("can't be placed, shown as drawn: fault s1 build height C gap") for it in told)
     assert "of distance A C 9" in told and any(it.startswith("what to do:") for it in told)
     assert "of distance A C 9" not in texts_of(picture_of_judged(judged, as_drawn=True).svg)
 

@@ -90,11 +90,11 @@ diameter Other 10
 @pytest.mark.parametrize(("x", "told"), [
     (45, []),
     (6, []),                                           # It touches the left edge.
-    (5, ["PlateLeft and Hole cross, and are drawn apart"]),
-    (116, ["PlateRight and Hole cross, and are drawn apart"]),
+    (5, ["PlateLeft and Hole cross, but are drawn apart"]),
+    (116, ["PlateRight and Hole cross, but are drawn apart"]),
     (79, []),                                          # 90 - 79 = 6 + 5
-    (80, ["Hole and Other cross, and are drawn apart"]),
-    (200, ["Hole lies on the other side of the outline of PlateBottom than it is drawn"]),
+    (80, ["Hole and Other cross, but are drawn apart"]),
+    (200, ["Hole is drawn on the other side of the outline, at PlateBottom"]),
 ])
 def test_a_hole_that_leaves_its_plate_is_told(program, x, told):
     found = judge(read_drawing(PLATE.format(x=x)), program)
@@ -128,8 +128,8 @@ radius Hole 3
 @pytest.mark.parametrize(("x", "told"), [
     # The slope runs from 41, 0 to 10, 31: x + y = 41.
     (12, []),
-    (40, ["Hole lies on the other side of the outline of Base than it is drawn"]),
-    (-9, ["Hole lies on the other side of the outline of Base than it is drawn"]),
+    (40, ["Hole is drawn on the other side of the outline, at Base"]),
+    (-9, ["Hole is drawn on the other side of the outline, at Base"]),
 ])
 def test_a_hole_beside_a_triangle_is_told(program, x, told):
     found = judge(read_drawing(SLOPE.format(x=x)), program)
@@ -171,7 +171,7 @@ diameter Hole 8
 def test_what_lies_on_the_chord_of_an_arc_lies_within(program, lines, told):
     found = judge(read_drawing(LINK + lines), program)
     assert [each.text() for each in found.warnings] == (
-        ["Hole lies on the other side of the outline of Lower than it is drawn"] if told else [])
+        ["Hole is drawn on the other side of the outline, at Lower"] if told else [])
 
 
 @pytest.mark.parametrize(("at", "edge"), [

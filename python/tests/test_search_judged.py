@@ -56,10 +56,11 @@ def test_what_is_open_has_a_count_places_and_who_says_so(capsys):
 
 def test_the_first_line_tells_the_degrees_of_freedom(capsys):
     first, *rest = lines_of(capsys, "drawings/open-hinge")
-    assert first.startswith("open-hinge: open, 4 degrees of freedom (by numbers), spelled ")
-    assert "  of the degrees of freedom 3 are those of the whole (by numbers)" in rest
-    assert any(line.startswith("  constructed with chosen values: ") for line in rest)
-    assert any(line.startswith("  still moves (by numbers): Door.end along ") for line in rest)
+    assert first.startswith("open-hinge: open (under-constrained, or rigid in a way not found), "
+                            "4 degrees of freedom (by numbers), encoding ")
+    assert "  of the degrees of freedom 3 move the whole sketch (by numbers)" in rest
+    assert any(line.startswith("  constructed by the program with chosen values: ") for line in rest)
+    assert any(line.startswith("  can still move (by numbers): Door.end along ") for line in rest)
 
 
 def test_what_is_rigid_beyond_triangles_is_constructed_with_a_word_only_measured(capsys):
@@ -131,4 +132,4 @@ def test_a_missing_library_is_named_and_all_else_is_told(capsys, monkeypatch):
     told = lines_of(capsys, "drawings/open-hinge")
     (line,) = (each for each in told if "not searched" in each)
     assert "scipy" in line and "apt-get install python3-scipy" in line and "numpy" not in line
-    assert told[0].startswith("open-hinge: open, spelled ")
+    assert told[0].startswith("open-hinge: open (under-constrained, or rigid in a way not found), encoding ")

@@ -3,11 +3,12 @@ and what is said where it gives none."""
 from __future__ import annotations
 
 import subprocess
+import sys
 import time
 
 import pytest
 
-from conftest import EXAMPLES
+from conftest import EXAMPLES, TOP
 from pertxogai.language import Angle, Ask, Distance, Drop, Erase, Line, Point, SetLength, Sketch
 from pertxogai.language.refusal import Code
 from pertxogai.program import (
@@ -49,6 +50,19 @@ def test_each_reply_comes_before_the_next_line(program: Program) -> None:
         replies = tuple(talk.say(line) for line in LINES)
     assert replies == read_session(program.ask(["session"], "\n".join(LINES)).text)
     assert (replies[0], replies[1]) == (RefusedEdit(Code.S3), Accepted("A"))
+
+
+def test_the_example_stays_in_step_after_a_line_with_a_fault(program: Program) -> None:
+    """Each reply of the example stands below its own line; that of `piont` is its refusal alone."""
+    ended = subprocess.run([sys.executable, TOP / "examples/talk.py", program.path], capture_output=True,
+                           text=True, timeout=60, check=True)
+    said = [block.partition("\n") for block in ended.stdout.split("> ")[1:]]
+    assert [line for line, _, _ in said] == [
+        "point A 0 0", "piont B 40 0", "point B 40 0", "distance A B 40", "check", "set 1 50", "solve"]
+    replies = [reply for _, _, reply in said]
+    assert replies[:4] == ["ok A\n", "refused E2 word\n", "ok B\n", "ok c1\n"]
+    assert replies[4].startswith("verdict well\n") and replies[5] == "ok\n"
+    assert "point B 50000000 0\n" in replies[6]
 
 
 def test_values_are_lines_too(program: Program) -> None:

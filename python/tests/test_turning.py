@@ -86,7 +86,7 @@ def test_circles_that_are_equal_and_of_no_size_have_none(program):
     text = ("circle A 0 0 3\ncircle B 30 0 4\ncoincident A Origin\nequal A B\nx B 30\ny B 0\n")
     found = judged(text, program)
     sizes = [each.text for each in reasons_against(found) if each.lack is Lack.NO_SIZE]
-    assert sizes == ["nothing tells the size of A", "nothing tells the size of B"]
+    assert sizes == ["no size is given for A", "no size is given for B"]
 
 
 def test_a_touch_that_leaves_no_radius_tells_none(program):

@@ -4,11 +4,12 @@ from .table import CODES, CONSTRAINTS, EDITS, ELEMENTS
 
 ABOUT = "the language of planar drawings and their dimensions"
 SAYS = (
-    "A sketch is a text. Its first line is `sketch 1` or `sketch 2`, its last `end`. Between them stand elements and"
-    " constraints, a line each, in any order that names an element before it is used. Numbers are millimetres, x to the"
-    " right and y up. The elements are drawn: their places are rough, and say which way round things are. The constraints"
-    " are the dimensions, and say with the radii of circles how large they are.",
-    "Version 2 has all that version 1 has, and blocks, and comments from `#` to the end of a line.",
+    "For anyone who writes or generates sketches for `sketch`(1). A sketch is a text. Its first line is `sketch 1` or"
+    " `sketch 2`, its last `end`. Between them are elements and constraints, one on each line; a line that declares an"
+    " element comes before any that uses it. Numbers are millimetres, x to the right and y up. The elements are drawn"
+    " roughly: their positions only say on which side things lie and which way they run. The constraints are the"
+    " dimensions; these and the radii of circles give the sizes.",
+    "Version 2 adds rigid blocks, and comments from `#` to the end of a line.",
 )
 EXAMPLE = """sketch 2
 line Base 0 0 60 0      # drawn; a line has no ends
@@ -31,14 +32,14 @@ WORDS = (
      " 60\u00b0, `2911/5042` is 30\u00b0. Plus is to the left."),
 )
 DECIDES = (
-    "The drawn places decide what the dimensions leave open, and need not fit these: on which side of a line a point"
-    " lies, which way a line runs, the turn of three points, and which of two points along a line comes first. Where a"
-    " drawing leaves a sign open it counts as plus.",
+    "The drawn positions decide what the dimensions leave open: on which side of a line a point lies, which way a line"
+    " runs, the orientation of three points, and which of two points comes first along a line. They need not fit the"
+    " dimensions. A sign that the drawing leaves open counts as plus.",
 )
 LIMITS = ("A text has at most 1,048,576 bytes, a line 200, a sketch 2,000 elements and 4,000 constraints. All bytes are"
-          " ASCII from 0x20 to 0x7E, tabs and line feeds; one carriage return at the end of a line is passed over.")
-REFUSED = ("A text that isn't a sketch is refused by one line, `refused line N CODE word`, which names its first faulty line;"
-           " line 0 stands for the whole text.")
+          " ASCII from 0x20 to 0x7E, tabs and line feeds; one carriage return at the end of a line is ignored.")
+REFUSED = ("A text that isn't a sketch is rejected with one line, `refused line N CODE word`, which names its first faulty"
+           " line; line 0 means the whole text.")
 
 
 def page(version: str, date: str) -> list[str]:
@@ -51,8 +52,8 @@ def page(version: str, date: str) -> list[str]:
         *chapter("CONSTRAINTS", terms(*((it.form, it.means + ".") for it in CONSTRAINTS))),
         *chapter("WORDS", terms(*WORDS)),
         *chapter("WHAT THE DRAWING DECIDES", *DECIDES),
-        *chapter("SESSIONS", "`sketch session` reads elements and constraints as above, without header, and these lines; it"
-                 " answers each, `check`, `plan`, `solve` and `write` by a report or the text, and ends at `end`.",
+        *chapter("SESSIONS", "`sketch session` reads elements and constraints as above, without a header, and the lines below."
+                 " It answers each line; `check`, `plan`, `solve` and `write` by a report or the text. It ends at `end`.",
                  terms(*((it.form, f"{it.means}; answered {it.reply}.") for it in EDITS))),
         *chapter("LIMITS", LIMITS),
         *chapter("REFUSALS", REFUSED, terms(*((f"{it.code} {it.word}", it.where + ".") for it in CODES))),

@@ -5,9 +5,9 @@ from pertxogai.commands import EPILOG
 
 ABOUT = "judges, places and draws sketches by the proved program sketch"
 SAYS = (
-    "`pertxogai` takes a sketch from a file, spells it in the language of `sketch`(5), asks the program `sketch`(1), and"
-    " hands on what that answers in the designer's own names. It decides nothing itself. Then it measures each of the designer's"
-    " constraints on the printed places, in whole numbers, and tells how far each is off.",
+    "For designers and scripts. `pertxogai` takes a sketch from a file, translates it into the language of `sketch`(5), runs"
+    " the program `sketch`(1), and reports its answer in the designer's own names. It decides nothing itself. Then it measures"
+    " each of the designer's constraints on the printed positions, in whole numbers, and reports the deviations.",
     "FILE is a text of the sketch language (.sketch), a drawing in a designer's words (.drawing), or a file of FreeCAD"
     " (.FCStd), SolveSpace (.slvs) or DXF (.dxf).",
 )
@@ -21,7 +21,7 @@ x Hole 45
 y Hole 30
 diameter Hole 12
 $ pertxogai judge plate.drawing
-plate: well, spelled values, elements 7, constraints 11, parts 1
+plate: well (fully constrained), encoding values, elements 7, constraints 11, rigid clusters 1
   placed within 0 nm and 0 ppb
   measured: each constraint holds exactly
 $ pertxogai draw plate.drawing -o plate.svg
@@ -29,9 +29,9 @@ $ pertxogai certify plate.drawing -o plate.claim
 $ pertxogai page
 """
 VARIABLES = (
-    ("PERTXOGAI_SKETCH", "the program `sketch`, where it isn't that of the repository or of the path."),
+    ("PERTXOGAI_SKETCH", "the program `sketch`, if it is neither the repository's build nor on the path."),
     ("PERTXOGAI_LIBRARY", "the library libsketch.so, for Python programs that call it."),
-    ("PERTXOGAI_MEMORY_MIB", "how much memory a call may take: 4096 where it isn't set, 0 for no limit."),
+    ("PERTXOGAI_MEMORY_MIB", "the memory limit of a call in MiB: 4096 if it isn't set, 0 for no limit."),
 )
 
 
@@ -41,12 +41,13 @@ def page(version: str, date: str) -> list[str]:
                  for line in (f".SS {name}", about[0].upper() + about[1:] + ".", *terms(*options(parser)))]
     return [
         *head("pertxogai", 1, ABOUT, version, date),
-        *chapter("SYNOPSIS", ["\\fBpertxogai\\fR \\fBjudge\\fR|\\fBwatch\\fR|\\fBdraw\\fR|\\fBcertify\\fR [\\fIOPTION\\fR].. \\fIFILE\\fR", ".br",
+        *chapter("SYNOPSIS", ["\\fBpertxogai\\fR \\fBjudge\\fR|\\fBwatch\\fR|\\fBdraw\\fR|\\fBcomplete\\fR|\\fBcertify\\fR ["
+                              "\\fIOPTION\\fR].. \\fIFILE\\fR", ".br",
                               "\\fBpertxogai\\fR \\fBpage\\fR [\\fIOPTION\\fR].."]),
         *chapter("DESCRIPTION", *SAYS),
         *chapter("COMMANDS", described),
         *chapter("ENVIRONMENT", terms(*VARIABLES)),
-        *chapter("EXIT STATUS", " ".join(EPILOG.removeprefix("exit status: ").split())),
+        *chapter("EXIT STATUS", *(" ".join(it.split()) for it in EPILOG.removeprefix("exit status: ").split("\n\n"))),
         *chapter("EXAMPLES", shown(EXAMPLE)),
         *chapter("SEE ALSO", "`sketch`(1), `sketch`(5)"),
         *LICENCE,

@@ -2,22 +2,24 @@
 from .roff import LICENCE, chapter, head, shown, terms
 from .table import COMMANDS, KEYS, STATUSES, Command, Key
 
-ABOUT = "tells whether a planar drawing is dimensioned just enough, and places it exactly"
+ABOUT = "checks whether a planar sketch is fully constrained, and places it exactly"
 SAYS = (
-    "`sketch` reads a text on standard input, a drawing with its dimensions in the language of `sketch`(5), and writes a"
-    " text on standard output. It takes one command, and behind it keys as `key=value`, in any order and none twice. It"
-    " opens no file, keeps nothing from run to run, and needs no terminal.",
-    "Each answer is proved: of every readable sketch the printed clusters are the only ones reachable that no rule can"
-    " merge, exactly those that hold more than 2n - 3 constraints are called over-constrained, and printed coordinates meet"
-    " each constraint within the printed tolerance, as drawn, or the first faulty step, line or constraint is named.",
+    "For designers and for programs that solve sketches. `sketch` reads a text from standard input, a drawing with its"
+    " dimensions in the language of `sketch`(5), and writes its answer to standard output. Its first argument is a command;"
+    " keys follow as `key=value`, in any order, each at most once. It opens no file, keeps no state from run to run, and"
+    " needs no terminal.",
+    "Each answer is proved, for every sketch that parses. The printed clusters are the only ones that merging can reach"
+    " and no rule can merge further. A cluster of n elements is called over-constrained if and only if it has more than"
+    " 2n - 3 constraints. The printed coordinates meet each constraint within the printed tolerance and in the drawn"
+    " orientations, else the first failing step, line or constraint is named.",
 )
 VERDICTS = (
-    ("well", "just as many dimensions as fix the drawing. It is a count, and looks at no length: what fails then is named"
-     " by `solve`, as the step, the quantity, the element, and the interval in which it lies."),
-    ("over", "a dimension is too many. `spare` names those of which each may go, and `excess` tells of the later ones whether"
-     " they repeat the others or contradict them, and by how much."),
-    ("open", "dimensions are missing, and the rigid parts are listed; or the drawing is rigid in a way that merging"
-     " triangles doesn't find. So it means neither flexible nor free of contradictions."),
+    ("well", "fully constrained. This is a count and looks at no length. If the lengths don't fit, `solve` names the step,"
+     " the quantity, the element, and the interval in which the quantity lies."),
+    ("over", "over-constrained. `spare` names each dimension that can be removed by itself. `excess` says of the later ones"
+     " whether they are redundant or conflicting, and by how much."),
+    ("open", "under-constrained, and the rigid clusters are listed; or rigid in a way that merging triangles doesn't find. So"
+     " `open` proves neither that the sketch can move nor that its dimensions agree."),
 )
 EXAMPLE = """$ cat triangle.sketch
 sketch 1
@@ -40,8 +42,8 @@ angle tolerance 0 ppb at none
 $ sketch dxf < triangle.sketch > triangle.dxf && echo ready
 ready
 """
-TOLD = ("Places are whole nanometres, x to the right and y up. A line is all places with a\u00b7x + b\u00b7y = c, with a"
-        " and b in parts per 10\u2079. The two tolerances are measured on what is printed.")
+TOLD = ("Coordinates are whole nanometres, x to the right and y up. A line is the set of points with"
+        " a\u00b7x + b\u00b7y = c, with a and b in parts per 10\u2079. The two tolerances are measured on the printed numbers.")
 
 
 def _command(command: Command) -> tuple[str, str]:
@@ -64,7 +66,7 @@ def page(version: str, date: str) -> list[str]:
         *chapter("VERDICTS", terms(*VERDICTS)),
         *chapter("EXIT STATUS", terms(*((str(it.number), f"{it.means}; written: {it.written}.") for it in STATUSES))),
         *chapter("EXAMPLES", shown(EXAMPLE), TOLD),
-        *chapter("SEE ALSO", "`sketch`(5), `pertxogai`(1). The pages, the examples and what is claimed lie in"
-                 " /usr/share/doc/pertxogai of an installed package."),
+        *chapter("SEE ALSO", "`sketch`(5), `pertxogai`(1). An installed package has the documentation, the examples and the"
+                 " claims in /usr/share/doc/pertxogai."),
         *LICENCE,
     ]

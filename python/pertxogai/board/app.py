@@ -18,7 +18,7 @@ STATIC = Path(__file__).resolve().parent / "static"
 GALLERY = Path(__file__).resolve().parents[2] / "tests" / "drawings"
 MOST_BYTES = 1 << 20
 MOST_PASSED_OVER = 16 << 20
-TOO_MUCH = f"what was given has more than {MOST_BYTES} bytes: give less"
+TOO_MUCH = f"the request has more than {MOST_BYTES} bytes: send less"
 HEADERS = {
     "Content-Security-Policy": "default-src 'none'; script-src 'self'; style-src 'self'; "
                                "img-src 'self' data: blob:; connect-src 'self'; base-uri 'none'; "
@@ -63,7 +63,7 @@ def _turned_away(guard: Guard) -> Response | None:
     if ground is not None:
         return _json(trouble("guard", ground.value), 403)
     if request.method == "POST" and request.content_length is None:
-        return _json(trouble("request", "tell by Content-Length how long what is given is"), 411)
+        return _json(trouble("request", "give the length of the request as Content-Length"), 411)
     if (request.content_length or 0) > MOST_BYTES:
         _pass_over()
         return _json(trouble("request", TOO_MUCH), 413)
@@ -109,7 +109,7 @@ def _caller(answers: Answers) -> Callable[[str, str], Response]:
         try:
             given = json.loads(request.get_data())
         except (ValueError, RecursionError):
-            return _json(trouble("request", "what was given is no JSON"), 400)
+            return _json(trouble("request", "the request isn't JSON"), 400)
         try:
             return Response(answers.text(name, given), mimetype="application/json")
         except Busy:

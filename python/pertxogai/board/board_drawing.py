@@ -11,7 +11,6 @@ from pertxogai.board.judgement_json import places_shown
 from pertxogai.board.panel import Untold
 from pertxogai.board.placed_parts import LaidPart, parts_laid, shown_between
 from pertxogai.board.protocol import Judgement as JudgementJson, Places
-from pertxogai.board.shortage import shortage
 from pertxogai.drawing import Drawing
 from pertxogai.exits import MissingLibrary
 from pertxogai.judging import (
@@ -22,6 +21,7 @@ from pertxogai.judging.judged_drawing import JudgedDrawing
 from pertxogai.judging.judgement import judge_edited
 from pertxogai.judging.measure import Solution
 from pertxogai.judging.settled import solution_of
+from pertxogai.judging.shortage import shortage_of
 from pertxogai.language import Refusal
 from pertxogai.language.claim import Claim
 from pertxogai.language.flips import Flip, Flips
@@ -41,7 +41,7 @@ SEARCH_SECONDS = 0.5
 """Seconds of a processor after which a shape for what is open isn't looked for any more."""
 
 
-NOT_PLACED = "the drawing isn't well and placed, so there is nothing to show of it"
+NOT_PLACED = "the drawing isn't well and placed, so there is nothing to show"
 
 
 class NotPlaced(Exception):
@@ -189,19 +189,14 @@ class BoardDrawing:
     def plan(self) -> Plan:
         """The plan of what is well. Raises NotPlaced."""
         if self.judgement.verdict is not Verdict.WELL:
-            raise NotPlaced("the drawing isn't well, so there is no plan of it")
+            raise NotPlaced("the drawing isn't well, so it has no construction")
         return read_plan(self.program.ask(["plan"], self.text).text)
 
     @cached_property
     def short(self) -> str:
         """By how much the dimensions beneath a fault miss each other; empty where there is no
         fault, or that isn't known. Raises as `judgement`."""
-        if self.judgement.failure is None:
-            return ""
-        try:
-            return shortage(self.judgement, self.plan, self.program)
-        except ProgramError:
-            return ""
+        return shortage_of(self.judgement, self.program)
 
     def construction(self) -> PlayedConstruction:
         """The steps to be watched. Raises NotPlaced."""

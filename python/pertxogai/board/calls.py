@@ -80,7 +80,7 @@ class Desk:
         except (ProgramError, MissingLibrary) as error:
             return trouble("program", str(error))
         except (Refusal, NotHeld) as error:
-            return trouble("language", f"the program takes no such sketch: {error}")
+            return trouble("language", f"the program rejects the encoded sketch: {error}")
 
     def text(self, name: str, given: object) -> str:
         """What a call gives, as JSON."""
@@ -150,7 +150,7 @@ def _whole(judged: BoardDrawing, left_out: tuple[str, ...], before: BoardDrawing
     except ProgramError as error:
         answer["trouble"] = _trouble("program", str(error))
     except (Refusal, NotHeld) as error:
-        answer["trouble"] = _trouble("language", f"the program takes no such sketch: {error}")
+        answer["trouble"] = _trouble("language", f"the program rejects the encoded sketch: {error}")
     found = sight_of(judged.drawing, shown, sight)
     judged.sight = None if "trouble" in answer else found
     whole = cast(ChangedDrawing, found.told())
@@ -214,9 +214,9 @@ def _flips(desk: Desk, given: Fields) -> OtherShape | Answer:
     judged = desk.judged(given.text("text"))
     found = judged.flipped(_steps(given))
     if isinstance(found, Flipped):
-        return trouble("flip", "this step has no choice that could be turned over"
+        return trouble("flip", "this step has no choice that could be flipped"
                        if isinstance(found.answer, NoChoice) else
-                       "turned over, this choice leaves the part no places with these dimensions")
+                       "with this choice flipped the part can't be placed with these dimensions")
     shape = laid_over(found, judged.solution(), judged.judgement.asked)
     return {"placed": places_shown(DrawnPlaces(judged.drawing, shape))}
 
@@ -228,7 +228,7 @@ def _redraw(desk: Desk, given: Fields) -> Edited | Answer:
     steps = _steps(given)
     found = judged.flipped(steps) if steps else judged.solution()
     if isinstance(found, Flipped):
-        return trouble("flip", "the other shape has no places, so nothing is drawn so")
+        return trouble("flip", "the other shape can't be placed, so nothing is redrawn")
     moves = tuple((ref, _place(found.spot(ref))) for ref in judged.drawing.points())
     radii = tuple((name, Fraction(found.radius(name)) / 1000) for name in found.radii)
     return desk.edited(Move(moves, radii).on(judged.drawing), judged, given)
@@ -288,7 +288,7 @@ def _program_dxf(desk: Desk, given: Fields) -> Dxf:
     words = ["dxf", f"place={judged.judgement.place.value}"]
     report = desk.program.ask(words, judged.text)
     if report.status is not Status.DONE:
-        raise NotPlaced("the program places nothing of the drawing as it stands, so it writes no "
+        raise NotPlaced("the program doesn't place the drawing as it is now, so it writes no "
                         "DXF: see the verdict")
     return {"dxf": report.text}
 

@@ -10,17 +10,17 @@ from pertxogai.exits import CommandError, Exit, MissingLibrary
 from pertxogai.program import Program
 
 Commands: TypeAlias = "argparse._SubParsersAction[argparse.ArgumentParser]"
-WHAT = "opens a drawing board in the browser, on this machine alone"
+WHAT = "opens a sketcher in the browser, for this machine only"
 MOST_SECONDS = 86_400
-SECONDS = "how long a call of the board may take (default: %(default)g)"
+SECONDS = "the time limit of a call of the board (default: %(default)g)"
 
 
 def add_page(commands: Commands) -> None:
     """Adds the command."""
     parser = commands.add_parser("page", help=WHAT, description=WHAT)
     parser.set_defaults(act=_page)
-    parser.add_argument("--port", type=int, help="the port (default: your usual one, or any)")
-    parser.add_argument("--no-browser", action="store_true", help="print the address alone")
+    parser.add_argument("--port", type=int, help="the port (default: your usual or a free one)")
+    parser.add_argument("--no-browser", action="store_true", help="only print the address")
     parser.add_argument("--program", metavar="PATH", help="the program `sketch`")
     parser.add_argument("--seconds", type=float, default=10.0, help=SECONDS)
 
@@ -39,7 +39,7 @@ def _page(options: argparse.Namespace) -> Exit:
         with suppress(KeyboardInterrupt):
             serve(program, options.port, not options.no_browser)
     except (OSError, OverflowError) as error:
-        raise CommandError(f"the board can't have port {options.port}: {error}; choose another "
-                           "by --port, or none") from None
+        raise CommandError(f"the board can't use port {options.port}: {error}; choose another "
+                           "by --port, or leave it out") from None
     print("the board is stopped")
     return Exit.GOOD

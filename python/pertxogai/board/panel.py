@@ -6,7 +6,6 @@ from dataclasses import dataclass
 from fractions import Fraction
 from typing import assert_never, cast
 
-from pertxogai.board.faulted import fault_told
 from pertxogai.board.protocol import Line as LineJson
 from pertxogai.drawing.numbers import mm_text
 from pertxogai.judging import Excess, Judgement, Missing, Surplus, TooMuch, WeighedJudgement
@@ -17,6 +16,7 @@ from pertxogai.judging.good import Lack, reasons_against
 from pertxogai.judging.judged_drawing import JudgedDrawing
 from pertxogai.judging.measure import Unit, amount_text, units_text
 from pertxogai.judging.states import InPieces, WithFault, WithPlaces, WithSurplus
+from pertxogai.output.fault_text import fault_text
 from pertxogai.output.finding_text import freedoms_text
 from pertxogai.program import ProgramError
 
@@ -91,13 +91,13 @@ def _well(judged: JudgedDrawing, placed: WithPlaces) -> Iterator[Line]:
     """Why it isn't good, if it isn't; and how exactly it is placed."""
     unmet = [each for each in reasons_against(judged) if each.lack is not Lack.LEFT_OUT]
     if unmet:
-        yield Line("The count is right, and it is placed, but not all is met or told:")
+        yield Line("Fully constrained and placed, but not good:")
     for reason in unmet:
         yield Line(reason.text, list="what isn’t met", constraint=reason.constraint)
     yield from _choices(judged.judgement)
     within = (units_text(placed.length_nm, Unit.NM), units_text(placed.angle_ppb, Unit.PPB))
     is_just = not unmet and not judged.judgement.too_many
-    count = "Just as many dimensions as fix it. " if is_just else ""
+    count = "Fully constrained. " if is_just else ""
     yield Line(f"{count}Placed within {within[0]} and {within[1]}.")
     yield from _too_many(judged.judgement)
     yield from _not_tied(judged.judgement, "quiet")
@@ -112,7 +112,7 @@ def _well(judged: JudgedDrawing, placed: WithPlaces) -> Iterator[Line]:
 def _left_out(judged: JudgedDrawing) -> Iterator[Line]:
     """What the drawing's file has beside, as long as that isn't done."""
     if judged.not_drawn:
-        yield Line("Left out of the file, since a drawing can’t say it:")
+        yield Line("Left out of the file, because a drawing can’t express it:")
     for what in judged.not_drawn:
         yield Line(what, list="left out of the file", forgets=what)
 
@@ -120,24 +120,25 @@ def _left_out(judged: JudgedDrawing) -> Iterator[Line]:
 def _open(judged: JudgedDrawing, found: Missing) -> Iterator[Line]:
     """What is missing, what is shown, its pieces, and what ties them."""
     judgement = judged.judgement
+    yield Line("Under-constrained, or rigid in a way that the program doesn’t find.", "quiet")
     yield from _freedoms(judged)
     is_tied = found.whole is None or not found.whole.ways
     if found.count:
-        plural = "s" if found.count > 1 else ""
-        yield Line(f"Lacks {found.count} dimension{plural} at least, by rank.")
+        missing = "dimensions are" if found.count > 1 else "dimension is"
+        yield Line(f"At least {found.count} {missing} missing, by rank.")
     elif is_tied:
-        yield Line("It doesn’t hold together by triangles.")
+        yield Line("It isn’t built of triangles, so the program can’t prove it rigid.")
     yield from _not_tied(judgement, "quiet" if found.count else "")
     yield from _shown(judged, found)
     yield from _too_many(judgement)
     yield from _unmet(judgement)
     for piece in found.pieces[:MOST_PIECES]:
-        yield Line(f"piece {piece.number}: {' '.join(piece.elements)}", list="pieces",
+        yield Line(f"cluster {piece.number}: {' '.join(piece.elements)}", list="pieces",
                    selects=piece.elements, part=piece.number)
     yield from _more(len(found.pieces) - MOST_PIECES, "pieces")
     for joint in found.joints[:MOST_JOINTS]:
         shared = f" share {' '.join(joint.shared)}" if joint.shared else ""
-        yield Line(f"pieces {joint.first.number} and {joint.second.number}{shared}: "
+        yield Line(f"clusters {joint.first.number} and {joint.second.number}{shared}: "
                    f"{joint.tie.value}", list="what to do", selects=joint.shared)
     yield from _more(len(found.joints) - MOST_JOINTS, "what to do")
 
@@ -152,51 +153,49 @@ def _shown(judged: JudgedDrawing, missing: Missing) -> Iterator[Line]:
     """Who says what of the shape that is shown."""
     finding = judged.finding
     if judged.not_searched:
-        yield Line(f"Its pieces are shown apart: {judged.not_searched}", "quiet")
+        yield Line(f"Its rigid clusters are shown apart: {judged.not_searched}", "quiet")
     if finding is None or finding.solution is None:
         return
     off = [amount_text(each) for each in judged.worst() if each.amount]
     within = f"at most {' and '.join(off)} off" if off else "each constraint holds exactly"
-    yield Line("Shown is the shape nearest to the drawing that holds all that is asked, placed by "
-               "numbers.", "quiet")
+    yield Line("The board shows the shape nearest to the drawing that meets every constraint, "
+               "placed by numbers.", "quiet")
     if finding.places_by is PlacesBy.PROGRAM:
         yield from _constructed(finding)
         yield Line(f"measured there: {within}", "quiet")
     else:
         yield Line(f"measured: {within}", "quiet")
     plural = "" if len(missing.pieces) == 1 else "s"
-    yield Line(f"Certified by the program: {len(missing.pieces)} rigid piece{plural}.", "quiet")
+    yield Line(f"Certified by the program: {len(missing.pieces)} rigid cluster{plural}.", "quiet")
 
 
 def _constructed(finding: Finding) -> Iterator[Line]:
     """That the program constructs what is open, once some values are chosen."""
-    yield Line("The program constructs this shape, and certifies what it was told, once these "
-               f"values are chosen: {', '.join(finding.chosen)}.", "certified")
+    yield Line("The program constructs this shape, and certifies the constraints that it was "
+               f"given, once these values are chosen: {', '.join(finding.chosen)}.", "certified")
     if finding.only_measured:
-        yield Line(f"only measured, and not told to it: {', '.join(finding.only_measured)}",
-                   "quiet")
+        yield Line(f"only measured, not given to it: {', '.join(finding.only_measured)}", "quiet")
 
 
 def _too_many(judgement: Judgement) -> Iterator[Line]:
     """What is too many all the same of what isn't over."""
-    yield from (Line(f"One is too many all the same, by rank, of: {', '.join(each)}.")
+    yield from (Line(f"One of these is redundant all the same, by rank: {', '.join(each)}.")
                 for each in judgement.too_many)
 
 
 def _unmet(judgement: Judgement) -> Iterator[Line]:
     """That no shape is found, and without what there is one."""
     if isinstance(judgement, WeighedJudgement) and judgement.unmet is not None:
-        without = (f" Without one of these there is one: {', '.join(judgement.unmet)}."
+        without = (f" Without any one of these a shape is found: {', '.join(judgement.unmet)}."
                    if judgement.unmet else "")
-        yield Line("No shape is found near the drawn one that has these values, by numbers."
-                   + without)
+        yield Line("No shape with these values was found near the drawing, by numbers." + without)
 
 
 def _not_tied(judgement: Judgement, kind: str) -> Iterator[Line]:
     """How the whole may still be moved: where it is placed all the same, it lies as it is drawn."""
     if judgement.whole is not None and judgement.whole.ways:
-        drawn = " It lies as it is drawn." if judgement.solution is not None else ""
-        yield Line("It isn’t tied to the datum: the whole may still be "
+        drawn = " It is placed as drawn." if judgement.solution is not None else ""
+        yield Line("Not tied to the origin and the axes: the whole can still be "
                    f"{judgement.whole.text()}, by rank.{drawn}", kind)
 
 
@@ -219,10 +218,10 @@ def _over(judgement: Judgement, left: TooMuch | Untold,
         yield Line(f"{each.name}: {told}", list="left out",
                    takes=None if each.in_part else each.number)
     if listed and others:
-        yield Line("Or one of these may go instead:" if len(listed) == 1
-                   else "Or one of these may go instead of one of them:")
+        yield Line("Or remove one of these instead:" if len(listed) == 1
+                   else "Or remove one of these instead of one of those:")
     for other in others:
-        then = "" if other.then is None else f"; the rest is {other.then.value} then"
+        then = "" if other.then is None else f"; without it the rest is {other.then.value}"
         yield Line(f"{other.name}: {_surplus(other)}{then}", list="spare constraints",
                    takes=other.number)
     yield from _beside_over(judgement, left, unweighed)
@@ -232,24 +231,24 @@ def _beside_over(judgement: Judgement, left: TooMuch | Untold,
                  unweighed: Untold | None) -> Iterator[Line]:
     """What is lacking all the same, and what of what is over can't be told."""
     for what in judgement.measured_off:
-        yield Line(f"Over as it was measured, which isn’t certified: {what} can’t be spelled, and "
-                   "the rest is enough.", "quiet")
+        yield Line(f"Over-constrained as measured, which isn’t certified: {what} can’t be encoded, "
+                   "and the rest is enough.", "quiet")
     for what in judgement.loose if isinstance(judgement, WeighedJudgement) else ():
-        yield Line(f"A dimension is lacking all the same: {what}, by rank.")
+        yield Line(f"A dimension is missing all the same: {what}, by rank.")
     if unweighed is not None:
-        yield Line(f"What may go can’t be measured: {unweighed.why}", "quiet")
+        yield Line(f"The removable dimensions can’t be measured: {unweighed.why}", "quiet")
     if isinstance(left, Untold):
-        yield Line(f"What is left out can’t be told: {left.why}", "quiet")
+        yield Line(f"The program gives no set to remove: {left.why}", "quiet")
     elif left.helps:
-        yield Line("A line of help is too much too.")
+        yield Line("A construction line is redundant too.")
 
 
 def _head(left: TooMuch | Untold, has_others: bool) -> str:
     """What the first list of what is over is."""
     if isinstance(left, TooMuch) and left.dimensions:
-        return f"Too many dimensions. {left.rest.value}"
-    return ("Too many dimensions. One of these may go:" if has_others
-            else "Too many dimensions, and none can go by itself.")
+        return f"Over-constrained. {left.rest.value}"
+    return ("Over-constrained. Remove one of these:" if has_others
+            else "Over-constrained, and no dimension can be removed by itself.")
 
 
 def alone_of(judgement: Judgement, listed: Sequence[Excess]) -> Surplus | None:
@@ -271,25 +270,25 @@ def excess_told(each: Excess, alone: Surplus | None = None) -> str:
     """What a dimension that is left out is: a repeat of the others, or a contradiction, by how
     much, and which way the others are off it, where that is known. alone: the same as one that may
     go by itself, if it is (`alone_of`)."""
-    return "in part too much: " * each.in_part + _excess(each, alone)
+    return "in part " * each.in_part + _excess(each, alone)
 
 
 def _excess(each: Excess, alone: Surplus | None) -> str:
     if each.conflicts is None:
-        return "left out; not measured"
+        return "redundant or conflicting; not measured"
     if alone is not None and alone.off is not None and alone.repeats() is not (not each.conflicts):
         return _surplus(alone)
     if not each.conflicts:
         return _repeat(each.off_um or Fraction(0))
     if each.off_um:
         way = "more" if each.off_um > 0 else "less"
-        return f"a contradiction by {_mm(each.off_um)}, the others make it {way}"
-    return _surplus(alone) if alone is not None and alone.repeats() is False else "a contradiction"
+        return f"conflicting by {_mm(each.off_um)}, the others give {way}"
+    return _surplus(alone) if alone is not None and alone.repeats() is False else "conflicting"
 
 
 def _repeat(off_um: Fraction) -> str:
     """A repeat, and within what, where that is more than rounding."""
-    return "a repeat" if abs(off_um) <= ROUNDING_UM else f"a repeat, within {_mm(off_um)}"
+    return "redundant" if abs(off_um) <= ROUNDING_UM else f"redundant, within {_mm(off_um)}"
 
 
 def _mm(um: Fraction) -> str:
@@ -299,25 +298,26 @@ def _mm(um: Fraction) -> str:
 def _surplus(each: Surplus) -> str:
     """What of a dimension that may go is known: a repeat, or a contradiction by how much."""
     if each.off is None:
-        return "may go"
+        return "removable"
     off_um = Fraction(each.off.amount, 1000) if each.off.unit is Unit.NM else None
     if each.repeats():
         return _repeat(off_um or Fraction(0))
     by = amount_text(each.off) if off_um is None else _mm(off_um)
     if each.may_be_rounding():
-        return f"off by {by}; rounding moves it by {units_text(each.rounding, each.off.unit)}"
-    return f"a contradiction by {by}"
+        rounding = units_text(each.rounding, each.off.unit)
+        return f"off by {by}, which rounding changes by up to {rounding}"
+    return f"conflicting by {by}"
 
 
 def _fault(judgement: Judgement, failure: Failure, short: str) -> Iterator[Line]:
     """What has no place, and why, and the dimensions beneath."""
     drawing = judgement.names.drawing
-    yield Line("The count is right, but the way it is drawn there are no places by these "
-               "dimensions.")
-    yield Line(fault_told(judgement, failure, short))
+    yield Line("Fully constrained, but with these dimensions it can’t be placed the way it is "
+               "drawn.")
+    yield Line(fault_text(judgement, failure, short).replace("'", "’"))
     yield from _choices(judgement)
     if failure.dimensions:
-        yield Line("Look at:")
+        yield Line("Check these dimensions:")
     numbers = {drawing.called(number): number for number in range(1, len(drawing.constraints) + 1)}
     for name in failure.dimensions:
         yield Line(name, list="dimensions beneath the fault", constraint=numbers.get(name))
@@ -332,11 +332,10 @@ def _choices(judgement: Judgement) -> Iterator[Line]:
     if tried is None or tried.found is None and not tried.lists:
         return
     if tried.found is None:
-        count = "all of them" if tried.whole else "not all"
-        yield Line(f"No other choice of its steps will do: {tried.lists} were tried, {count}.",
-                   "quiet")
+        count = "all there are" if tried.whole else "not all"
+        yield Line(f"No alternative solution meets them ({tried.lists} tried, {count}).", "quiet")
         return
-    yield Line("The other way round it has places, and meets them:")
+    yield Line("It can be placed, and meets all of them, if you:")
     for step in tried.found.steps:
         yield Line(change(sketch, step, judgement.names.element), list="what to draw otherwise")
 
@@ -345,13 +344,14 @@ def _notes(judged: JudgedDrawing) -> Iterator[Line]:
     """What is to be known beside the verdict."""
     judgement = judged.judgement
     for warning in judged.warnings():
-        yield Line(f"look: {warning.text()}", "warning", selects=warning.shapes)
+        yield Line(f"check: {warning.text()}", "warning", selects=warning.shapes)
     unsized = () if judgement.solution is not None else judgement.undimensioned
     for what, names in (
-            ("couldn’t be spelled", judgement.left_out), ("taken as drawn", judgement.frozen),
-            ("told by a rounded value", judgement.rounded),
-            ("repeats others, and may go", judgement.repeats),
-            ("not told to the program, and holds as it was measured", judgement.held),
-            ("its size is told by nothing, so it is as drawn", unsized),
-            ("told by a value that was read off a placed part", judgement.grown)):
+            ("not passed to the program", judgement.left_out),
+            ("fixed at the drawn value", judgement.frozen),
+            ("passed to the program with a rounded value", judgement.rounded),
+            ("redundant, and removable", judgement.repeats),
+            ("not passed to the program, but holds as measured", judgement.held),
+            ("no size given, drawn radius kept", unsized),
+            ("passed to the program with a value read off a placed cluster", judgement.grown)):
         yield from (Line(f"{what}: {name}", "note") for name in names)

@@ -114,8 +114,8 @@ def serve(program: Program, port: int | None, opens: bool) -> None:
         server = server_at(found, guard, workers)
         print(f"the board is at {guard.address}\nstop it by Ctrl+C", flush=True)
         if port is None and guard.port != usual_port():
-            print(f"port {usual_port()} is taken, as by another board of yours: what the browser "
-                  "keeps for that one isn't shown on this", flush=True)
+            print(f"port {usual_port()} is taken, perhaps by another board of yours: this board "
+                  "doesn't show the drawings that the browser keeps for that one", flush=True)
         try:
             with leading_to(guard.address) as file:
                 if opens:

@@ -6,10 +6,10 @@ from pertxogai.program.reports import Verdict
 
 FIXED = "nothing is free here: its constraints fix it"
 NO_OTHER = "no other shape is near: drag it to a dead point, where two shapes meet"
-OFF = ("constraints that repeat others are off by less than a nanometre, so nothing follows the "
-       "hand: leave out what repeats")
-NO_SHAPE = "no shape holds all that is asked, so nothing follows the hand: see the verdict"
-LOST = "the drag was lost, and it stays where it is shown: take hold of it anew"
+OFF = ("redundant constraints are off by less than a nanometre, so nothing follows the hand: "
+       "remove them")
+NO_SHAPE = "no shape meets all constraints, so nothing follows the hand: see the verdict"
+LOST = "the drag was lost, and it stays where it is shown: start to drag again"
 
 
 def why_still(judgement: Judgement) -> str:

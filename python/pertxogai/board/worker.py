@@ -97,11 +97,11 @@ def _answer(desk: Desk, line: str) -> protocol.Answer:
         found["ms"] = round((monotonic() - began) * 1000)
         return found
     except MemoryError:
-        return trouble("memory", "the call took more memory than it may: draw less at once")
+        return trouble("memory", "the call took more memory than allowed: draw less at once")
     except RecursionError:
-        return trouble("call", "what was given is nested too deeply")
+        return trouble("call", "the request is nested too deeply")
     except Exception as error:  # pylint: disable=broad-except
-        return trouble("fault", f"a fault of the board, please tell it: {error!r}")
+        return trouble("fault", f"a fault of the board, please report it: {error!r}")
 
 
 def limit_memory(mib: int) -> None:

@@ -92,8 +92,8 @@ class Worker:
     def _take(self, pipe: IO[bytes]) -> None:
         found = pipe.read(1 << 16)
         if not found:
-            raise WorkerLost("the call ended before it was answered, perhaps for want of memory: "
-                             "draw less at once")
+            raise WorkerLost("the call ended before it was answered, perhaps because memory ran "
+                             "out: draw less at once")
         self.rest += found
 
     def stop(self) -> None:

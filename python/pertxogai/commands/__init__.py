@@ -23,28 +23,32 @@ from pertxogai.judging.measure.limit import DEFAULT, MOST as MOST_LIMIT
 from pertxogai.output.release import Release
 from pertxogai.program import ProgramError
 
-EPILOG = """exit status: 0 where all is good (the program says well and places it, every constraint
-is met within --within as it is measured, nothing is left out, every size is told, no dimension is
-known to be missing by rank, nothing is found to lie mirrored), or is drawn as it was asked for; 1
-where something isn't, and a line says what; 2 where the words or a file can't be read, or nothing
-can be written; 3 where the program gave no answer; of many files the greatest. The program is found
-by --program, the variable PERTXOGAI_SKETCH, the repository's build, or the path."""
-AS_STORED = "tell how far the places in the file are off each constraint"
-CHECK = "have it read by sketch verify, sketch_claim.py and sketch_claim.c"
-COMPLETED = "the drawing with them as a .drawing, or the .FCStd or .slvs with them written in"
-CLAIM = "the sketch, its steps, places and tolerances, as verify reads them"
+EPILOG = """exit status: 0 if every sketch is good, or was drawn as asked for; 1 if one isn't good,
+and a line says why; 2 if the arguments or a file can't be read, or nothing can be written; 3 if the
+program gave no answer; of several files the greatest.
+
+A sketch is good if the program says well and places it, every constraint is measured within
+--within, nothing is left out, every size is given, no dimension is known to be missing by rank, and
+nothing is found to lie mirrored.
+
+The program is the one of --program, else of the variable PERTXOGAI_SKETCH, else the repository's
+build, else the one on the path."""
+AS_STORED = "also report how far the positions in the file are off each constraint"
+CHECK = "check it by sketch verify, sketch_claim.py and sketch_claim.c"
+COMPLETED = "write the completed drawing as a .drawing, or into a copy of the .FCStd or .slvs"
+CLAIM = "the claim to write: the sketch, its steps, positions and tolerances, as verify reads them"
 FILE = "a sketch: .sketch, .drawing, .FCStd, .slvs, .dxf"
-FREEZE = "take lengths and radii that nothing tells as they are drawn"
-JOBS = "how many of several files are judged at a time (default: as many as processors)"
-NEARLY = "tell the relations that a drawing nearly has, as level edges and equal lengths"
-NO_SEARCH = "leave out what is found by numbers of what isn't well"
-OUTPUT = "OUT.svg or OUT.dxf"
+FREEZE = "fix lengths and radii that have no dimension at their drawn values"
+JOBS = "how many files are judged at a time (default: as many as processors)"
+NEARLY = "also list relations that the drawing nearly has, such as horizontal edges, equal lengths"
+NO_SEARCH = "leave out what is found by numbers about what isn't well"
+OUTPUT = "the file to write: OUT.svg or OUT.dxf"
 RELEASE = "the version of DXF (default: %(default)s)"
 SCALE = "draw the SVG in mm to print: 1:1 is life-size, 1:2 half of it"
-SKETCH = "which sketch of a file that has several"
-SECONDS = "how long a call may take (default: %(default)g)"
-WITHIN = "what is met within N nm, or an angle within N ppb, holds (default: %(default)s)"
-WRITE = "copy a .FCStd or .slvs to OUT, with those of its sketches placed that are good"
+SKETCH = "the sketch to take from a file that has several"
+SECONDS = "the time limit of a call of the program (default: %(default)g)"
+WITHIN = "the limit within which a constraint counts as met, in nm and ppb (default: %(default)s)"
+WRITE = "copy a .FCStd or .slvs to OUT, with each good sketch moved to its solved position"
 Commands: TypeAlias = "argparse._SubParsersAction[argparse.ArgumentParser]"
 
 
@@ -80,7 +84,7 @@ def command_line() -> argparse.ArgumentParser:
         prog="pertxogai",
         epilog=EPILOG,
         formatter_class=argparse.RawDescriptionHelpFormatter,
-        description="Asks the proved program `sketch` about a sketch: judges, places, draws it.",
+        description="Judges, places and draws sketches, by the proved program `sketch`.",
     )
     parser.add_argument("--version", action="version", version=f"pertxogai {__version__}")
     commands = parser.add_subparsers(dest="command", required=True, metavar="COMMAND")
@@ -94,7 +98,7 @@ def command_line() -> argparse.ArgumentParser:
 
 
 def _add_judge(commands: Commands) -> None:
-    judge = _command(commands, "judge", "tells the verdict, and what fails by your own names")
+    judge = _command(commands, "judge", "judges sketches, and says what to do, by your own names")
     judge.set_defaults(act=_judge)
     judge.add_argument("file", type=Path, nargs="+", metavar="FILE", help=FILE)
     judge.add_argument("--jobs", type=int, default=os.cpu_count() or 1, metavar="N", help=JOBS)
@@ -122,7 +126,7 @@ def _add_draw(commands: Commands) -> None:
     draw.set_defaults(act=_draw)
     draw.add_argument("file", type=Path, metavar="FILE", help=FILE)
     draw.add_argument("-o", "--output", type=Path, required=True, metavar="OUT", help=OUTPUT)
-    draw.add_argument("--as-drawn", action="store_true", help="as drawn, and not as placed")
+    draw.add_argument("--as-drawn", action="store_true", help="draw it as drawn, not as placed")
     draw.add_argument("--scale", type=_scale_of, metavar="N:M", help=SCALE)
     draw.add_argument("--sketch", metavar="NAME", help=SKETCH)
     releases = [it.value for it in Release]
@@ -132,7 +136,7 @@ def _add_draw(commands: Commands) -> None:
 
 def _add_complete(commands: Commands) -> None:
     completing = _command(commands, "complete",
-                          "proposes the dimensions that a sketch lacks, in your own words")
+                          "proposes the missing dimensions of a sketch, in your own words")
     completing.set_defaults(act=_complete)
     completing.add_argument("file", type=Path, metavar="FILE", help=FILE)
     completing.add_argument("--json", action="store_true", help="print one object of JSON")
@@ -141,7 +145,7 @@ def _add_complete(commands: Commands) -> None:
 
 
 def _add_certify(commands: Commands) -> None:
-    certify = _command(commands, "certify", "writes of what is good a claim that anyone can check")
+    certify = _command(commands, "certify", "writes a claim on a good sketch that anyone can check")
     certify.set_defaults(act=_certify, no_search=True)
     certify.add_argument("file", type=Path, metavar="FILE", help=FILE)
     certify.add_argument(
@@ -170,7 +174,7 @@ def _scale_of(word: str) -> Fraction:
     ArgumentTypeError."""
     parts = word.split(":")
     if len(parts) != 2 or not all(it.isascii() and it.isdigit() and len(it) < 5 for it in parts):
-        raise argparse.ArgumentTypeError(f"{word!r} is no scale as 1:2")
+        raise argparse.ArgumentTypeError(f"{word!r} isn't a scale such as 1:2")
     paper, drawn = map(int, parts)
     if not (0 < paper <= 1000 and 0 < drawn <= 1000):
         raise argparse.ArgumentTypeError(f"{word!r}: a scale is from 1:1000 to 1000:1")
@@ -183,7 +187,7 @@ def _limit(word: str) -> Limit:
         return Limit(int(word))
     except ValueError:
         raise argparse.ArgumentTypeError(
-            f"{word!r} is no whole number from 1 to {MOST_LIMIT}") from None
+            f"{word!r} isn't a whole number from 1 to {MOST_LIMIT}") from None
 
 
 def _judge(options: argparse.Namespace) -> Exit:

@@ -75,8 +75,8 @@ def _write_into(path: Path, out: Path, completed: Mapping[str, Completion]) -> N
     """Copies a file of FreeCAD's or SolveSpace's with what was completed written in."""
     kind = kind_of(path)
     if kind is None or kind.add is None or out.suffix.lower() != kind.suffix.lower():
-        raise CommandError(f"{out}: what is completed is written as a .drawing, or into a copy of a"
-                           " .FCStd or .slvs")
+        raise CommandError(f"{out}: a completed drawing is written as a .drawing, or into a copy of"
+                           " a .FCStd or .slvs")
     kind.add(path, out, {key: _addition(each) for key, each in completed.items()})
 
 

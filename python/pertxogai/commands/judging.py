@@ -32,19 +32,29 @@ def outcome_of(found: Input, program: Solver, options: argparse.Namespace) -> Ou
     if isinstance(found, SketchText):
         if options.as_stored:
             raise CommandError(f"{found.name}: --as-stored takes a drawing, or a file of FreeCAD,"
-                               " SolveSpace or DXF: a sketch of the language stores no places")
+                               " SolveSpace or DXF: a sketch of the language stores no positions")
         from pertxogai.judging import judge_sketch
 
         return SketchOutcome(judge_sketch(found.name, found.text, program, options.within),
                              program)
-    judged = CountedDrawing(found.name, found.drawing, _judgement(found, program, options),
-                            found.left_out, found.aside, options.within)
+    judgement = _judgement(found, program, options)
+    judged = CountedDrawing(found.name, found.drawing, judgement, found.left_out, found.aside,
+                            options.within, short=_short(judgement, program))
     if options.as_stored:
         from pertxogai.judging.as_stored import as_stored
 
         with made_of(found):
             judged = replace(judged, stored=as_stored(judged.judgement, program))
     return DrawingOutcome(_with_finding(judged, program, options))
+
+
+def _short(judgement: CountedJudgement, program: Solver) -> str:
+    """By how much the dimensions beneath a fault miss each other; nothing where there is none."""
+    if judgement.failure is None:
+        return ""
+    from pertxogai.judging.shortage import shortage_of
+
+    return shortage_of(judgement, program)
 
 
 def _with_finding(judged: CountedDrawing, program: Solver,
@@ -95,8 +105,8 @@ def made_of(found: DesignerDrawing) -> Iterator[None]:
         raise CommandError(f"{found.name}: {refused}") from None
     except Refusal as refused:
         raise CommandError(
-            f"{found.name}: the program takes no such sketch ({refused}): split the drawing, or"
-            " see 'How a text is refused' in docs/LANGUAGE.md") from None
+            f"{found.name}: the program rejects the encoded sketch ({refused}): split the drawing,"
+            " or see 'How a text is refused' in docs/LANGUAGE.md") from None
 
 
 def chosen(found: Sequence[Input], name: str | None) -> Input:

@@ -69,8 +69,8 @@ def _judge_each(options: argparse.Namespace) -> Iterator[JudgedFile]:
         with ProcessPoolExecutor(min(options.jobs, len(options.file))) as pool:
             yield from pool.map(act, options.file)
     except BrokenProcessPool:
-        raise CommandError("a process that judges was ended from outside, or for want of memory: "
-                           "try again with --jobs 1") from None
+        raise CommandError("a process that judges was killed, perhaps because memory ran out: try "
+                           "again with --jobs 1") from None
 
 
 def judged_file(path: Path, options: argparse.Namespace) -> JudgedFile:

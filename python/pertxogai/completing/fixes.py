@@ -90,9 +90,9 @@ def _of_the_whole(before: Loose, after: Loose) -> Iterator[str]:
         yield "the whole"
         return
     if before.turns and not after.turns:
-        yield "the turn of the whole"
+        yield "the rotation of the whole"
     if after.shifts < before.shifts:
-        yield f"the place of the whole{' one way' if after.shifts else ''}"
+        yield f"the position of the whole{' in one direction' if after.shifts else ''}"
 
 
 def _points(drawing: Drawing, before: Loose, after: Loose) -> Iterator[PointRef]:
@@ -124,7 +124,7 @@ def _against(constraint: Constraint) -> Iterator[str]:
     elif isinstance(constraint, _DIRECTIONS):
         yield f"the direction of {named[-1]}"
     elif len(named) > 1:
-        yield f"how {' and '.join(named)} lie to each other"
+        yield f"the position of {' and '.join(named)} relative to each other"
     else:
         yield from named
 
@@ -136,4 +136,4 @@ def _but_along(ways: Sequence[Way]) -> str:
     dx, dy = ways[0]
     if abs(dy) < NEARLY_ALONG:
         return " along y"
-    return " along x" if abs(dx) < NEARLY_ALONG else " one way"
+    return " along x" if abs(dx) < NEARLY_ALONG else " in one direction"

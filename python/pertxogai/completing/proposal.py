@@ -50,11 +50,11 @@ class WhyNot(Enum):
     """Why nothing is proposed; the values are told to a designer."""
 
     NOTHING = "nothing is missing"
-    OVER = "it is over-constrained: take away what may go first, as ./pertxogai judge tells"
-    NO_PLACES = "no places are found that meet all of it"
+    OVER = "it is over-constrained: first remove a dimension that ./pertxogai judge lists"
+    NO_PLACES = "no positions were found that meet all of it"
     TOO_MUCH = "too much of it is free: dimension a part of it first"
-    RIGID = "nothing of it is free (by numbers), though the program doesn't find it rigid"
-    STUCK = "no dimensions are found with which it is well, placed and good"
+    RIGID = "nothing of it can move (by numbers), though the program doesn't find it rigid"
+    STUCK = "no dimensions were found with which it is well, placed and good"
 
 
 @dataclass(frozen=True)

@@ -102,7 +102,7 @@ def change(sketch: Sketch, step: Step, named: Callable[[str], str | None]) -> st
     lines = [named(name) for name in step.at if name not in points]
     names = [named(name) for name in ends]
     if None in names:
-        return f"turn the choice of step s{step.number} over"
+        return f"flip the choice of step s{step.number}"
     if len(ends) == 3:
         return f"draw {names[0]} on the other side of the line through {names[1]} and {names[2]}"
     along = f", along {lines[0]}" if lines and lines[0] else ""
@@ -121,19 +121,20 @@ def _base_of(step: Step) -> tuple[str, ...]:
 
 def tried_lines(sketch: Sketch, found: Tried | None,
                 named: Callable[[str], str | None] = lambda name: name,
-                none: str = "no other choice of the steps beneath has places") -> Iterator[str]:
+                none: str = "no alternative solution of the steps beneath is placed"
+                ) -> Iterator[str]:
     """What came of turning choices over, in lines to read; nothing where there was nothing to turn
     over. none: what is said where none of them will do."""
     if found is None or not found.lists and found.whole:
         return
     within = found.within()
     if not found.lists:
-        yield "other choices can't be tried: with them the text is too long for the program"
+        yield "no alternative solution is tried: the text would be too long for the program"
         return
     if found.found is None or within is None:
-        yield f"{none}: {found.lists} were tried, {'all' if found.whole else 'but not all'}"
+        yield f"{none} ({found.lists} tried, {'all there are' if found.whole else 'not all'})"
         return
-    yield (f"another choice is placed within {within[0]} nm and {within[1]} ppb: "
+    yield (f"an alternative solution is placed within {within[0]} nm and {within[1]} ppb: "
            f"{found.found.flip()}")
     yield from (f"  {change(sketch, step, named)}" for step in found.found.steps)
 

@@ -21,9 +21,9 @@ class DepartureKind(Enum):
     """What has become of a shape."""
 
     TURNED = "runs the other way than it is drawn"
-    OTHER_SIDE = "turns to the other side than it is drawn"
-    CROSSES = "cross, and are drawn apart"
-    LEAVES = "lies on the other side of the outline"
+    OTHER_SIDE = "turns the other way than it is drawn"
+    CROSSES = "cross, but are drawn apart"
+    LEAVES = "is drawn on the other side of the outline"
 
 
 @dataclass(frozen=True)
@@ -38,7 +38,7 @@ class Departure:
         match self.departure:
             case DepartureKind.LEAVES:
                 thing, edge = self.shapes
-                return f"{thing} {self.departure.value} of {edge} than it is drawn"
+                return f"{thing} {self.departure.value}, at {edge}"
             case DepartureKind.OTHER_SIDE:
                 return f"the corner of {' and '.join(self.shapes)} {self.departure.value}"
             case _:

@@ -23,9 +23,9 @@ CHOICES = 4
 class Rest(Enum):
     """What the program says of the others, as it is told above what is left out."""
 
-    PLACED = "Without these, the others can be placed:"
-    NO_PLACES = "Without these they are just enough, but have no places:"
-    OVER = "Without these there are too many still:"
+    PLACED = "Without these the others can be placed:"
+    NO_PLACES = "Without these the others are fully constrained, but can't be placed:"
+    OVER = "Without these the others are still over-constrained:"
 
 
 @dataclass(frozen=True)

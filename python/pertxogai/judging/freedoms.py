@@ -58,9 +58,9 @@ class Loose:
     def text(self) -> str:
         """What it lacks, as one says it."""
         if self.along_x and self.along_y:
-            return f"nothing tells where {self.point} is"
+            return f"no dimension gives the position of {self.point}"
         if self.along_x or self.along_y:
-            return f"nothing tells the {'x' if self.along_x else 'height'} of {self.point}"
+            return f"no dimension gives the {'x' if self.along_x else 'y'} of {self.point}"
         return f"{self.point} lacks a dimension"
 
 

@@ -192,17 +192,17 @@ def _missing_or_mirrored(judged: JudgedDrawing, solution: Solution) -> Iterator[
     free = judged.judgement.free
     if free is not None and free.lacks:
         plural = "dimension is" if free.lacks == 1 else "dimensions are"
-        yield Reason(Lack.MISSING, f"{free.lacks} {plural} missing at least, by rank")
+        yield Reason(Lack.MISSING, f"at least {free.lacks} {plural} missing, by rank")
     for names in mirrored(judged.drawing, solution):
         more = f" and {len(names) - MOST_NAMED} more" if len(names) > MOST_NAMED else ""
         yield Reason(Lack.MIRRORED, f"{', '.join(names[:MOST_NAMED])}{more} lie mirrored: each "
-                     "corner turns to the other side than it is drawn")
+                     "corner turns the other way than it is drawn")
 
 
 def _plain_reasons(judged: JudgedDrawing) -> Iterator[Reason]:
     """What the program, the file and the measure say against it."""
     if not judged.drawing.geometry:
-        yield Reason(Lack.EMPTY, "nothing is drawn in it that could be judged")
+        yield Reason(Lack.EMPTY, "nothing is drawn that could be judged")
     judgement = judged.judgement
     if (judgement.names.drawing != judged.drawing
             or judgement.verdict is not judgement.asked.verdict):
@@ -224,15 +224,15 @@ def _not_printed(judged: JudgedDrawing, solution: Solution, solved: Solved) -> I
     printed = {each.name for each in solved.places}
     lost = [ref for ref, knot in asked.axes.facts.refs.items()
             if ref != ORIGIN and not _is_printed(asked, knot, printed)]
-    yield from (Reason(Lack.NOT_PRINTED, f"the program has printed no place of {ref}")
+    yield from (Reason(Lack.NOT_PRINTED, f"the program has printed no position of {ref}")
                 for ref in lost)
     if lost:
         return
     found = settled(judged.drawing, asked, solved)
     if found.solution != solution:
-        yield Reason(Lack.NOT_PRINTED, "the places aren't those that the program has printed")
+        yield Reason(Lack.NOT_PRINTED, "the positions aren't those that the program has printed")
     for name in found.unsized:
-        yield Reason(Lack.NO_SIZE, f"nothing tells the size of {name}")
+        yield Reason(Lack.NO_SIZE, f"no size is given for {name}")
 
 
 def _is_printed(asked: Trial, knot: Knot, printed: Collection[str]) -> bool:
@@ -248,7 +248,7 @@ def _without_places(verdict: Verdict, solved: object, placed: bool) -> Iterator[
     if verdict is not Verdict.WELL:
         yield Reason(Lack.VERDICT, f"it is {verdict.value}")
     elif not isinstance(solved, Solved) or not placed:
-        yield Reason(Lack.NO_PLACES, "it has no places")
+        yield Reason(Lack.NO_PLACES, "it can't be placed as drawn")
 
 
 def _constraints_off(judged: JudgedDrawing, solution: Solution) -> Iterator[Reason]:
@@ -284,7 +284,7 @@ def _against_sketch(judged: JudgedSketch) -> Iterator[Reason]:
         length = max(length, solved.length_tolerance_nm)
         angle = max(angle, solved.angle_tolerance_ppb)
         if max(length, angle) > most:
-            yield Reason(Lack.OFF, f"it is placed within {units_text(length, Unit.NM)} and "
+            yield Reason(Lack.OFF, f"it is placed only within {units_text(length, Unit.NM)} and "
                          f"{units_text(angle, Unit.PPB)}")
 
 

@@ -24,8 +24,9 @@ class JudgedDrawing:
     constraints only measure or are switched off, and within what each constraint has to hold;
     where it was searched, what was found, else why it wasn't, if it should have been; lines with
     which it would be well, and the relations that it nearly has, where these were asked for.
-    stored: how far off the places are that it was stored with, where that was asked for. Whether it
-    is good is for `pertxogai.judging.good` to say."""
+    stored: how far off the places are that it was stored with, where that was asked for. short: by
+    how much the dimensions beneath a fault miss each other, where that is known. Whether it is good
+    is for `pertxogai.judging.good` to say."""
 
     name: str
     drawing: Drawing
@@ -38,6 +39,7 @@ class JudgedDrawing:
     proposed: tuple[str, ...] = ()
     nearly: tuple[Nearly, ...] = ()
     stored: StoredOffs | None = None
+    short: str = ""
 
     def left_out(self) -> tuple[str, ...]:
         """What the file has and the drawing can't say, and what of the drawing can't be spelled."""

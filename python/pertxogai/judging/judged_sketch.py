@@ -142,19 +142,19 @@ def _joined_constraints(plan: Plan | None, step: int) -> tuple[Constraint, ...]:
 def what_to_do(fault: Fault, turned: Tried | None = None) -> str:
     """What helps against a fault, in a sentence. turned: what came of other choices."""
     if turned and turned.found:
-        return "draw it so, or change a length: with the drawn choices it has no places"
+        return "draw it so, or change a length: the way it is drawn it can't be placed"
     if isinstance(fault, NumberFault) and fault.cause is Cause.GAP:
         return (
-            "with these choices of steps no shape has these dimensions, on any grid: change a"
-            " length of them"
+            "change one of these lengths: with the drawn orientations no shape has them, on"
+            " any grid"
         )
     if isinstance(fault, NumberFault):
         return (
-            "two places can't be told apart, or lines are parallel: change a length, or"
-            " dimension it otherwise"
+            "change a length, or dimension it differently: two positions can't be told apart,"
+            " or lines are parallel"
         )
     if isinstance(fault, RangeFault):
-        return "the proportions are beyond the grid: look for a slip in the lengths"
+        return "check the lengths for a slip: the proportions are beyond the grid"
     if isinstance(fault, FrameFault):
-        return "it is placed too far from 0 0: draw it nearer, or leave frame=drawn away"
-    return "take a finer grid (bits=38) or a greater within="
+        return "draw it nearer to 0 0, or leave out frame=drawn: it is placed too far away"
+    return "use a finer grid (bits=38), or a larger within="

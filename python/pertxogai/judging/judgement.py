@@ -308,7 +308,7 @@ def _state(edited: EditedDrawing, names: Names, asked: Trial, program: Solver) -
     if asked.solved is not None:
         from pertxogai.judging.faults import failure
 
-        return WithFault(failure(names, asked.solved, _plan_of(asked, program)))
+        return WithFault(failure(names, asked.solved, plan_of(asked, program)))
     if asked.verdict is Verdict.OPEN:
         from pertxogai.judging.missing import missing
 
@@ -337,7 +337,7 @@ def with_choices(judged: WeighedJudgement, program: Solver) -> WeighedJudgement:
         return judged
     from pertxogai.judging.choices import beneath, tried
 
-    plan = _plan_of(judged.asked, program)
+    plan = plan_of(judged.asked, program)
     steps = plan.steps if judged.failure is None else beneath(plan, judged.failure.fault)
     keys = [f"place={judged.place.value}", within(judged.asked.spelled)]
     found = tried(judged.asked.spelled.sketch, steps, program, keys,
@@ -345,7 +345,7 @@ def with_choices(judged: WeighedJudgement, program: Solver) -> WeighedJudgement:
     return replace(judged, tried=replace(found, scale=judged.asked.spelled.scale))
 
 
-def _plan_of(asked: Trial, program: Solver) -> Plan:
+def plan_of(asked: Trial, program: Solver) -> Plan:
     """How what is well is constructed."""
     from pertxogai.program.reports import read_plan
 

@@ -42,10 +42,10 @@ def check_fits(drawing: Drawing) -> None:
         raise DrawingRefused(f"{points} points are drawn, and the program takes "
                              f"{MOST_ELEMENTS} points and lines: split the drawing")
     if len(drawing.constraints) > MOST_CONSTRAINTS:
-        raise DrawingRefused(f"{len(drawing.constraints)} constraints are asked for, and the "
+        raise DrawingRefused(f"{len(drawing.constraints)} constraints are given, and the "
                              f"program takes {MOST_CONSTRAINTS}: split the drawing")
     closed = ends_made_one(drawing)
     if closed is not None:
         number, name = closed
-        raise DrawingRefused(f"{drawing.called(number)} makes both ends of {name} one point: take "
-                             "it away, or draw a circle or a point")
+        raise DrawingRefused(f"{drawing.called(number)} makes both ends of {name} one point: "
+                             "remove it, or draw a circle or a point")

@@ -19,11 +19,11 @@ from pertxogai.program.reports import Part
 class Tie(Enum):
     """How two pieces hang together, and so what ties them."""
 
-    LOOSE = "loose: give one of them two dimensions from the other, and one more"
-    LONE = "loose: give the one that is a single point or line two dimensions from the other"
-    LONE_PAIR = "loose: give a dimension between them"
-    HINGE = "they turn about a point: give an angle, or a distance between points of both"
-    SLIDE = "they slide along a line: give a distance between points of both, not across that line"
+    LOOSE = "not connected: add three dimensions between them"
+    LONE = "not connected, and one is a single point or line: add two dimensions between them"
+    LONE_PAIR = "not connected: add a dimension between them"
+    HINGE = "they turn about a point: add an angle, or a distance between points of both"
+    SLIDE = "they slide along a line: add a distance between points of both, not across that line"
 
 
 DIMENSIONS = {Tie.LOOSE: 3, Tie.LONE: 2, Tie.LONE_PAIR: 1, Tie.HINGE: 1, Tie.SLIDE: 1}

@@ -8,11 +8,11 @@ from dataclasses import dataclass, replace
 from fractions import Fraction
 
 from pertxogai.drawing.numbers import mm_text
-from pertxogai.judging import Judgement
 from pertxogai.judging.faults import Amount, Unit
+from pertxogai.judging.judgement import Judgement, plan_of
 from pertxogai.language import Placed, PlacedLine
 from pertxogai.language.clusters import ClusterName, Step
-from pertxogai.program import Solver
+from pertxogai.program import ProgramError, Solver
 from pertxogai.program.reports import NumberFault, Plan, Solved, read_answer
 
 NEAR_UM = 0.001
@@ -31,6 +31,17 @@ class Span:
     def reaches(self, name: str) -> bool:
         """Whether it ends at that element."""
         return name in self.ends
+
+
+def shortage_of(judgement: Judgement, program: Solver) -> str:
+    """By how much the dimensions beneath a fault miss each other, as `shortage`; empty where there
+    is no fault, or the program gives no answer."""
+    if judgement.failure is None:
+        return ""
+    try:
+        return shortage(judgement, plan_of(judgement.asked, program), program)
+    except ProgramError:
+        return ""
 
 
 def shortage(judgement: Judgement, plan: Plan, program: Solver) -> str:

@@ -43,30 +43,30 @@ class Code(Enum):
     @property
     def advice(self) -> str:
         """What to do about a text that is refused so, in a few words."""
-        return _ADVICE.get(self, "look at that line")
+        return _ADVICE.get(self, "check that line")
 
 
 _ADVICE = {
     Code.E1: "begin the text with `sketch 1` or `sketch 2`",
-    Code.E2: "look for a slip in the first word; comments and blocks take `sketch 2`",
-    Code.E3: "look for a word too many or too few",
+    Code.E2: "check the first word for a slip; comments and blocks need `sketch 2`",
+    Code.E3: "check for a missing word, or one too many",
     Code.E4: "write a letter, and up to 15 letters, digits or _",
     Code.E5: "take another name",
     Code.E6: "declare that name in a line above",
-    Code.E7: "look which elements the word takes",
-    Code.E8: "write up to 1000000 with a point and three digits behind it at most",
+    Code.E7: "check which elements the word takes",
+    Code.E8: "write a number of at most 1000000, with at most three decimals",
     Code.E9: "write points that coincide as one point, and a length above 0",
     Code.E10: "name two elements",
-    Code.E11: "draw the line through two places",
+    Code.E11: "draw the line through two different points",
     Code.E12: "give the radius",
-    Code.E13: "split the sketch: it may have 2000 elements",
-    Code.E14: "split the sketch: it may have 4000 constraints",
+    Code.E13: "split the sketch: it may have at most 2000 elements",
+    Code.E14: "split the sketch: it may have at most 4000 constraints",
     Code.E15: "write 200 letters at most",
-    Code.E16: "write `end` behind the last line",
-    Code.E17: "take away what stands behind `end`",
-    Code.E18: "write an element: the text has none",
-    Code.E19: "write ASCII: is it a text of the language?",
-    Code.E20: "split the sketch: its text may have 1 MiB",
+    Code.E16: "write `end` as the last line",
+    Code.E17: "remove everything after `end`",
+    Code.E18: "add an element: the text has none",
+    Code.E19: "use ASCII: is it a text of the language?",
+    Code.E20: "split the sketch: its text may have at most 1 MiB",
 }
 
 

@@ -29,7 +29,8 @@ def _proposal_lines(name: str, found: Completion) -> Iterator[str]:
         yield "  to tie the whole to the origin and the axes:"
     yield from (f"  {each.line()}{_fixes(each)}" for each in found.datum)
     if not found.ties_the_whole:
-        yield "  nothing is found that ties the whole, so that it may still be moved"
+        yield ("  nothing was found that ties it to the origin and the axes: the whole can still "
+               "be moved")
     off = (greatest(found.good.judged.judgement.deviations, unit) for unit in Unit)
     most = [amount_text(each) for each in off if each is not None and each.amount]
     within = f"each constraint within {' and '.join(most)}" if most else "each constraint exactly"

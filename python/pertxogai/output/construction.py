@@ -74,7 +74,7 @@ class Construction:
 
     def called(self, name: str) -> str:
         """What an element is called, by the designer's names."""
-        return self.judgement.names.element(name) or "a line of help"
+        return self.judgement.names.element(name) or "a construction line"
 
     def shapes(self, name: ClusterName) -> Iterator[str]:
         """The designer's shapes of which a cluster has all points."""
@@ -101,7 +101,7 @@ class Construction:
         """What a constraint says, by the designer's names; what a step's cluster is called."""
         if name.is_step:
             return f"what step {name.number} made"
-        return ", ".join(self.judgement.names.constraint(name.number)) or "lines of help"
+        return ", ".join(self.judgement.names.constraint(name.number)) or "construction lines"
 
     @cached_property
     def members(self) -> Mapping[ClusterName, frozenset[str]]:

@@ -81,14 +81,16 @@ class DrawingSheet:
 
     def _left_out(self) -> Iterator[str]:
         """What the picture lacks; where that is much, how much more."""
-        left_out = self.judged.left_out()
-        yield from (f"left out: {what}" for what in left_out[:MOST_SHOWN])
+        left_out = [*(f"left out of the file: {what}" for what in self.judged.not_drawn),
+                    *(f"not passed to the program: {what}"
+                      for what in self.judged.judgement.left_out)]
+        yield from left_out[:MOST_SHOWN]
         if len(left_out) > MOST_SHOWN:
             yield f"and {len(left_out) - MOST_SHOWN} more: see ./pertxogai judge"
 
     def _legend(self) -> Iterator[tuple[str, Ink]]:
         """What was judged, each piece in its colour."""
         pieces = self.judged.judgement.missing.pieces if self.judged.judgement.missing else ()
-        numbers = {f"piece {piece.number}": piece.number for piece in pieces}
+        numbers = {f"cluster {piece.number}": piece.number for piece in pieces}
         for line in drawing_lines(self.judged):
             yield line, Ink(part=numbers.get(line.strip().partition(":")[0]))

@@ -11,53 +11,69 @@ from pertxogai.judging.measure.limit import units_text
 from pertxogai.judging.states import WithPlaces
 from pertxogai.output.finding_text import finding_lines, freedoms_text
 from pertxogai.output.values_text import values_lines
+from pertxogai.output.verdict_text import verdict_text
 
 if TYPE_CHECKING:  # What isn't well, or isn't met, imports what is told of it alone.
     from pertxogai.judging.judgement import CountedJudgement, Judgement
     from pertxogai.judging.surplus import Surplus
 
 UNMET = Lack.OFF, Lack.UNMEASURED, Lack.NOT_PRINTED, Lack.MISSING, Lack.MIRRORED
-"""What of a drawing that is placed is told to be unmet; all else has a line of its own."""
+"""For what of a placed drawing a line says that it isn't good; all else has a line of its own."""
 MOST_ADVICE = 5
 """The most pairs of pieces for which it is told what to do."""
-FOLLOWS = {True: "repeats", False: "contradicts", None: "follows from"}
-"""How a dimension that may go stands to the others of its group."""
+ADVICE = {
+    Lack.LEFT_OUT: "draw what was left out with shapes and constraints that are read",
+    Lack.OFF: "correct what is off, or draw it nearer to the shape that you want",
+    Lack.NO_SIZE: "add a radius or a diameter, or judge with --freeze",
+    Lack.MISSING: "add a dimension: ./pertxogai complete proposes some",
+    Lack.MIRRORED: "draw it the way round that you want, or change a dimension",
+}
+"""What to do where a drawing is placed and isn't good."""
+BY_TRIANGLES = "dimension it by triangles, so that the program can prove it rigid"
+BY_CHOSEN = "give the chosen values as dimensions, in place of what isn't passed to the program"
+"""What to do with what is open, and lacks no dimension by rank."""
+FOLLOWS = {True: "follows from", False: "conflicts with",
+           None: "follows from, or conflicts with"}
+"""How a removable dimension stands to the others of its group."""
 
 
 def drawing_lines(judged: CountedDrawing) -> Iterator[str]:
     """What was judged, in lines to read; the first tells the verdict."""
     judgement, check = judged.judgement, judged.judgement.asked.check
     freedoms = f", {freedoms_text(judged.finding)}" if judged.finding else ""
-    yield (f"{judged.name}: {judgement.verdict.value}{freedoms}, spelled {judgement.style.value}, "
-           f"elements {check.elements}, constraints {check.constraints}, parts {len(check.parts)}")
+    yield (f"{judged.name}: {verdict_text(judgement.verdict)}{freedoms}, "
+           f"encoding {judgement.style.value}, elements {check.elements}, "
+           f"constraints {check.constraints}, rigid clusters {len(check.parts)}")
     if not judged.drawing.geometry:
-        yield "  nothing is drawn in it that could be judged"
-    yield from (f"  not met: {reason.text}" for reason in reasons_against(judged)
+        yield "  nothing is drawn that could be judged"
+    yield from (f"  not good: {reason.text}" for reason in reasons_against(judged)
                 if reason.lack in UNMET)
     yield from values_lines(judged.drawing)
     yield from _tried_lines(judgement)
-    yield from (f"  left out: {what}" for what in judged.not_drawn)
+    yield from (f"  left out of the file: {what}" for what in judged.not_drawn)
     yield from _left_out_lines(judgement)
-    yield from (f"  not asked for: {what}" for what in judged.aside)
-    yield from (f"  taken as drawn, and measured: {what}" for what in judgement.frozen)
-    yield from (f"  told by a rounded value: {what}" for what in judgement.rounded)
-    yield from (f"  repeats others, and may go: {what}" for what in judgement.repeats)
-    yield from (f"  not told to the program, and holds as it was measured: {what}"
+    yield from (f"  doesn't constrain the sketch: {what}" for what in judged.aside)
+    yield from (f"  fixed at the drawn value, and measured: {what}" for what in judgement.frozen)
+    yield from (f"  passed to the program with a rounded value: {what}"
+                for what in judgement.rounded)
+    yield from (f"  redundant, and removable: {what}" for what in judgement.repeats)
+    yield from (f"  not passed to the program, but holds as measured: {what}"
                 for what in judgement.held)
-    yield from (f"  its size is told by nothing: {what}, as drawn" for what in
+    yield from (f"  no size given for {what}: drawn radius kept" for what in
                 judgement.undimensioned)
     yield from _placed_lines(judged)
+    yield from _advice_on_lacks(judged)
     yield from finding_lines(judged)
-    yield from _failure_lines(judgement)
+    yield from _failure_lines(judged)
     yield from _lacks_lines(judgement)
     yield from _whole_lines(judgement)
-    yield from (f"  one is too many all the same, of: {', '.join(each)} (by rank)"
+    yield from (f"  one of these is redundant all the same (by rank): {', '.join(each)}"
                 for each in judgement.too_many)
-    yield from _missing_lines(judgement)
+    yield from _missing_lines(judged)
     yield from _proposed_lines(judged)
     yield from _unmet_lines(judgement)
     yield from _surplus_lines(judgement)
-    yield from (f"  look: {warning.text()}" for warning in judged.warnings())
+    yield from (f"  check: {warning.text()}" for warning in judged.warnings())
     yield from _nearly_lines(judged)
     if judged.stored is not None:
         from pertxogai.output.stored_text import stored_lines
@@ -72,16 +88,17 @@ def _tried_lines(judgement: CountedJudgement) -> Iterator[str]:
 
         sketch, named = judgement.asked.spelled.sketch, judgement.names.element
         yield from (f"  {line}" for line in tried_lines(
-            sketch, judgement.tried, named, "no other choice of its steps meets all of it"))
+            sketch, judgement.tried, named, "no alternative solution meets all of it"))
 
 
 def _left_out_lines(judgement: Judgement) -> Iterator[str]:
     """What couldn't be spelled, and doesn't hold all the same."""
     for each in judgement.left_out_measured:
         if each.off is None:
-            yield f"  left out: {each.name}"
+            yield f"  not passed to the program: {each.name}"
         elif not each.holds():
-            yield f"  left out: {each.name}, and measured: off by {amount_text(each.off)}"
+            yield (f"  not passed to the program, and off as measured: {each.name}, by "
+                   f"{amount_text(each.off)}")
 
 
 def _placed_lines(judged: JudgedDrawing) -> Iterator[str]:
@@ -98,111 +115,137 @@ def _placed_lines(judged: JudgedDrawing) -> Iterator[str]:
         yield "  measured: each constraint holds exactly"
 
 
-def _failure_lines(judgement: CountedJudgement) -> Iterator[str]:
+def _failure_lines(judged: CountedDrawing) -> Iterator[str]:
     """The program's fault with the designer's names."""
-    failure = judgement.failure
+    judgement, failure = judged.judgement, judged.judgement.failure
     if failure is None:
         return
     from pertxogai.judging.choices import tried_lines
+    from pertxogai.output.fault_text import fault_text, number_text
 
-    yield f"  no places: {failure.text.strip()}"
+    told = fault_text(judgement, failure, judged.short).replace("\u00a0", " ")
+    yield f"  can't be placed as drawn: {told}"
     if failure.at:
         at = ", ".join(failure.at)
         yield f"    where {at} meet" if len(failure.at) > 1 else f"    at {at}"
+    if number := number_text(failure):
+        yield f"    {number}"
     sketch, named = judgement.asked.spelled.sketch, judgement.names.element
     yield from (f"  {line}" for line in tried_lines(
         sketch, judgement.tried, named,
-        "no other choice of the steps beneath has places that meet all of it"))
+        "no alternative solution of the steps beneath meets all of it"))
     if failure.dimensions and not judgement.unmet:
-        yield f"  what to do: look at {', '.join(failure.dimensions)}"
+        yield f"  what to do: check and correct {', '.join(failure.dimensions)}"
 
 
 def _lacks_lines(judgement: Judgement) -> Iterator[str]:
     """How many dimensions an open drawing lacks."""
     if judgement.missing is not None and judgement.missing.count:
         count = judgement.missing.count
-        yield f"  lacks {count} dimension{'s' if count > 1 else ''} at least (by rank)"
+        missing = "dimensions are" if count > 1 else "dimension is"
+        yield f"  at least {count} {missing} missing (by rank)"
 
 
 def _whole_lines(judgement: Judgement) -> Iterator[str]:
     """How the whole may still be moved: where it is placed all the same, it lies as it is drawn."""
     if judgement.whole is not None and judgement.whole.ways:
-        drawn = ", and lies as it is drawn" if judgement.solution is not None else ""
-        yield (f"  not tied to the datum: the whole may still be {judgement.whole.text()} "
-               f"(by rank){drawn}")
+        drawn = "; it is placed as drawn" if judgement.solution is not None else ""
+        yield ("  not tied to the origin and the axes: the whole can still be "
+               f"{judgement.whole.text()} (by rank){drawn}")
 
 
-def _missing_lines(judgement: Judgement) -> Iterator[str]:
-    """The pieces of an open drawing, and what ties them."""
-    lacks = judgement.missing
+def _advice_on_lacks(judged: JudgedDrawing) -> Iterator[str]:
+    """What to do with what is placed and isn't good."""
+    if isinstance(judged.judgement.state, WithPlaces):
+        lacks = dict.fromkeys(reason.lack for reason in reasons_against(judged))
+        yield from (f"  what to do: {ADVICE[lack]}" for lack in lacks if lack in ADVICE)
+
+
+def _missing_lines(judged: JudgedDrawing) -> Iterator[str]:
+    """The rigid clusters of an open drawing, and what ties them."""
+    lacks = judged.judgement.missing
     if lacks is None:
         return
     for piece in lacks.pieces:
-        yield f"  piece {piece.number}: {' '.join(piece.elements)}"
+        yield f"  cluster {piece.number}: {' '.join(piece.elements)}"
     for joint in lacks.joints[:MOST_ADVICE]:
         shared = f" share {' '.join(joint.shared)};" if joint.shared else ":"
-        yield (f"  what to do: pieces {joint.first.number} and {joint.second.number}{shared} "
+        yield (f"  what to do: clusters {joint.first.number} and {joint.second.number}{shared} "
                f"{joint.tie.value}")
     if len(lacks.joints) > MOST_ADVICE:
         more = len(lacks.joints) - MOST_ADVICE
-        yield f"  and {more} more pair{'s' if more > 1 else ''} of pieces"
+        yield f"  and {more} more pair{'s' if more > 1 else ''} of clusters"
+    if not lacks.joints and not lacks.count:
+        yield from _by_triangles(judged)
+
+
+def _by_triangles(judged: JudgedDrawing) -> Iterator[str]:
+    """What to do with what is open and lacks nothing by rank; nothing where lines are proposed."""
+    if not judged.proposed:
+        found = judged.finding
+        by_chosen = found is not None and found.chosen and found.only_measured
+        yield f"  what to do: {BY_CHOSEN if by_chosen else BY_TRIANGLES}"
 
 
 def _proposed_lines(judged: JudgedDrawing) -> Iterator[str]:
     """What completes an open drawing."""
     if judged.proposed:
-        yield "  what to do: add these, with which it is well (./pertxogai complete tells of each)"
+        yield ("  what to do: add these lines, with which it is well (./pertxogai complete says "
+               "what each fixes)")
     yield from (f"    {line}" for line in judged.proposed)
 
 
 def _nearly_lines(judged: JudgedDrawing) -> Iterator[str]:
     """The relations that it nearly has."""
     for each in judged.nearly:
-        why = "nothing says so" if each.is_free else "what is told says otherwise"
+        why = "no constraint says so" if each.is_free else "the constraints say otherwise"
         yield f"  nearly: {each.line}, off by {each.off:.3g} {each.unit}; {why}"
 
 
 def _unmet_lines(judgement: CountedJudgement) -> Iterator[str]:
     """That no shape is found, and without what there is one."""
     if judgement.unmet is not None:
-        yield "  no shape is found near the drawn one that has these values (by numbers)"
+        yield "  no shape with these values was found near the drawing (by numbers)"
     if judgement.unmet:
         among = ", ".join(judgement.unmet)
-        yield f"  what to do: look at {among}; without one of them a shape is found"
+        yield f"  what to do: correct one of {among}; without any one of these a shape is found"
 
 
 def _surplus_lines(judgement: CountedJudgement) -> Iterator[str]:
-    """What may go, how far it is off, and what the rest is then."""
-    yield from (f"  over as it was measured, which isn't certified: {what} can't be spelled, and "
-                "the rest is enough" for what in judgement.measured_off)
+    """What is removable, how far it is off, and what the rest is then."""
+    yield from (f"  over-constrained as measured, which isn't certified: {what} can't be encoded, "
+                "and the rest is enough" for what in judgement.measured_off)
     yield from _advice_on(judgement.surplus)
     for each in judgement.surplus:
-        then = "" if each.then is None else f"; the rest is {each.then.value} without it"
+        then = "" if each.then is None else f"; without it the rest is {each.then.value}"
         yield f"    {each.name}{_off_text(each)}{then}"
         if each.others:
             yield f"      {FOLLOWS[each.repeats()]}: {', '.join(each.others)}"
-    yield from (f"  lacks a dimension all the same: {what} (by rank)" for what in judgement.loose)
+    yield from (f"  a dimension is missing all the same (by rank): {what}"
+                for what in judgement.loose)
 
 
 def _off_text(each: Surplus) -> str:
-    """How far a dimension that may go is off; by what rounding, where that may be all of it."""
+    """What a removable dimension is, and how far it is off; by how much rounding changes that,
+    where rounding may be all of it."""
     if each.off is None:
         return ""
-    off = f": off by {amount_text(each.off)}"
-    if not each.may_be_rounding():
-        return off
-    return f"{off}, rounded: rounding moves it by {units_text(each.rounding, each.off.unit)}"
+    off = f"off by {amount_text(each.off)}"
+    if each.may_be_rounding():
+        by = units_text(each.rounding, each.off.unit)
+        return f": {off}, which rounding changes by up to {by}"
+    return f": {'redundant' if each.repeats() else 'conflicting'}, {off}"
 
 
 def _advice_on(surplus: Sequence[Surplus]) -> Iterator[str]:
-    """What to do with what may go."""
+    """What to do with what is removable."""
     if not surplus:
         return
     from pertxogai.judging.surplus import Then
 
     if all(each.then is Then.OVER for each in surplus):
-        yield "  what to do: none of these is enough by itself; take one away, and ask again"
+        yield "  what to do: more than one has to go; remove one of these, and judge again"
     elif any(each.then is None for each in surplus):
-        yield "  what to do: take one of these away, and ask again (by rank; the first were tried)"
+        yield "  what to do: remove one of these, and judge again (by rank; the first were tried)"
     else:
-        yield "  what to do: take one of these away, and ask again (by rank; each was tried)"
+        yield "  what to do: remove one of these, and judge again (by rank; each was tried)"

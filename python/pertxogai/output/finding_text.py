@@ -11,7 +11,7 @@ from pertxogai.judging.measure import amount_text
 from pertxogai.program.reports import Verdict
 
 MOST_MOVES = 8
-"""The most points that still move that are told."""
+"""The most points for which it is told that they can still move."""
 
 
 def freedoms_text(finding: Finding) -> str:
@@ -24,18 +24,18 @@ def freedoms_text(finding: Finding) -> str:
 def finding_lines(judged: JudgedDrawing) -> Iterator[str]:
     """What was found, without the count of freedoms."""
     if judged.not_searched:
-        yield f"  not searched: {judged.not_searched}"
+        yield f"  not searched by numbers: {judged.not_searched}"
     finding = judged.finding
     if finding is None:
         return
     if judged.judgement.verdict is Verdict.OPEN:
         yield from _placed_lines(judged, finding)
     if finding.of_the_whole:
-        yield (f"  of the degrees of freedom {finding.of_the_whole} "
-               f"{'is' if finding.of_the_whole == 1 else 'are'} those of the whole (by numbers)")
+        moves = "moves" if finding.of_the_whole == 1 else "move"
+        yield (f"  of the degrees of freedom {finding.of_the_whole} {moves} the whole sketch "
+               "(by numbers)")
     yield from _move_lines(finding)
-    yield from (f"  repeats others, and may go (by numbers): {_group_text(each)}"
-                for each in finding.repeats)
+    yield from (f"  redundant (by numbers): {_group_text(each)}" for each in finding.repeats)
     yield from (f"  can't all be met (by numbers): {', '.join(each)}"
                 for each in finding.contradictions)
 
@@ -78,13 +78,13 @@ def _placed_lines(judged: JudgedDrawing, finding: Finding) -> Iterator[str]:
     """Who places it, by which values, and how far each word is off there."""
     if finding.places_by is PlacesBy.PROGRAM:
         values = f" with chosen values: {', '.join(finding.chosen)}" if finding.chosen else ""
-        yield f"  constructed{values}"
+        yield f"  constructed by the program{values}"
         if finding.only_measured:
-            yield f"  only measured: {', '.join(finding.only_measured)}"
+            yield f"  not passed to the program, only measured: {', '.join(finding.only_measured)}"
     elif finding.places_by is PlacesBy.NUMBERS:
         yield "  placed by numbers, not constructed"
     elif not finding.contradictions:
-        yield "  no places are found that meet all of it (by numbers)"
+        yield "  no positions were found that meet all of it (by numbers)"
     if finding.solution is not None:
         off = [each for each in judged.worst() if each.amount]
         yield from (f"  measured: at most {amount_text(each)} off, {each.called(judged.drawing)}"
@@ -98,11 +98,12 @@ def _move_lines(finding: Finding) -> Iterator[str]:
     moving = [(point, list(moves))
               for point, moves in groupby(finding.moves, lambda each: each.point)]
     for point, moves in moving[:MOST_MOVES]:
-        yield f"  still moves (by numbers): {point}{_along_text(moves)}"
+        yield f"  can still move (by numbers): {point}{_along_text(moves)}"
     if len(moving) > MOST_MOVES:
-        yield f"  and {len(moving) - MOST_MOVES} more points"
+        more = len(moving) - MOST_MOVES
+        yield f"  and {more} more point{'s' if more > 1 else ''}"
     if finding.free_radii:
-        yield f"  its radius is free (by numbers): {', '.join(finding.free_radii)}"
+        yield f"  free radius (by numbers): {', '.join(finding.free_radii)}"
 
 
 def _along_text(moves: list[PointMove]) -> str:
@@ -114,6 +115,6 @@ def _along_text(moves: list[PointMove]) -> str:
 
 
 def _group_text(group: Group) -> str:
-    """What repeats, and which others say the same."""
+    """What is redundant, and from which others it follows."""
     latest, *others = group
-    return f"{latest}, by {', '.join(others)}" if others else latest
+    return f"{latest}, given {', '.join(others)}" if others else latest

@@ -27,7 +27,7 @@ def picture_of_judged(judged: JudgedSketch, as_drawn: bool = False) -> Picture:
 def _fault_lines(judged: JudgedSketch) -> Iterator[str]:
     """What stands below a picture of a sketch as it is drawn, of its fault."""
     if judged.fault:
-        yield f"as drawn, has no places: {judged.fault.text().strip()}"
+        yield f"can't be placed, shown as drawn: {judged.fault.text().strip()}"
         yield from (f"of {constraint.text()}" for constraint in concerned(judged)[:MOST_SHOWN])
         yield from tried_lines(judged.sketch, judged.tried)
         yield f"what to do: {what_to_do(judged.fault, judged.tried)}"

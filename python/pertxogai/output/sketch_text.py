@@ -6,6 +6,7 @@ from collections.abc import Iterator, Mapping
 from pertxogai.judging.choices import tried_lines
 from pertxogai.judging.judged_sketch import JudgedSketch, concerned, what_to_do
 from pertxogai.judging.measure import Unit, units_text
+from pertxogai.output.verdict_text import verdict_text
 from pertxogai.program.reports import OverPart
 
 
@@ -13,7 +14,7 @@ def sketch_lines(judged: JudgedSketch) -> Iterator[str]:
     """What was judged, in lines to read; the first tells the verdict."""
     check = judged.check
     yield (
-        f"{judged.name}: {check.verdict.value}, elements {check.elements}, constraints"
+        f"{judged.name}: {verdict_text(check.verdict)}, elements {check.elements}, constraints"
         f" {check.constraints}, parts"
         f" {len(check.parts)}"
     )
@@ -26,10 +27,10 @@ def sketch_lines(judged: JudgedSketch) -> Iterator[str]:
         for over in judged.excess.parts:
             yield from _over(over, groups)
     if judged.spare:
-        yield "  what to do: take one of these away, and ask again"
+        yield "  what to do: remove one of these, and judge again"
         yield from (f"    {it.text()}" for it in judged.spare)
     elif judged.parts:
-        yield "  what to do: tie the parts by a dimension between elements of two of them"
+        yield "  what to do: connect the parts: add a dimension between elements of two of them"
 
 
 def _place_lines(judged: JudgedSketch) -> Iterator[str]:
@@ -64,7 +65,7 @@ def _over(over: OverPart, groups: Mapping[int, tuple[int, ...]]) -> Iterator[str
 def _rest(over: OverPart) -> str:
     """What becomes of the constraints of a part that are kept."""
     if over.stays_over():
-        return "and the others are too many still"
+        return "and the others are still over-constrained"
     if over.fault:
-        return "and the others aren't placed"
+        return "and the program doesn't place the others"
     return "so that the others can be placed"

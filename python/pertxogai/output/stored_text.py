@@ -13,7 +13,7 @@ def stored_lines(stored: StoredOffs, drawing: Drawing) -> Iterator[str]:
     """What the program measured, constraint by constraint, and behind it what was measured
     here."""
     if stored.length_nm is None or stored.angle_ppb is None:
-        yield "  as stored: nothing of it can be told to the program as it is said"
+        yield "  as stored: no constraint can be passed to the program unchanged"
     else:
         yield ("  as stored, measured by the program: within "
                f"{units_text(stored.length_nm, Unit.NM)} and "
@@ -21,10 +21,10 @@ def stored_lines(stored: StoredOffs, drawing: Drawing) -> Iterator[str]:
         yield from _each((" with ".join(each.names), _off_text(each))
                          for each in stored.by_program)
         if stored.first:
-            first = " with ".join(stored.first.names) or "lines of help"
+            first = " with ".join(stored.first.names) or "construction lines"
             yield f"    the first beyond the limit: {first}, {_off_text(stored.first)}"
     if stored.others:
-        yield "  as stored, and not told to the program as it is said; measured:"
+        yield "  as stored, not passed to the program unchanged, measured by pertxogai:"
         yield from _each((each.called(drawing), _deviation_text(each)) for each in stored.others)
 
 
@@ -45,7 +45,7 @@ def _off_text(off: StoredOff) -> str:
     """How far the places are off what some words say together; nothing where it holds."""
     less = "less than it says" if off.amount < 0 else "more than it says"
     told = [f"off by {units_text(abs(off.amount), off.unit)}, {less}"] if off.amount else []
-    return ", ".join(told + (["the other way round than it is drawn"] if off.turned else []))
+    return ", ".join(told + (["flipped against the drawing"] if off.turned else []))
 
 
 def _deviation_text(deviation: Deviation) -> str:

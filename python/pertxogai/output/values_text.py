@@ -39,5 +39,5 @@ def values_lines(drawing: Drawing) -> Iterator[str]:
     values = ", ".join(f"{each.name} = {each.quantity.text()}" for each in reckoned_values(drawing))
     if values:
         yield f"  values: {values}"
-    yield from (f"  a root in it is taken to thirty places: {drawing.called(each)}"
+    yield from (f"  a root in it is computed to thirty places: {drawing.called(each)}"
                 for each in rounded_roots(drawing))

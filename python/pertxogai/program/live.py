@@ -106,8 +106,8 @@ class LiveProgram:
         self._stop()
         status = _status(ended.code)
         if status is None:
-            raise ProgramCrashed(f"the program {ended.how()} at the end of the talk")
-        self.over = LiveEnded("the talk was ended: start another", status)
+            raise ProgramCrashed(f"the program {ended.how()} at the end of the session")
+        self.over = LiveEnded("the session was ended: start a new one", status)
         return status
 
     def __enter__(self) -> LiveProgram:
@@ -230,7 +230,7 @@ class LiveProgram:
             assert pipe is not None
             with suppress(OSError):
                 pipe.close()
-        self.over = self.over or LiveEnded("the talk is over: start another", None)
+        self.over = self.over or LiveEnded("the session is over: start a new one", None)
 
 
 def _status(code: int) -> Status | None:

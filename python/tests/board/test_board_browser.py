@@ -74,7 +74,7 @@ def _one_is_too_many(page: Page) -> None:
     page.select("C1.centre", "R1Right")
     page.ask("distance", "55")
     page.verdict("over")
-    page.tells("contradiction by 5")
+    page.tells("conflicting by 5")
 
 
 def _taken_away(page: Page, name: str) -> None:
@@ -94,7 +94,7 @@ def test_a_triangle_is_drawn_and_dimensioned_until_it_is_well(page: Page) -> Non
     page.press(260, 420)
     page.wait("three", "return document.querySelectorAll('.edges [data-name]').length === 3")
     page.verdict("open")
-    assert "Lacks 3 dimensions" in page.told()
+    assert "At least 3 dimensions" in page.told()
     page.keys("v")
     for name, value in (("S1", "50"), ("S2", "40"), ("S3", "45")):
         page.select(name)
@@ -117,7 +117,7 @@ def test_a_chain_that_is_kept_level_is_closed_level(page: Page) -> None:
 
 def test_one_too_many_is_taken_away_again(page: Page) -> None:
     page.begin(drawing("over-plate-contradiction"), "over")
-    page.tells("contradiction by 1 mm")
+    page.tells("conflicting by 1 mm")
     assert page.count(".marks .spare") >= 2
     _taken_away(page, "Top width")
     page.verdict("well")
@@ -126,7 +126,7 @@ def test_one_too_many_is_taken_away_again(page: Page) -> None:
 
 def test_of_two_taken_away_before_the_answer_one_goes(page: Page) -> None:
     page.begin(TRIANGLE + "length A 41\n", "over")
-    page.tells("contradiction by 1 mm")
+    page.tells("conflicting by 1 mm")
     with page.held("edit"):
         page.click("#verdict [data-spare] button")
         page.click("#verdict [data-spare]:last-child button")
@@ -408,7 +408,7 @@ def test_what_is_left_out_is_told_behind_a_drag(page: Page) -> None:
     page.settled()
     assert page.at("B.end") != pytest.approx(place, abs=1)
     page.let_go()
-    page.tells("contradiction by 1 mm")
+    page.tells("conflicting by 1 mm")
 
 
 def _dragged(page: Page, name: str) -> tuple[float, float]:

@@ -125,7 +125,7 @@ def test_a_linkage_is_whole_and_what_is_free_stands_out(page: Page) -> None:
     page.wait("what is free", "return document.querySelector('#pieces')")
     told = page.told()
     assert "1 degree of freedom (by numbers)." in told
-    assert "Certified by the program: 4 rigid pieces." in told
+    assert "Certified by the program: 4 rigid clusters." in told
     assert page.count(".edges .free") == 3 and page.count(".edges .shape") == 4
     assert page.count(".moves path") == 2, "the ends of the crank and of the rocker"
     (x, y), (u, v) = page.at("Crank.end"), page.at("Base.start")

@@ -107,13 +107,13 @@ def listed(lines: list[dict[str, object]], name: str) -> list[dict[str, object]]
 # What is left out, and by how much.
 
 @pytest.mark.parametrize("off, told", [
-    (LESS, "a contradiction by 1\u00a0mm, the others make it less"),
-    (" conflict off 2500000 nm", "a contradiction by 2.5\u00a0mm, the others make it more"),
+    (LESS, "conflicting by 1\u00a0mm, the others give less"),
+    (" conflict off 2500000 nm", "conflicting by 2.5\u00a0mm, the others give more"),
     (" conflict off 999999000000 nm",
-     "a contradiction by 999999\u00a0mm, the others make it more"),
-    (" repeat off 0 nm", "a repeat"),
-    (" repeat off 2 nm", "a repeat"),
-    (" repeat off -1000 nm", "a repeat, within 0.001\u00a0mm"),
+     "conflicting by 999999\u00a0mm, the others give more"),
+    (" repeat off 0 nm", "redundant"),
+    (" repeat off 2 nm", "redundant"),
+    (" repeat off -1000 nm", "redundant, within 0.001\u00a0mm"),
 ])
 def test_the_last_dimension_is_left_out(program, off: str, told: str) -> None:
     stands_in = LeavesOut(program, last(off))
@@ -175,20 +175,20 @@ def test_a_height_that_the_others_turn_over(program) -> None:
 
 
 @pytest.mark.parametrize("line, told", [
-    ("distance P2 Y 40", "a contradiction"),
-    ("distance P1 Y 40", "a contradiction by 1\u00a0mm, the others make it less"),
+    ("distance P2 Y 40", "conflicting"),
+    ("distance P1 Y 40", "conflicting by 1\u00a0mm, the others give less"),
 ])
 def test_what_several_say_is_told_without_an_amount(program, line: str, told: str) -> None:
     """One line is said by a length and by what is vertical, the other by the length alone."""
     text = drawing("over-equal-lengths")
     (each,) = left_out(text, LeavesOut(program, one_part({line: LESS}))).dimensions
-    assert excess_told(each).removeprefix("in part too much: ") == told
+    assert excess_told(each).removeprefix("in part ") == told
 
 
 def test_of_an_angle_no_amount_is_told() -> None:
-    assert excess_told(Excess(3, "angle A B 45deg", True)) == "a contradiction"
-    assert excess_told(Excess(3, "angle A B 45deg", False)) == "a repeat"
-    assert excess_told(Excess(3, "angle A B 45deg")) == "left out; not measured"
+    assert excess_told(Excess(3, "angle A B 45deg", True)) == "conflicting"
+    assert excess_told(Excess(3, "angle A B 45deg", False)) == "redundant"
+    assert excess_told(Excess(3, "angle A B 45deg")) == "redundant or conflicting; not measured"
 
 
 WAY = ("segment A 0 0 80 0\nsegment B A.end 80 30\npoint P 40 10\ncoincident A.start Origin\n"
@@ -199,8 +199,8 @@ WAY = ("segment A 0 0 80 0\nsegment B A.end 80 30\npoint P 40 10\ncoincident A.s
 def test_a_way_to_a_line_is_off_by_what_is_measured_of_it(program) -> None:
     lines = panel(WAY, program)
     (line,) = listed(lines, "left out")
-    assert line["text"] == "constraint 8 (distance P B 45): a contradiction by 5\u00a0mm"
-    assert "Or one of these may go instead:" in [each["text"] for each in lines]
+    assert line["text"] == "constraint 8 (distance P B 45): conflicting by 5\u00a0mm"
+    assert "Or remove one of these instead:" in [each["text"] for each in lines]
 
 
 def test_of_several_none_is_told_as_if_it_went_alone(program) -> None:
@@ -209,9 +209,9 @@ def test_of_several_none_is_told_as_if_it_went_alone(program) -> None:
     is measured beside the line."""
     lines = panel(WAY + "x P 42\n", program)
     assert [(each["text"], each["takes"]) for each in listed(lines, "left out")] == [
-        ("constraint 8 (distance P B 45): a contradiction", 8),
-        ("constraint 9 (x P 42): a contradiction by 2\u00a0mm, the others make it less", 9)]
-    assert "Or one of these may go instead of one of them:" in [each["text"] for each in lines]
+        ("constraint 8 (distance P B 45): conflicting", 8),
+        ("constraint 9 (x P 42): conflicting by 2\u00a0mm, the others give less", 9)]
+    assert "Or remove one of these instead of one of those:" in [each["text"] for each in lines]
 
 
 def test_of_two_lines_one_is_left_out(program) -> None:
@@ -223,7 +223,7 @@ def test_of_two_lines_one_is_left_out(program) -> None:
     (each,) = left_out(plate, stands_in).dimensions
     assert (each.number, each.in_part) == (number, True)
     (line,) = listed(panel(plate, stands_in), "left out")
-    assert line["text"].endswith(": in part too much: a repeat") and "takes" not in line
+    assert line["text"].endswith(": in part redundant") and "takes" not in line
 
 
 def test_what_is_known_to_go_as_a_whole_is_not_in_part(program) -> None:
@@ -253,8 +253,8 @@ def test_a_line_of_help_that_is_left_out_is_told(program) -> None:
     stands_in = LeavesOut(program, one_part({"on O X": " repeat off 0 nm"}))
     assert left_out(plate, stands_in) == TooMuch((), Rest.PLACED, 1)
     lines = [each["text"] for each in panel(plate, stands_in)]
-    assert lines[0] == "Too many dimensions. One of these may go:"
-    assert "A line of help is too much too." in lines
+    assert lines[0] == "Over-constrained. Remove one of these:"
+    assert "A construction line is redundant too." in lines
 
 
 # What becomes of the others.
@@ -270,17 +270,17 @@ def test_what_boxes_do_not_place_is_asked_by_points(program) -> None:
 
 
 @pytest.mark.parametrize("end, rest, head", [
-    (FLAT, Rest.NO_PLACES, "Without these they are just enough, but have no places:"),
-    ("stays over\n", Rest.OVER, "Without these there are too many still:"),
+    (FLAT, Rest.NO_PLACES, "Without these the others are fully constrained, but can't be placed:"),
+    ("stays over\n", Rest.OVER, "Without these the others are still over-constrained:"),
 ])
 def test_others_without_places(program, end: str, rest: Rest, head: str) -> None:
     stands_in = LeavesOut(program, last("", end))
     found = left_out(TRIANGLE, stands_in)
     assert found.rest is rest and found.dimensions[0].conflicts is None
     lines = panel(TRIANGLE, stands_in)
-    assert lines[0]["text"] == f"Too many dimensions. {head}"
+    assert lines[0]["text"] == f"Over-constrained. {head}"
     (line,) = listed(lines, "left out")
-    assert line["text"].endswith(": left out; not measured") and line["takes"] == 4
+    assert line["text"].endswith(": redundant or conflicting; not measured") and line["takes"] == 4
 
 
 def test_of_others_without_places_the_next_choice_is_taken(program) -> None:
@@ -329,7 +329,7 @@ def test_none_is_left_out_of_what_stays_over(program) -> None:
     stands_in = LeavesOut(program, one_part({}, "stays over\n"))
     assert left_out(TRIANGLE, stands_in) == TooMuch((), Rest.OVER)
     lines = panel(TRIANGLE, stands_in)
-    assert lines[0]["text"] == "Too many dimensions. One of these may go:"
+    assert lines[0]["text"] == "Over-constrained. Remove one of these:"
     assert listed(lines, "spare constraints") and not listed(lines, "left out")
 
 
@@ -353,12 +353,12 @@ def test_it_stands_in_the_list_with_its_button(program) -> None:
     desk = Desk(LeavesOut(program, last(LESS)))
     at_once = desk.answer("judge", {"text": TRIANGLE})["judgement"]
     assert at_once["verdict"] == "over" and at_once["excess"] == []
-    assert at_once["lines"][0]["text"] == "Too many dimensions. One of these may go:"
+    assert at_once["lines"][0]["text"] == "Over-constrained. Remove one of these:"
     found = desk.answer("weigh", {"text": TRIANGLE})
     assert found["lines"][0]["text"] == (
-        "Too many dimensions. Without these, the others can be placed:")
+        "Over-constrained. Without these the others can be placed:")
     (line,) = listed(found["lines"], "left out")
-    assert line["takes"] == 4 and "(distance A.start A.end 51): a contradiction by" in line["text"]
+    assert line["takes"] == 4 and "(distance A.start A.end 51): conflicting by" in line["text"]
     others = [each["takes"] for each in listed(found["lines"], "spare constraints")]
     assert 4 not in others and 2 in others
     assert [(each["number"], each["conflicts"]) for each in found["excess"]] == [(4, True)]
@@ -378,8 +378,8 @@ def test_the_verdict_stays_where_excess_fails(program, answer: Answer | Exceptio
     found = desk.answer("weigh", {"text": TRIANGLE})
     assert found["excess"] == [] and [each["number"] for each in found["spare"]] == [2, 4]
     lines = [each["text"] for each in found["lines"]]
-    assert lines[0] == "Too many dimensions. One of these may go:"
-    (untold,) = [each for each in lines if each.startswith("What is left out can’t be told: ")]
+    assert lines[0] == "Over-constrained. Remove one of these:"
+    (untold,) = [each for each in lines if each.startswith("The program gives no set to remove: ")]
     assert why in untold and "\n" not in untold
 
 
@@ -408,9 +408,9 @@ def test_what_is_left_out_is_told_where_what_may_go_cannot_be_measured(program) 
     assert [(each["number"], each["conflicts"]) for each in found["excess"]] == [(4, True)]
     assert [(each["number"], each["off"]) for each in found["spare"]] == [(2, None), (4, None)]
     (line,) = listed(found["lines"], "spare constraints")
-    assert line["text"].endswith(": may go")
+    assert line["text"].endswith(": removable")
     lines = [each["text"] for each in found["lines"]]
-    assert "What may go can’t be measured: it took more than 60 s" in lines
+    assert "The removable dimensions can’t be measured: it took more than 60 s" in lines
     assert tires.refused == 1
 
 
@@ -419,7 +419,7 @@ def test_what_could_not_be_spelled_is_not_called_left_out(program) -> None:
             "distance A C 8\ndistance B C 9\ndistance M C 7\n")
     lines = Desk(program).answer("judge", {"text": text})["judgement"]["lines"]
     assert [each["text"] for each in lines if each.get("kind") == "note"] == [
-        "couldn’t be spelled: Half"]
+        "not passed to the program: Half"]
 
 
 # The program itself.
@@ -442,7 +442,7 @@ def test_of_an_angle_that_contradicts_two_others(program) -> None:
     (found,) = left_out(text, program).dimensions
     assert (found.number, found.conflicts) == (4, True)
     (line,) = listed(panel(text, program), "left out")
-    assert line["text"].endswith("a contradiction by 0.0048\u00a0mm")
+    assert line["text"].endswith("conflicting by 0.0048\u00a0mm")
 
 
 BEHIND = "point P 10 0\ny P 0\nx P -20\n"
@@ -476,15 +476,15 @@ def test_of_what_is_told_on_the_other_side(program, text: str, off_mm: list[floa
 
 def test_a_row_on_the_other_side_is_told_by_how_much(program) -> None:
     (line,) = listed(panel("point A 0 20\nfixed A\ny A -20\n", program), "left out")
-    assert line["text"] == ("constraint 2 (y A -20): a contradiction by 40\u00a0mm, "
-                            "the others make it more")
+    assert line["text"] == ("constraint 2 (y A -20): conflicting by 40\u00a0mm, "
+                            "the others give more")
 
 
 def test_of_a_row_that_repeats_itself(program) -> None:
     row = drawing("over-hole-row")
     found = left_out(row, program)
     assert found.rest is Rest.PLACED
-    assert [excess_told(each) for each in found.dimensions] == ["a repeat"]
+    assert [excess_told(each) for each in found.dimensions] == ["redundant"]
 
 
 # What is open, and says too much or what has no shape.
@@ -502,16 +502,16 @@ def test_what_is_open_and_says_too_much_says_so(program) -> None:
             (6, 7, 37), (7, 4, 32), (4, 6, 52), (0, 4, 61), (1, 5, 71), (2, 6, 70), (3, 7, 63)]
     text = "".join([*(f"point P{number} {place}\n" for number, place in enumerate(places)),
                     *(f"B{one}{other}: distance P{one} P{other} {long}\n" for one, other, long in bars)])
-    (line,) = [each for each in told(text, "judge", program) if str(each).startswith("One is too many")]
-    assert line.startswith("One is too many all the same, by rank, of: B01, B12, ")
+    (line,) = [each for each in told(text, "judge", program) if str(each).startswith("One of these is redundant all")]
+    assert line.startswith("One of these is redundant all the same, by rank: B01, B12, ")
 
 
 def test_what_is_open_and_has_no_shape_says_so_once_it_is_weighed(program) -> None:
     """A chain of 40, 30 and 40 doesn't reach over 200."""
     text = ("segment S 0 0 40 1\nsegment T S.end 40 30\nsegment U T.end 2 31\nsegment V U.end S.start\n"
             "A: length S 40\nB: length T 30\nC: length U 40\nD: length V 200\nangle S U 10deg\n")
-    said = ("No shape is found near the drawn one that has these values, by numbers. Without one of "
-            "these there is one: A, B, C, D.")
+    said = ("No shape with these values was found near the drawing, by numbers. Without any one of "
+            "these a shape is found: A, B, C, D.")
     assert said in told(text, "weigh", program)
 
 
@@ -521,12 +521,12 @@ def test_what_is_well_and_says_too_much_does_not_say_that_it_is_just_enough(prog
     text = ("segment S -18 26.2 30 39\npoint P 6.2 33\npoint Q 5.8 33.3\nmidpoint P S\n"
             "Yours: midpoint Q S\nRight: x Q 6\nUp: y Q 33\nLong: length S 50\n"
             "Far: distance S.end Origin 50\n")
-    more = "One is too many all the same, by rank, of: Yours, Right, Up, Long, Far, End."
+    more = "One of these is redundant all the same, by rank: Yours, Right, Up, Long, Far, End."
     lines = told(text, "judge", program)
     assert more not in lines
-    assert any(str(each).startswith("Just as many dimensions as fix it. ") for each in lines)
+    assert any(str(each).startswith("Fully constrained. ") for each in lines)
     lines = told(text + "End: x S.end +30\n", "judge", program)
-    assert more in lines and not any(str(each).startswith("Just") for each in lines)
+    assert more in lines and not any(str(each).startswith("Fully constrained.") for each in lines)
 
 
 def test_what_a_near_ratio_makes_too_much_is_no_contradiction_beside_others(program: Program) -> None:
@@ -539,7 +539,7 @@ def test_what_a_near_ratio_makes_too_much_is_no_contradiction_beside_others(prog
     judged = judge(drawing, program)
     across, long = (Excess(each.number, each.name, True, Fraction(3)) for name in ("Across", "Long")
                     for each in judged.surplus if each.name == name)
-    assert "contradiction" in excess_told(across)
-    assert excess_told(across, rounded_of(judged, across)).startswith("a repeat")
+    assert "conflicting" in excess_told(across)
+    assert excess_told(across, rounded_of(judged, across)).startswith("redundant")
     assert excess_told(long, rounded_of(judged, long)).startswith("off by 0.0009")
-    assert "; rounding moves it by 0.00" in excess_told(long, rounded_of(judged, long))
+    assert ", which rounding changes by up to 0.00" in excess_told(long, rounded_of(judged, long))

@@ -40,7 +40,7 @@ def test_what_is_good_is_told_as_good(program: Program) -> None:
 
 @pytest.mark.parametrize("text, told, number", [
     (WIDE, "constraint 3 (angle A B 120deg) is off by 180 degrees", 3),
-    (UNSIZED, "nothing tells the size of Hole", None)])
+    (UNSIZED, "no size is given for Hole", None)])
 def test_what_is_well_and_not_good_is_told_with_its_reason(
         program: Program, text: str, told: str, number: int | None) -> None:
     found = judged(program, text)
@@ -48,7 +48,7 @@ def test_what_is_well_and_not_good_is_told_with_its_reason(
     (line,) = lines(found, "what isn’t met")
     assert line["text"] == told and line.get("constraint") == number
     told_first = found["lines"][0]["text"]
-    assert told_first == "The count is right, and it is placed, but not all is met or told:"
+    assert told_first == "Fully constrained and placed, but not good:"
 
 
 def test_what_is_left_out_of_a_file_is_told_until_it_is_done(program: Program) -> None:
@@ -70,7 +70,7 @@ def test_it_is_told_also_behind_an_edit(program: Program) -> None:
 
 @pytest.mark.parametrize("call", ["dxf", "program-dxf"])
 @pytest.mark.parametrize("text, left_out, why", [
-    (WIDE, [], "is off by 180 degrees"), (UNSIZED, [], "nothing tells the size of Hole"),
+    (WIDE, [], "is off by 180 degrees"), (UNSIZED, [], "no size is given for Hole"),
     (PLATE, [ELLIPSE], "left out of the file: Ellipse9")])
 def test_no_dxf_is_written_of_what_is_not_good(
         program: Program, call: str, text: str, left_out: list[str], why: str) -> None:
@@ -116,6 +116,6 @@ def test_of_what_no_choice_meets_it_is_told_how_many_were_tried(program: Program
     """On one side of A B, C and D are still more than 2 mm apart."""
     text = TURNED.replace("C E 2", "C E 1").replace("D E 2", "D E 1")
     told = [str(each["text"]) for each in Desk(program).answer("weigh", {"text": text})["lines"]]
-    (line,) = [each for each in told if each.startswith("No other choice of its steps will do: ")]
-    assert line.endswith(" were tried, all of them.")
+    (line,) = [each for each in told if each.startswith("No alternative solution meets them (")]
+    assert line.endswith(" tried, all there are).")
     assert any("mm too short to meet" in each for each in told)

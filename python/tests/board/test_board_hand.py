@@ -161,7 +161,7 @@ def test_what_is_over_is_weighed_one_after_the_other(page: Page) -> None:
     asked = ("return performance.getEntriesByType('resource')"
              ".filter((each) => each.name.endsWith('call/weigh')).length")
     page.begin(OVER, "over")
-    page.tells("contradiction")
+    page.tells("conflicting")
     before = page.driver.execute_script(asked)
     page.select("A")
     with page.held("weigh"):
@@ -170,7 +170,7 @@ def test_what_is_over_is_weighed_one_after_the_other(page: Page) -> None:
             page.keys(Keys.ALT + Keys.ARROW_RIGHT)
             wait_for("an edit", lambda: page.text() != text)  # noqa: B023
         assert page.driver.execute_script(asked) <= before + 1
-    page.tells("contradiction")
+    page.tells("conflicting")
 
 
 def test_places_that_make_no_figure_are_told(page: Page) -> None:
@@ -243,7 +243,7 @@ def test_the_focus_stays_in_the_verdict(page: Page) -> None:
     focus(page, "#verdict [data-spare] button")
     label = page.driver.execute_script(FOCUSED).get_attribute("aria-label")
     page.driver.execute_script("window.weighs()")
-    page.tells("contradiction")
+    page.tells("conflicting")
     assert page.driver.execute_script(FOCUSED).get_attribute("aria-label") == label
     page.driver.execute_script(FOCUSED).send_keys(Keys.ENTER)
     page.verdict("well")

@@ -117,9 +117,9 @@ def test_a_group_is_dragged(page: Page, at) -> None:
 def test_delete_tells_what_goes_with_it(page: Page, at) -> None:
     page.select("A")
     page.wait("what goes", "return document.getElementById('erase').title"
-                           " === 'Takes away A; with it: length A 40 (Delete)'")
+                           " === 'Deletes A; with it: length A 40 (Delete)'")
     page.keys(Keys.DELETE)
-    wait_for("it is told", lambda: "Takes away A; with it: length A 40. Ctrl+Z" in (
+    wait_for("it is told", lambda: "Deletes A; with it: length A 40. Ctrl+Z" in (
         page.told("hint")))
     assert "segment A" not in page.text() and "length" not in page.text()
     page.click("#undo")

@@ -297,9 +297,10 @@ def test_what_is_free_and_where_to_it_moves_is_told(client) -> None:
     assert move["point"] == "Crank.end" and x * move["dx"] + y * move["dy"] == pytest.approx(
         0, abs=1e-4)
     told = [each["text"] for each in judgement["lines"]]
-    assert told[:2] == [
-        "1 degree of freedom (by numbers).", "Lacks 1 dimension at least, by rank."]
-    assert "Certified by the program: 2 rigid pieces." in told
+    assert told[:3] == [
+        "Under-constrained, or rigid in a way that the program doesn’t find.",
+        "1 degree of freedom (by numbers).", "At least 1 dimension is missing, by rank."]
+    assert "Certified by the program: 2 rigid clusters." in told
 
 
 def test_a_moment_later_it_is_told_what_the_program_constructs(client) -> None:
@@ -481,7 +482,7 @@ def test_a_picture_of_what_has_no_places_tells_the_programs_counts(client) -> No
     text = ("segment A 0 0 10 0\nsegment B A.end 3 8\nsegment C B.end A.start\n"
             "length A 40\nlength B 36\nlength C 3\n")
     found = answer(client, "svg", text=text, name="no-triangle")
-    assert "elements 3, constraints 3, parts 1" in found["svg"]
+    assert "constraints 3, rigid clusters 1" in found["svg"]
 
 
 @pytest.mark.parametrize("name", ["open-hinge", "no-triangle"])
@@ -490,7 +491,7 @@ def test_what_has_no_places_is_no_dxf_of_the_program(client, name) -> None:
         "segment A 0 0 10 0\nsegment B A.end 3 8\nsegment C B.end A.start\n"
         "length A 40\nlength B 36\nlength C 3\n")
     found = answer(client, "program-dxf", text=text)
-    why = "it is open" if name == "open-hinge" else "it has no places"
+    why = "it is open" if name == "open-hinge" else "it can't be placed as drawn"
     assert "dxf" not in found
     assert found["trouble"]["message"] == f"no DXF is written of what isn't good: {why}"
 
@@ -510,7 +511,7 @@ def test_files_are_opened(client) -> None:
 def test_a_refused_sketch_says_what_to_do(client) -> None:
     data = base64.b64encode(b"sketch 1\npoint A 0 0\npiont B 1 1\nend\n").decode()
     told = answer(client, "open", name="part.sketch", data=data)["trouble"]["message"]
-    assert told.startswith("part.sketch: refused line 3 E2 word: 'piont B 1 1': look for a slip")
+    assert told.startswith("part.sketch: refused line 3 E2 word: 'piont B 1 1': check the first word")
 
 
 def test_constraints_that_are_known_arent_told_again(client) -> None:

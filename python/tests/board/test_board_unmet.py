@@ -10,7 +10,7 @@ from test_board_good import PLATE, TURNED, WIDE
 
 def test_a_constraint_that_isnt_met_is_named_and_marked(page: Page) -> None:
     page.begin(WIDE, "unmet")
-    assert "well, and not good" in page.told()
+    assert "well, but not good" in page.told()
     assert "constraint 3 (angle A B 120deg) is off by 180 degrees" in page.told()
     assert page.count(".marks .blamed") == page.count(".marks [data-constraint='3']") == 1
     page.click("#export summary")

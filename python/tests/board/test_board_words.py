@@ -175,7 +175,7 @@ x S.start -20
 def test_two_heights_that_are_further_apart_than_the_points(
         program: Program, y: int, apart: int, told: str) -> None:
     lines = told_of(program, BESIDE.format(y, apart)).replace("\u00a0", " ")
-    assert told in lines and "Q has no place" in lines
+    assert told in lines and "Q can’t be placed" in lines
 
 
 def test_circles_that_are_nearer_than_a_line_between_them_allows(program: Program) -> None:
@@ -192,7 +192,7 @@ def test_a_step_that_has_no_other_shape_is_told_in_words(program: Program) -> No
     number = next(each["number"] for each in construction["steps"] if each["choice"] == "none")
     found = desk.answer("flips", {"text": text, "steps": [number]})
     assert found == {"trouble": {
-        "kind": "flip", "message": "this step has no choice that could be turned over"}}
+        "kind": "flip", "message": "this step has no choice that could be flipped"}}
 
 
 # What an open drawing lacks, and within what a drawing is placed.
@@ -215,17 +215,18 @@ no triangle."""
 
 @pytest.mark.parametrize("text, first", [
     ("segment S 10 0 10 10\non S.start XAxis\nvertical S\nlength S 10\n",
-     "It isn’t tied to the datum: the whole may still be moved along x, by rank."),
+     "Not tied to the origin and the axes: the whole can still be moved along x, by rank."),
     ("segment S 10 0 10 10\non S.start XAxis\nvertical S\n",
-     "Lacks 1 dimension at least, by rank."),
-    (UTILITIES + TIES, "It doesn’t hold together by triangles."),
-    (UTILITIES, "It isn’t tied to the datum: the whole may still be moved and turned, by rank."),
+     "At least 1 dimension is missing, by rank."),
+    (UTILITIES + TIES, "It isn’t built of triangles, so the program can’t prove it rigid."),
+    (UTILITIES, "Not tied to the origin and the axes: the whole can still be moved and turned, by rank."),
 ])
 def test_what_an_open_drawing_lacks_is_told_first(program: Program, text: str, first: str) -> None:
     """Behind how many degrees of freedom it has, where a shape is found."""
-    lines = told(program, text)
+    gloss, *lines = told(program, text)
+    assert gloss == "Under-constrained, or rigid in a way that the program doesn’t find."
     assert (lines[1] if "freedom (by numbers" in lines[0] else lines[0]) == first
-    assert ("It doesn’t hold together by triangles." in lines) is (text == UTILITIES + TIES)
+    assert ("It isn’t built of triangles, so the program can’t prove it rigid." in lines) is (text == UTILITIES + TIES)
 
 
 class Coarse:

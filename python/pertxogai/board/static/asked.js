@@ -54,7 +54,7 @@ export class Asked {
     const rows = (drawing?.constraints ?? []).map((each) => this.row(
       each, spare.has(each.number) || told.has(each.number), told.get(each.number) ?? ''));
     this.layer.show(rows.length ? rows : [['none', 'li', { class: 'quiet' },
-      'Nothing is asked for yet: select something on the board.']]);
+      'No constraints yet: select something on the board.']]);
     const had = selects ?? takes;
     if (had && document.activeElement === document.body) this.focus(Number(had));
   }
@@ -71,7 +71,7 @@ export class Asked {
     const kind = `what ${isSpare ? 'spare' : ''} ${isSelected ? 'selected' : ''}`;
     const text = `${number}  ${name ? `${name}: ` : ''}${words}${told}`;
     return [number, 'li', {}, ['button', { class: kind, 'data-selects': number }, text],
-      ['button', { 'aria-label': `take away ${called}`, title: 'take it away',
+      ['button', { 'aria-label': `remove ${called}`, title: 'remove it',
         'data-takes': number }, '×']];
   }
 

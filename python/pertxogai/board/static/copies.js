@@ -21,7 +21,7 @@ const NEAR_LINE = 8;
 /** Within this slope a row is level or upright. */
 const LEVEL = Math.tan(5 * Math.PI / 180);
 const AXES = { XAxis: /** @type {Place} */ ([1, 0]), YAxis: /** @type {Place} */ ([0, 1]) };
-const NONE = 'Select the shapes first that are to be drawn again.';
+const NONE = 'Select the shapes first.';
 
 /** The shapes that are drawn again, and the text that has them. */
 export class Clip {

@@ -7,8 +7,8 @@
 export const JUST_JUDGED = 'The drawing is being judged: drag again in a moment.';
 const DATUM_STAYS = 'The datum stays where it is.';
 const ROUGHLY = 'Hold Alt to move only where it is drawn.';
-const STAYS = 'It stays: a dead point, or the end of its way. It goes no farther there; F goes '
-  + 'through to the other shape.';
+const STAYS = 'It stops: a dead point, or the end of its range. Press F to go through to the '
+  + 'other shape.';
 
 /**
  * Why nothing follows a hand: the datum itself stays, and all of what is placed.

@@ -89,10 +89,10 @@ export class Files {
   async take({ text, name, left_out: out, aside }) {
     await this.begin(text, name, out);
     const lines = [...out.map((each) => `left out: ${each}`),
-      ...aside.map((each) => `not asked for: ${each}`)];
+      ...aside.map((each) => `doesn’t constrain the sketch: ${each}`)];
     if (!lines.length) return;
     const list = html('ul', {}, ...lines.map((each) => html('li', {}, each)));
-    told('What the drawing can’t say of the file', list);
+    told('What of the file isn’t in the drawing', list);
   }
 
   /** Lets a drawing be chosen to begin from. */

@@ -13,7 +13,7 @@ const KEY = 'pertxogai.drawing';
 const ASIDE = 'pertxogai.aside';
 const MOST_ASIDE = 12;
 const OTHER_TAB = 'The board is open in another tab too. Each tab has its own drawing; the one '
-  + 'that was changed last is shown anew, the other stands in the gallery.';
+  + 'that was changed last is shown again; the other is in the gallery.';
 const KEEPS_NOTHING = 'This browser keeps nothing: save the drawing before you close the page.';
 
 /** Keeps the drawing in this browser. */

@@ -261,7 +261,7 @@ export class Offers {
 function goingTold({ things, going }) {
   const more = going.length > MOST_TOLD ? `, and ${going.length - MOST_TOLD} more` : '';
   const told = going.length ? `; with it: ${going.slice(0, MOST_TOLD).join(', ')}${more}` : '';
-  return `Takes away ${things.join(', ')}${told}`;
+  return `Deletes ${things.join(', ')}${told}`;
 }
 
 /**

@@ -29,7 +29,7 @@ export class Pointing {
     if (typeof thing === 'string') return [this.marked(thing), this.label(thing, pixels)];
     if (typeof thing !== 'number') return [];
     const constraint = this.constraint(thing);
-    if (!constraint) return [this.label('only measured, and asks nothing', pixels)];
+    if (!constraint) return [this.label('a reference dimension, only measured', pixels)];
     const group = this.group(thing);
     const about = group.length ? `${constraint.called}: follows from ${
       group.map((each) => each.called).join(', ')}` : constraint.called;

@@ -45,7 +45,7 @@ export class Sheet {
     const told = await typed('scale', scaleText(fitting), [width / 2, height / 3]);
     if (told === null) return;
     const scale = scaleOf(told);
-    if (!scale) this.tell(`'${told}' is no scale: write one as 1:2 or 2:1`, 'trouble');
+    if (!scale) this.tell(`'${told}' isn’t a scale: write one as 1:2 or 2:1`, 'trouble');
     else if (this.make(scale)) window.print();
   }
 

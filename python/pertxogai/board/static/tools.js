@@ -23,9 +23,9 @@ import { apart } from './shapes.js';
 const HINTS = {
   select: ['Click selects, Shift adds, dragging moves. Drag on the empty board for a box; the '
     + 'right button pans, the wheel zooms.'],
-  point: ['Point: click where it lies.'],
-  segment: ['Segment: click its start. A point that stands is shared.',
-    'Click its end; Shift keeps it level or upright, Ctrl leaves out what is guessed. Escape ends '
+  point: ['Point: click its position.'],
+  segment: ['Segment: click its start. An existing point is shared.',
+    'Click its end; Shift keeps it horizontal or vertical, Ctrl leaves out guesses. Escape ends '
     + 'the chain.'],
   rectangle: ['Rectangle: click a corner.', 'Click the opposite corner.'],
   'centre-rectangle': ['Rectangle: click its centre.', 'Click a corner.'],
@@ -37,13 +37,13 @@ const HINTS = {
     'Click its other end.'],
   slot: ['Slot: click the centre of one end.', 'Click the centre of the other end.',
     'Click a place on its side.'],
-  trim: ['Trim: click the piece of an edge that is to go, between what crosses it.'],
-  extend: ['Extend: click a segment near the end that is to go on to the next edge.'],
+  trim: ['Trim: click the piece of an edge to remove, between what crosses it.'],
+  extend: ['Extend: click a segment near the end to extend to the next edge.'],
   mirror: ['Mirror: click the segment or the axis to mirror about.'],
   row: ['Row: click where the first copy goes; the bar above says how many there are in all. Ctrl '
-    + 'leaves out level and upright.'],
+    + 'leaves out horizontal and vertical.'],
   ring: ['Ring: click the centre; the bar above says how many there are in all.'],
-  offset: ['Offset: click on the side where the outline beside this one goes.'],
+  offset: ['Offset: click on the side where the offset outline goes.'],
   paste: ['Paste: click where it goes.'],
 };
 /** @type {Cut[]} */

@@ -5,7 +5,7 @@ import { html, colourOf } from './nodes.js';
 /** @typedef {import('./protocol').Judged} Judged */
 /** @typedef {import('./protocol').Line} Line */
 
-const EMPTY = 'Draw with the tools above the board, begin from the gallery, or write in the text '
+const EMPTY = 'Draw with the tools above the board, start from the gallery, or write in the text '
   + 'below.';
 
 /** Shows the judgement of each answer, line by line as the server tells it. */
@@ -39,7 +39,7 @@ export class Verdict {
    */
   other(detail) {
     const ask = () => this.node.dispatchEvent(new CustomEvent('other', { detail }));
-    return html('p', {}, ['span', {}, 'It stopped at a dead point, or at the end of its way. '],
+    return html('p', {}, ['span', {}, 'It stopped at a dead point, or at the end of its range. '],
       ['button', { id: 'other-shape', onclick: ask }, 'The other shape']);
   }
 
@@ -72,7 +72,7 @@ export class Verdict {
         board.byPieces = !board.byPieces;
         button.ariaPressed = String(board.byPieces);
         board.draw();
-      } }, 'Pieces by colour');
+      } }, 'Clusters by colour');
     return button;
   }
 
@@ -110,9 +110,9 @@ export class Verdict {
   item({ text, part, takes, forgets, ...line }) {
     const erase = () => this.paper.edit({ do: 'erase', constraints: [takes ?? 0] });
     const take = takes && html('button', {
-      onclick: erase, 'aria-label': `take away ${text.split(': ')[0]}` }, 'Take away');
+      onclick: erase, 'aria-label': `remove ${text.split(': ')[0]}` }, 'Remove');
     const forget = forgets && html('button', {
-      onclick: () => this.paper.forget(forgets), title: 'it is drawn, or isn’t wanted',
+      onclick: () => this.paper.forget(forgets), title: 'don’t show this line any more',
       'aria-label': `done: ${text}` }, 'Done');
     const chip = part && html('i', { class: 'chip', '--colour': colourOf(part) });
     return html('li', { 'data-spare': takes }, chip, this.told({ text, ...line }), take, forget);
@@ -143,7 +143,7 @@ function told({ refused, trouble, judgement }) {
   if (trouble) return ['trouble', 'not judged', [{ text: trouble.message }]];
   if (!judgement) return ['empty', 'empty', [{ kind: 'quiet', text: EMPTY }]];
   const { failure, verdict, good, lines } = judgement;
-  if (failure) return ['fault', 'well, and no places', lines];
-  if (verdict === 'well' && !good) return ['unmet', 'well, and not good', lines];
+  if (failure) return ['fault', 'well, but can’t be placed', lines];
+  if (verdict === 'well' && !good) return ['unmet', 'well, but not good', lines];
   return [verdict, verdict, lines];
 }

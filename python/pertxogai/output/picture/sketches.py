@@ -99,9 +99,9 @@ def _once(marks: Sequence[Mark]) -> tuple[Mark, ...]:
 def _legend(line: str, shape: object) -> str:
     head, _, names = line.strip().partition(" : ")
     words = head.split()
-    state = f"holds {words[6]}, due {words[8]}"
+    state = f"over-constrained, constraints {words[6]}, required {words[8]}"
     if words[2] == "sound":
-        state = "placed" if isinstance(shape, Solved) else "as drawn, has no places"
+        state = "placed" if isinstance(shape, Solved) else "can't be placed, shown as drawn"
     names = names if len(names) <= 60 else names[:57] + ".."
     return f"part {words[1]}, {state}: {names}"
 
@@ -109,7 +109,8 @@ def _legend(line: str, shape: object) -> str:
 def _spare_legend(spare: Sequence[Spare]) -> Iterator[tuple[str, Ink]]:
     if spare:
         names = ", ".join(f"c{it.number}" for it in spare)
-        yield f"each by itself may go: {names if len(names) <= 60 else names[:57] + '..'}", SPARE
+        shown = names if len(names) <= 60 else names[:57] + ".."
+        yield f"removable, each by itself: {shown}", SPARE
 
 
 @dataclass(frozen=True)
