@@ -33,11 +33,13 @@ def asking(drawing: Drawing, words: list[str]) -> Drawing:
 
 
 def valued(drawing: Drawing, constraint: Constraint, value: str) -> Constraint:
-    """A constraint with another value, as it is written. Raises WordFault."""
+    """A constraint with another value, as it is written; it keeps its tolerance where none is
+    written behind that. Raises WordFault."""
     if not isinstance(constraint, VALUED):
         raise WordFault(words_of(constraint), "has no value that could be changed")
     (found,) = asked(drawing, [*asked_of(constraint), *value_word(value).split()])
-    return replace(found, name=constraint.name)
+    assert isinstance(found, VALUED)
+    return replace(found, name=constraint.name, tolerance=found.tolerance or constraint.tolerance)
 
 
 def drawn(shapes: tuple[Shape, ...], words: list[str]) -> Expansion:

@@ -19,7 +19,8 @@ def without(drawing: Drawing, shapes: frozenset[str], numbers: frozenset[int]) -
             if number not in numbers and not shapes.intersection(named(each))]
     said = tuple(drawing.constraints[number - 1] for number in asks)
     notes = tuple(_notes(drawing, shapes, frozenset(asks)))
-    return replace(drawing, geometry=kept, constraints=said, notes=notes)
+    checks = drawing.tolerancing.without(shapes)
+    return replace(drawing, geometry=kept, constraints=said, notes=notes, tolerancing=checks)
 
 
 @dataclass(frozen=True)

@@ -20,6 +20,9 @@ from pertxogai.drawing.refusal import DrawingRefusal, DrawingUnsound, WordFault
 from pertxogai.drawing.senses import Slope, Touch, Turn, run_um, touch, turn, way
 from pertxogai.drawing.shorthands import Expansion, polyline, rectangle
 from pertxogai.drawing.soundness import checked, ends_made_one, faults
+from pertxogai.drawing.tolerances.check import Check, Tolerancing
+from pertxogai.drawing.tolerances.iso2768 import GeneralTolerance, Grade
+from pertxogai.drawing.tolerances.tolerance import Tolerance
 from pertxogai.drawing.values.expression import Expression
 from pertxogai.drawing.values.parameters import Dimension, NamedValue, Parameter, Unit, parameters
 from pertxogai.drawing.values.parsing import read_expression
@@ -30,20 +33,20 @@ from pertxogai.drawing.values.table import Value
 from pertxogai.drawing.wording import asked_of, line_of, value_text, words_of
 from pertxogai.drawing.writing import write_drawing
 
-__all__ = ["Anchor", "AngleBetween", "AngleValue", "Arc", "Axis", "Circle", "Coincident",
+__all__ = ["Anchor", "AngleBetween", "AngleValue", "Arc", "Axis", "Check", "Circle", "Coincident",
            "Collinear", "Concentric", "Constraint", "DATUM_NAMES", "Datum", "Degrees", "Diameter",
            "Dimension", "Distance", "Drawing", "DrawingRefusal", "DrawingUnsound", "Equal",
-           "Expansion", "Expression", "Fixed", "Horizontal", "Length", "Meetings", "Midpoint",
-           "NamedShapes", "NamedValue", "Note", "ORIGIN", "Origin", "Pair", "Parallel",
-           "ParallelDistance", "Parameter", "Perpendicular", "Place", "Point", "PointLineDistance",
-           "PointOn", "PointRef", "Quantity", "Radius", "Ratio", "ReckonedValue", "Segment",
-           "Sense", "Shape", "ShapeRef", "Slope", "Symmetric", "Tangent", "Touch", "Turn", "Unit",
-           "VALUED", "Value", "Valued", "Vertical", "Which", "WordFault", "XDistance", "X_AXIS",
-           "YDistance", "Y_AXIS", "asked_of", "checked", "ends_made_one", "faults", "line_of",
-           "moved", "parameters", "place_mm", "points_of", "polyline", "read_drawing",
-           "read_expression", "reckoned_values", "rectangle", "rounded_roots", "run_um", "spot_of",
-           "touch", "turn", "um_of_mm", "value_text", "way", "with_values", "words_of",
-           "write_drawing"]
+           "Expansion", "Expression", "Fixed", "GeneralTolerance", "Grade", "Horizontal", "Length",
+           "Meetings", "Midpoint", "NamedShapes", "NamedValue", "Note", "ORIGIN", "Origin", "Pair",
+           "Parallel", "ParallelDistance", "Parameter", "Perpendicular", "Place", "Point",
+           "PointLineDistance", "PointOn", "PointRef", "Quantity", "Radius", "Ratio",
+           "ReckonedValue", "Segment", "Sense", "Shape", "ShapeRef", "Slope", "Symmetric",
+           "Tangent", "Tolerance", "Tolerancing", "Touch", "Turn", "Unit", "VALUED", "Value",
+           "Valued", "Vertical", "Which", "WordFault", "XDistance", "X_AXIS", "YDistance", "Y_AXIS",
+           "asked_of", "checked", "ends_made_one", "faults", "line_of", "moved", "parameters",
+           "place_mm", "points_of", "polyline", "read_drawing", "read_expression",
+           "reckoned_values", "rectangle", "rounded_roots", "run_um", "spot_of", "touch", "turn",
+           "um_of_mm", "value_text", "way", "with_values", "words_of", "write_drawing"]
 
 if not TYPE_CHECKING:
     from pertxogai._former import former_names

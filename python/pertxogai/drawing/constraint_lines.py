@@ -3,6 +3,7 @@
 from __future__ import annotations
 
 from collections.abc import Callable, Iterable
+from dataclasses import replace
 from enum import Enum
 
 from pertxogai.drawing.checks import check_line
@@ -109,14 +110,14 @@ def _read_valued(word: ConstraintWord, words: Cursor, name: str | None) -> Itera
         case ConstraintWord.X | ConstraintWord.Y:
             return (_read_run(word, words, name),)
         case ConstraintWord.LENGTH:
-            return _sizes(words, lambda shape, it: Length(shape, it.value_um, name,
-                                                          expression=it.expression))
+            return _sizes(words, lambda shape, it: Length(
+                shape, it.value_um, name, expression=it.expression, tolerance=it.tolerance))
         case ConstraintWord.RADIUS:
-            return _sizes(words, lambda shape, it: Radius(shape, it.value_um, name,
-                                                          expression=it.expression))
+            return _sizes(words, lambda shape, it: Radius(
+                shape, it.value_um, name, expression=it.expression, tolerance=it.tolerance))
         case ConstraintWord.DIAMETER:
-            return _sizes(words, lambda shape, it: Diameter(shape, it.value_um, name,
-                                                            expression=it.expression))
+            return _sizes(words, lambda shape, it: Diameter(
+                shape, it.value_um, name, expression=it.expression, tolerance=it.tolerance))
     raise AssertionError(word)
 
 
@@ -201,7 +202,8 @@ def _angle(words: Cursor, name: str | None) -> AngleBetween:
     is_one = words.left() <= 1 or words.begins_value()
     lines = (X_AXIS, first) if is_one else (first, words.shape("a segment"))
     angle = words.angle()
-    return AngleBetween(*lines, angle.value, angle.sense, name, expression=angle.expression)
+    return AngleBetween(*lines, angle.value, angle.sense, name, expression=angle.expression,
+                        tolerance=angle.tolerance)
 
 
 def _distance(words: Cursor, name: str | None
@@ -209,15 +211,20 @@ def _distance(words: Cursor, name: str | None
     """Two points, a point and a line in either order, or two parallel lines."""
     first, second = (_point_or_line(words, words.thing(meant))
                      for meant in ("a point or a segment", "a second point or a segment"))
-    it = words.length()
-    value, expression = it.value_um, it.expression
+    return replace(_distance_of(first, second, words.length()), name=name)
+
+
+def _distance_of(first: PointRef | ShapeRef, second: PointRef | ShapeRef,
+                 it: WrittenLength) -> Distance | PointLineDistance | ParallelDistance:
+    value, expression, tolerance = it.value_um, it.expression, it.tolerance
     match first, second:
         case (PointRef() as one, PointRef() as other):
-            return Distance(one, other, value, name, expression=expression)
+            return Distance(one, other, value, expression=expression, tolerance=tolerance)
         case (PointRef() as point, ShapeRef() as line) | (ShapeRef() as line, PointRef() as point):
-            return PointLineDistance(point, line, value, name, expression=expression)
+            return PointLineDistance(point, line, value, expression=expression, tolerance=tolerance)
         case (ShapeRef() as line, ShapeRef() as parallel):
-            return ParallelDistance(line, parallel, value, name, expression=expression)
+            return ParallelDistance(line, parallel, value, expression=expression,
+                                    tolerance=tolerance)
     raise AssertionError(first, second)
 
 
@@ -233,6 +240,7 @@ def _read_run(word: ConstraintWord, words: Cursor, name: str | None) -> XDistanc
     if words.left() and not words.begins_value():
         first, second = second, words.point()
     it = words.length()
-    if word is ConstraintWord.X:
-        return XDistance(first, second, it.value_um, it.sense, name, expression=it.expression)
-    return YDistance(first, second, it.value_um, it.sense, name, expression=it.expression)
+    kind: type[XDistance] | type[YDistance] = (
+        XDistance if word is ConstraintWord.X else YDistance)
+    return kind(first, second, it.value_um, it.sense, name, expression=it.expression,
+                tolerance=it.tolerance)

@@ -1,8 +1,9 @@
 """The constraints that a designer gives, each a dataclass with the name its owner gave it.
 
 Lengths and radii are in micrometres. A value that is written as an expression has that in
-`expression`, and what it comes to beside it. A constraint without a name is called by its place in
-`Drawing.constraints`, counted from 1 (`Drawing.called`).
+`expression`, and what it comes to beside it; how far it may lie off stands in `tolerance`. A
+constraint without a name is called by its place in `Drawing.constraints`, counted from 1
+(`Drawing.called`).
 
 A line is a `ShapeRef` to a segment or to an axis; a segment counts as the endless line through
 its ends wherever a line is meant. A rim is a `ShapeRef` to a circle or an arc; an arc counts as
@@ -16,6 +17,7 @@ from enum import Enum
 from fractions import Fraction
 
 from pertxogai.drawing.references import Pair, PointRef, ShapeRef
+from pertxogai.drawing.tolerances.tolerance import Tolerance
 from pertxogai.drawing.values.expression import Expression
 
 
@@ -130,6 +132,7 @@ class AngleBetween:
     sense: Sense = Sense.DRAWN
     name: str | None = None
     expression: Expression | None = field(default=None, kw_only=True)
+    tolerance: Tolerance | None = field(default=None, kw_only=True)
 
 
 @dataclass(frozen=True)
@@ -140,6 +143,7 @@ class Length:
     value_um: Fraction
     name: str | None = None
     expression: Expression | None = field(default=None, kw_only=True)
+    tolerance: Tolerance | None = field(default=None, kw_only=True)
 
 
 @dataclass(frozen=True)
@@ -151,6 +155,7 @@ class Distance:
     value_um: Fraction
     name: str | None = None
     expression: Expression | None = field(default=None, kw_only=True)
+    tolerance: Tolerance | None = field(default=None, kw_only=True)
 
 
 @dataclass(frozen=True)
@@ -167,6 +172,7 @@ class XDistance:
     sense: Sense = Sense.DRAWN
     name: str | None = None
     expression: Expression | None = field(default=None, kw_only=True)
+    tolerance: Tolerance | None = field(default=None, kw_only=True)
 
 
 @dataclass(frozen=True)
@@ -179,6 +185,7 @@ class YDistance:
     sense: Sense = Sense.DRAWN
     name: str | None = None
     expression: Expression | None = field(default=None, kw_only=True)
+    tolerance: Tolerance | None = field(default=None, kw_only=True)
 
 
 @dataclass(frozen=True)
@@ -190,6 +197,7 @@ class PointLineDistance:
     value_um: Fraction
     name: str | None = None
     expression: Expression | None = field(default=None, kw_only=True)
+    tolerance: Tolerance | None = field(default=None, kw_only=True)
 
 
 @dataclass(frozen=True)
@@ -202,6 +210,7 @@ class ParallelDistance:
     value_um: Fraction
     name: str | None = None
     expression: Expression | None = field(default=None, kw_only=True)
+    tolerance: Tolerance | None = field(default=None, kw_only=True)
 
 
 @dataclass(frozen=True)
@@ -212,6 +221,7 @@ class Radius:
     value_um: Fraction
     name: str | None = None
     expression: Expression | None = field(default=None, kw_only=True)
+    tolerance: Tolerance | None = field(default=None, kw_only=True)
 
 
 @dataclass(frozen=True)
@@ -222,6 +232,7 @@ class Diameter:
     value_um: Fraction
     name: str | None = None
     expression: Expression | None = field(default=None, kw_only=True)
+    tolerance: Tolerance | None = field(default=None, kw_only=True)
 
 
 @dataclass(frozen=True)
@@ -301,3 +312,6 @@ Valued = (AngleBetween | Length | Distance | XDistance | YDistance | PointLineDi
 VALUED = (AngleBetween, Length, Distance, XDistance, YDistance, PointLineDistance,
           ParallelDistance, Radius, Diameter)
 """Their types."""
+
+SENSED = (AngleBetween, XDistance, YDistance)
+"""The types of those whose side is drawn, or told by a sign."""

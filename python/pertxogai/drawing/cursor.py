@@ -3,6 +3,7 @@
 from __future__ import annotations
 
 from collections.abc import Sequence
+from dataclasses import replace
 from fractions import Fraction
 
 from pertxogai.drawing.checks import check_point, points_told, standing
@@ -13,6 +14,7 @@ from pertxogai.drawing.numbers import (
 from pertxogai.drawing.places import Place
 from pertxogai.drawing.references import PointRef, ShapeRef, Which
 from pertxogai.drawing.refusal import WordFault
+from pertxogai.drawing.tolerances.tolerance import read_tolerance, split_tolerance
 
 
 class Cursor:
@@ -70,12 +72,16 @@ class Cursor:
         return " ".join([first, *rest])
 
     def length(self) -> WrittenLength:
-        """A number of millimetres, or an expression, to the end of the line."""
-        return read_length(self.rest("a number of millimetres"), self.scene.values)
+        """A number of millimetres, or an expression, and its tolerance, to the end of the line."""
+        text, word = split_tolerance(self.rest("a number of millimetres"))
+        tolerance = read_tolerance(word, of_angle=False)
+        return replace(read_length(text, self.scene.values), tolerance=tolerance)
 
     def angle(self) -> WrittenAngle:
-        """An angle, or an expression, to the end of the line."""
-        return read_written_angle(self.rest("an angle, as 60deg,"), self.scene.values)
+        """An angle, or an expression, and its tolerance, to the end of the line."""
+        text, word = split_tolerance(self.rest("an angle, as 60deg,"))
+        tolerance = read_tolerance(word, of_angle=True)
+        return replace(read_written_angle(text, self.scene.values), tolerance=tolerance)
 
     def place(self) -> Place:
         """A place, by two numbers."""

@@ -15,6 +15,7 @@ from pertxogai.drawing.meetings import Meetings
 from pertxogai.drawing.named_shapes import NamedShapes, points_of, shares, spot_of
 from pertxogai.drawing.places import Place
 from pertxogai.drawing.references import Pair, PointRef
+from pertxogai.drawing.tolerances.check import Tolerancing
 from pertxogai.drawing.values.table import Value, Values
 from pertxogai.drawing.wording import words_of
 
@@ -46,6 +47,7 @@ class Drawing:
     constraints: tuple[Constraint, ...] = ()
     notes: tuple[Note, ...] = ()
     values: tuple[Value, ...] = ()
+    tolerancing: Tolerancing = Tolerancing()
 
     @cached_property
     def scene(self) -> NamedShapes:

@@ -11,6 +11,7 @@ from pertxogai.drawing.constraints import AngleValue, Degrees, Ratio, Sense
 from pertxogai.drawing.names import nearest
 from pertxogai.drawing.places import UM_PER_MM
 from pertxogai.drawing.refusal import WordFault
+from pertxogai.drawing.tolerances.tolerance import Tolerance
 from pertxogai.drawing.values.expression import Expression, Function
 from pertxogai.drawing.values.parsing import NAME, read_expression
 from pertxogai.drawing.values.quantity import Misfit
@@ -46,22 +47,24 @@ def has_sign(word: str) -> bool:
 
 @dataclass(frozen=True)
 class WrittenLength:
-    """A length as it is written: its micrometres, who says its sign, and its expression where it is
-    one."""
+    """A length as it is written: its micrometres, who says its sign, its expression where it is
+    one, and its tolerance where it has one."""
 
     value_um: Fraction
     sense: Sense
     expression: Expression | None = None
+    tolerance: Tolerance | None = None
 
 
 @dataclass(frozen=True)
 class WrittenAngle:
-    """An angle as it is written: what it is, who says its sign, and its expression where it is
-    one."""
+    """An angle as it is written: what it is, who says its sign, its expression where it is one, and
+    its tolerance where it has one."""
 
     value: AngleValue
     sense: Sense
     expression: Expression | None = None
+    tolerance: Tolerance | None = None
 
 
 def begins_value(word: str, values: Values) -> bool:

@@ -1,9 +1,9 @@
 """The text of a drawing, read.
 
-A line draws a shape, asks for a constraint or names a value; `#` begins a note; blank lines are
-passed over. A shape is drawn in a line above the one that uses it; a value stands in any line. A
-constraint may have a name in front, as `Left width: length Bottom 120`. The first line may be
-`drawing 1`.
+A line draws a shape, asks for a constraint, names a value, or says of tolerances and of what must
+fit; `#` begins a note; blank lines are passed over. A shape is drawn in a line above the one that
+uses it; a value or a check stands in any line. A constraint may have a name in front, as `Left
+width: length Bottom 120`. The first line may be `drawing 1`.
 """
 
 from __future__ import annotations
@@ -24,9 +24,15 @@ from pertxogai.drawing.refusal import DrawingRefusal, WordFault
 from pertxogai.drawing.shape_lines import Flag, ShapeWord, read_shape
 from pertxogai.drawing.shorthands import Expansion
 from pertxogai.drawing.soundness import check_name
+from pertxogai.drawing.tolerances.check import (
+    WORD as CHECK, Check, Tolerancing, check_check_name, read_check)
+from pertxogai.drawing.tolerances.iso2768 import WORD as TOLERANCES, GeneralTolerance, read_general
 from pertxogai.drawing.values.table import MOST_VALUES, Value, ValueFault, Values
 from pertxogai.drawing.values.lines import WORD, WrittenValues, read_value
 from pertxogai.drawing.writing import HEADER
+
+HEAD_WORDS = (WORD, TOLERANCES, CHECK)
+"""The words of lines that stand anywhere, and are written before the shapes."""
 
 MOST_BYTES = 1_048_576
 """No text is longer, as in the language."""
@@ -50,7 +56,7 @@ def read_drawing(text: str) -> Drawing:
     reader = _Reader(written.values())
     for number, line in enumerate(lines, start=1):
         try:
-            reader.take(line)
+            reader.take(number, line)
         except ValueFault as fault:
             at = written.line_of(fault.name)
             raise DrawingRefusal(at, fault.word, fault.what) from None
@@ -58,6 +64,7 @@ def read_drawing(text: str) -> Drawing:
             raise DrawingRefusal(number, fault.word, fault.what) from None
     if not reader.shapes:
         raise DrawingRefusal(0, "", "draws nothing: write a line as `segment Bottom 0 0 40 0`")
+    reader.read_checks()
     return reader.drawing()
 
 
@@ -65,13 +72,16 @@ class _Kind(Enum):
     """What a line says."""
 
     VALUE = "value"
+    GENERAL = "tolerances"
+    CHECK = "check"
     SHAPE = "shape"
     CONSTRAINT = "constraint"
 
 
 @dataclass(frozen=True)
 class _Mark:
-    """What a note stands at: the value, shape or constraint of this place among its own."""
+    """What a note stands at: the value, class of tolerances, check, shape or constraint of this
+    place among its own."""
 
     text: str
     kind: _Kind
@@ -86,14 +96,17 @@ class _Reader:
         self.shapes: list[Shape] = []
         self._constraints: list[Constraint] = []
         self._values: list[Value] = []
+        self._general: list[GeneralTolerance] = []
+        self._checks: list[tuple[int, list[str]]] = []
         self._marks: list[_Mark] = []
         self._loose: list[str] = []
+        self._read: list[Check] = []
         self._names: set[str] = set()
         self._scene = NamedShapes(values=values)
         self._began = False
 
-    def take(self, line: str) -> None:
-        """One line; raises WordFault where it is refused."""
+    def take(self, number: int, line: str) -> None:
+        """The line of that number; raises WordFault where it is refused."""
         _check_text(line)
         said, mark, note = line.partition("#")
         if not said.strip():
@@ -103,25 +116,26 @@ class _Reader:
         self._began = True
         if first and said.split() == HEADER.split():
             return
-        places = {_Kind.VALUE: len(self._values), _Kind.SHAPE: len(self.shapes),
+        places = {_Kind.VALUE: len(self._values), _Kind.GENERAL: 0,
+                  _Kind.CHECK: len(self._checks), _Kind.SHAPE: len(self.shapes),
                   _Kind.CONSTRAINT: len(self._constraints)}
-        kind = self._say(said)
+        kind = self._say(number, said)
         self._marks.extend(_Mark(text, kind, places[kind], False) for text in self._loose)
         self._marks.extend([_Mark(note.strip(), kind, places[kind], True)] if mark else [])
         self._loose.clear()
 
-    def _say(self, said: str) -> _Kind:
-        """Takes what a line says."""
+    def _say(self, number: int, said: str) -> _Kind:
+        """Takes what the line of that number says."""
         name, colon, rest = said.rpartition(":")
         words = rest.split()
         if not words:
             raise WordFault(said.strip(), "names nothing: write a constraint behind the colon")
         flags, words = _flags(words)
-        if words[0] == WORD:
+        if words[0] in HEAD_WORDS:
             if flags:
-                raise WordFault(WORD, "names no shape, and only shapes are construction or outer")
-            self._name_value(words, name.strip() if colon else None)
-            return _Kind.VALUE
+                raise WordFault(words[0], "names no shape, and only shapes are construction or "
+                                          "outer")
+            return self._head(number, words, name.strip() if colon else None)
         word = _word(words[0])
         if isinstance(word, ShapeWord):
             if colon:
@@ -133,6 +147,33 @@ class _Reader:
             raise WordFault(words[0], "is no shape, and only shapes are construction or outer")
         self._ask(word, words, name.strip() if colon else None)
         return _Kind.CONSTRAINT
+
+    def _head(self, number: int, words: list[str], called: str | None) -> _Kind:
+        """What may stand in any line: a value, the general tolerances, a check."""
+        if words[0] == WORD:
+            self._name_value(words, called)
+            return _Kind.VALUE
+        if called is not None:
+            raise WordFault(called, f"is a name in front of {words[0]}, which takes none there")
+        if words[0] == CHECK:
+            self._checks.append((number, words))
+            return _Kind.CHECK
+        if len(words) != 2 or self._general:
+            raise WordFault(words[0], f"stands in one line, with one class: write {TOLERANCES} "
+                                      "ISO2768-m")
+        self._general.append(read_general(words[1]))
+        return _Kind.GENERAL
+
+    def read_checks(self) -> None:
+        """Reads what was said of checks, once all shapes are known. Raises DrawingRefusal."""
+        names: set[str] = set()
+        for number, words in self._checks:
+            try:
+                check = read_check(self._scene, words)
+                check_check_name(check.name, names)
+                self._read.append(check)
+            except WordFault as fault:
+                raise DrawingRefusal(number, fault.word, fault.what) from None
 
     def _name_value(self, words: Sequence[str], called: str | None) -> None:
         value = read_value(words, called)
@@ -165,12 +206,16 @@ class _Reader:
     def drawing(self) -> Drawing:
         """The drawing of all lines."""
         shapes, constraints = tuple(self.shapes), tuple(self._constraints)
-        first = {_Kind.VALUE: -len(self._values), _Kind.SHAPE: 0, _Kind.CONSTRAINT: len(shapes)}
+        checks, general = len(self._checks), len(self._general)
+        first = {_Kind.VALUE: -len(self._values) - general - checks,
+                 _Kind.GENERAL: -general - checks, _Kind.CHECK: -checks, _Kind.SHAPE: 0,
+                 _Kind.CONSTRAINT: len(shapes)}
         notes = [Note(mark.text, first[mark.kind] + mark.place, mark.beside)
                  for mark in self._marks]
         notes.extend(Note(text, len(shapes) + len(constraints)) for text in self._loose)
         return Drawing(shapes, constraints, tuple(sorted(notes, key=lambda note: note.before)),
-                       tuple(self._values))
+                       tuple(self._values),
+                       Tolerancing(next(iter(self._general), None), tuple(self._read)))
 
 
 def _check_text(line: str) -> None:
@@ -220,6 +265,7 @@ def _advice(word: str) -> str:
             return "is a word of the sketch language, and none of a drawing: leave it out"
         case "width" | "height" | "dimension" | "dim":
             return "is no word of a drawing: write `length SEGMENT 40` or `distance A B 40`"
-    known = [each.value for kind in (ShapeWord, ConstraintWord, Flag) for each in kind] + [WORD]
+    known = [each.value for kind in (ShapeWord, ConstraintWord, Flag) for each in kind]
+    known.extend(HEAD_WORDS)
     near = nearest(word, known).removeprefix(", or ")
     return f"is no word that begins a line: {near or 'write one of ' + ', '.join(known)}"

@@ -15,6 +15,7 @@ from pertxogai.drawing.names import check_constraint_name, check_shape_name
 from pertxogai.drawing.numbers import MOST_MM, mm_text
 from pertxogai.drawing.references import PointRef, Which
 from pertxogai.drawing.refusal import DrawingUnsound, WordFault
+from pertxogai.drawing.tolerances.check import check_checks
 from pertxogai.drawing.values.table import Values, check_value_name
 
 
@@ -24,7 +25,7 @@ def faults(drawing: Drawing, sound: Drawing = Drawing()) -> tuple[DrawingUnsound
     Shapes are looked at only where all values are sound, and constraints where all shapes are
     too. Of a `sound` drawing that it was made from, what it has kept isn't looked at again."""
     return (tuple(_value_faults(drawing, sound)) or tuple(_shape_faults(drawing, sound))
-            or tuple(_constraint_faults(drawing, sound)))
+            or tuple(_constraint_faults(drawing, sound)) + tuple(_check_faults(drawing)))
 
 
 def checked(drawing: Drawing, sound: Drawing = Drawing()) -> Drawing:
@@ -75,6 +76,14 @@ def _constraint_faults(drawing: Drawing, sound: Drawing) -> Iterator[DrawingUnso
                 check_expression(drawing.scene, constraint)
         except WordFault as fault:
             yield DrawingUnsound(drawing.called(number), fault.word, fault.what)
+
+
+def _check_faults(drawing: Drawing) -> Iterator[DrawingUnsound]:
+    """The first check that says what can't be measured."""
+    try:
+        check_checks(drawing.scene, drawing.tolerancing.checks)
+    except WordFault as fault:
+        yield DrawingUnsound("a check", fault.word, fault.what)
 
 
 def _kinds(drawing: Drawing) -> list[tuple[str, type[Shape]]]:

@@ -91,16 +91,23 @@ def _touching(constraint: Tangent | Perpendicular) -> str:
 
 def _angle(angle: AngleBetween) -> str:
     lines = f"{angle.second}" if angle.first == X_AXIS else f"{angle.first} {angle.second}"
-    return f"angle {lines} {value_text(angle)}"
+    return f"angle {lines} {_toleranced(angle)}"
 
 
 def _words_of_run(run: XDistance | YDistance) -> str:
     points = f"{run.second}" if run.first == ORIGIN else f"{run.first} {run.second}"
-    return f"{'x' if isinstance(run, XDistance) else 'y'} {points} {value_text(run)}"
+    return f"{'x' if isinstance(run, XDistance) else 'y'} {points} {_toleranced(run)}"
+
+
+def _toleranced(constraint: Valued) -> str:
+    """The value of a constraint as it is written, and its tolerance."""
+    off = constraint.tolerance
+    return value_text(constraint) + (f" {off.text}" if off is not None else "")
 
 
 def value_text(constraint: Valued) -> str:
-    """The value of a constraint as it is written, which stands last in its line."""
+    """The value of a constraint as it is written, which stands last in its line but for its
+    tolerance."""
     if constraint.expression is not None:
         return constraint.expression.text
     match constraint:
@@ -115,11 +122,11 @@ def value_text(constraint: Valued) -> str:
 
 def asked_of(constraint: Valued) -> tuple[str, ...]:
     """The words of a constraint in front of its value."""
-    return tuple(words_of(constraint).removesuffix(value_text(constraint)).split())
+    return tuple(words_of(constraint).removesuffix(_toleranced(constraint)).split())
 
 
 def _size_text(constraint: Sized) -> str:
-    value = value_text(constraint)
+    value = _toleranced(constraint)
     match constraint:
         case Length(segment):
             return f"length {segment} {value}"

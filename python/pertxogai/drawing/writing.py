@@ -10,15 +10,16 @@ HEADER = "drawing 1"
 
 
 def write_drawing(drawing: Drawing) -> str:
-    """The text of a sound drawing, which reads as the same drawing: all values, then all shapes,
-    then all constraints, a line each, with the notes where they stood."""
-    said = [each.line() for each in drawing.values]
+    """The text of a sound drawing, which reads as the same drawing: all values, tolerances and
+    checks, then all shapes, then all constraints, a line each, with the notes where they stood."""
+    head = [*(each.line() for each in drawing.values), *drawing.tolerancing.lines()]
+    said = list(head)
     said.extend(map(line_of, (*drawing.geometry, *drawing.constraints)))
     if not drawing.notes:
         return "\n".join([HEADER, *said, ""])
     above: dict[int, list[Note]] = {}
     for note in drawing.notes:
-        place = min(note.before + len(drawing.values), len(said))
+        place = min(note.before + len(head), len(said))
         above.setdefault(place, []).append(note)
     lines = [HEADER]
     for place, line in enumerate(said):

@@ -1,0 +1,1 @@
+"""How far dimensions may lie off, and what must fit all the same."""

@@ -1,0 +1,70 @@
+"""The tolerance of one dimension, as `+-0.1`, `+0.2-0` or `-0.007-0.02` behind its value."""
+
+from __future__ import annotations
+
+import re
+from collections.abc import Mapping
+from dataclasses import dataclass
+from fractions import Fraction
+
+from pertxogai.drawing.refusal import WordFault
+
+_NUMBER = r"([0-9]{1,7}(?:\.[0-9]{1,20})?)(mm|in|deg|°)?"
+_BOTH = re.compile(rf"(?:\+-|±){_NUMBER}\Z")
+_EACH = re.compile(rf"([-−+]){_NUMBER}([-−+]){_NUMBER}\Z")
+_SIGNED = re.compile(rf"[-−+]{_NUMBER}\Z")
+_PLAIN = re.compile(rf"[-−+]?{_NUMBER}\Z")
+Units = Mapping[str | None, Fraction]
+_LENGTHS: Units = {None: Fraction(1000), "mm": Fraction(1000), "in": Fraction(25_400)}
+"""Micrometres of each unit."""
+_ANGLES: Units = {"deg": Fraction(1), "°": Fraction(1)}
+
+
+@dataclass(frozen=True)
+class Tolerance:
+    """How far a value may lie below and above, in micrometres, or in degrees of an angle. Less than
+    0 below means that its least is more than the value, and likewise above; together they aren't
+    less than 0. text: as it is written."""
+
+    below: Fraction
+    above: Fraction
+    text: str
+
+
+def split_tolerance(text: str) -> tuple[str, str]:
+    """A value and the tolerance behind it, which is its last word; nothing where it has none.
+    Raises WordFault where the words may be a tolerance or a sum."""
+    value, _, last = text.rpartition(" ")
+    if value and (_BOTH.match(last) or _EACH.match(last)):
+        return value, last
+    before = value.rpartition(" ")[2]
+    if value and _SIGNED.match(last) and (_SIGNED.match(before) or _PLAIN.match(value)):
+        raise WordFault(last, "may be a part of a tolerance or of a sum: write a tolerance without "
+                              "a blank in it, as +0.1-0.2, and a sum with blanks around its signs")
+    return text, ""
+
+
+def read_tolerance(word: str, of_angle: bool) -> Tolerance | None:
+    """The tolerance of a word; None of an empty one. Raises WordFault at another unit."""
+    if not word:
+        return None
+    both, each = _BOTH.match(word), _EACH.match(word)
+    if both is not None:
+        off = _number(word, both[1], both[2], of_angle)
+        return Tolerance(off, off, word)
+    assert each is not None
+    unit = each[6]  # One unit behind both holds for both.
+    above, below = (_number(word, each[at + 1], each[at + 2] or unit, of_angle)
+                    for at in (1, 4))
+    above, below = above if each[1] == "+" else -above, -below if each[4] == "+" else below
+    if above < -below or above == -below != 0:
+        raise WordFault(word, "has no greater deviation first: write that first, as -0.007-0.02")
+    return Tolerance(below, above, word)
+
+
+def _number(word: str, digits: str, unit: str | None, of_angle: bool) -> Fraction:
+    units = _ANGLES if of_angle else _LENGTHS
+    if unit not in units:
+        raise WordFault(word, "is no tolerance of an angle: write degrees, as +-0.5deg" if of_angle
+                        else "is no tolerance of a length: write millimetres, as +-0.1")
+    return Fraction(digits) * units[unit]
