@@ -1,5 +1,5 @@
-"""The commands `judge`, `watch`, `draw`, `complete`, `certify` and `page`, as ./pertxogai calls
-them. Each imports what it needs once it is called."""
+"""The commands `judge`, `watch`, `draw`, `complete`, `fit`, `certify` and `page`, as ./pertxogai
+calls them. Each imports what it needs once it is called."""
 from __future__ import annotations
 
 import argparse
@@ -38,6 +38,8 @@ CHECK = "check it by sketch verify, sketch_claim.py and sketch_claim.c"
 COMPLETED = "write the completed drawing as a .drawing, or into a copy of the .FCStd or .slvs"
 CLAIM = "the claim to write: the sketch, its steps, positions and tolerances, as verify reads them"
 FILE = "a sketch: .sketch, .drawing, .FCStd, .slvs, .dxf"
+CHART = "a chart of which dimension gives how much, as SVG"
+FITTED = "a .drawing with tolerances and checks"
 FREEZE = "fix lengths and radii that have no dimension at their drawn values"
 JOBS = "how many files are judged at a time (default: as many as processors)"
 NEARLY = "also list relations that the drawing nearly has, such as horizontal edges, equal lengths"
@@ -92,6 +94,7 @@ def command_line() -> argparse.ArgumentParser:
     _add_watch(commands)
     _add_draw(commands)
     _add_complete(commands)
+    _add_fit(commands)
     _add_certify(commands)
     add_page(commands)
     return parser
@@ -142,6 +145,15 @@ def _add_complete(commands: Commands) -> None:
     completing.add_argument("--json", action="store_true", help="print one object of JSON")
     completing.add_argument("-o", "--output", type=Path, metavar="OUT", help=COMPLETED)
     completing.add_argument("--sketch", metavar="NAME", help=SKETCH)
+
+
+def _add_fit(commands: Commands) -> None:
+    fitting = _command(commands, "fit", "tells what tolerances do to what must fit")
+    fitting.set_defaults(act=_fit)
+    fitting.add_argument("file", type=Path, metavar="FILE", help=FITTED)
+    fitting.add_argument("--json", action="store_true", help="print one object of JSON")
+    fitting.add_argument("-o", "--output", type=Path, metavar="OUT.svg", help=CHART)
+    fitting.add_argument("--sketch", metavar="NAME", help=SKETCH)
 
 
 def _add_certify(commands: Commands) -> None:
@@ -217,6 +229,12 @@ def _complete(options: argparse.Namespace) -> Exit:
     from pertxogai.commands.completing import complete_file
 
     return complete_file(options)
+
+
+def _fit(options: argparse.Namespace) -> Exit:
+    from pertxogai.commands.fitting import fit_file
+
+    return fit_file(options)
 
 
 def _certify(options: argparse.Namespace) -> Exit:

@@ -1,0 +1,260 @@
+"""The worst case of a check: the corners of the tolerances at which it is least and greatest, or
+what lies between them where it turns round, each placed by the program and measured there."""
+from __future__ import annotations
+
+from collections.abc import Iterator, Sequence
+from dataclasses import dataclass
+from fractions import Fraction
+from itertools import product
+from random import Random
+
+from pertxogai.fitting.effects import Effect, ends_of, turning_at
+from pertxogai.fitting.gauges import Way
+from pertxogai.fitting.placing import NOISE, Case, Offs, Placer, Unplaced
+from pertxogai.fitting.sums import Sums
+
+MOST_TOGETHER = 3
+"""Of the dimensions of which it isn't known at which end a check is worst, all ends of at most this
+number are tried together: of those that move it most."""
+MOST_BEGUN = 3
+"""From this number of corners, the worst, the search goes on."""
+MOST_ROUNDS = 3
+"""All of these dimensions are tried one by one at most this number of times."""
+MOST_TRIED = 400
+"""At most this number of corners is tried one by one, for the least of a check and for its
+greatest."""
+TIMES = 4
+"""What moves a check less than this number of times as much as corners are off the sums of the
+effects may change its sign there."""
+MOST_DOUBTFUL = 4
+"""At most this number of these dimensions is tried, those that move the check least."""
+SAMPLES = 8
+"""This number of corners is placed besides, taken at random: the same in each run."""
+SEED = 2768
+
+
+@dataclass(frozen=True)
+class Worst:
+    """The least and the greatest of a check that were measured, in millionths, and how far the
+    dimensions lie off there. turning: the dimensions, by their places from 0, in which it isn't
+    monotone. below, above: how much less and more it may be than what was measured, as it is
+    reckoned; nothing where it is monotone and all constraints are met but for rounding."""
+
+    least: int
+    greatest: int
+    at_least: Offs
+    at_greatest: Offs
+    turning: frozenset[int] = frozenset()
+    below: int = 0
+    above: int = 0
+
+    @property
+    def is_one_way(self) -> bool:
+        """Whether the check was monotone in each dimension wherever that was tried."""
+        return not self.turning
+
+
+class Corners:
+    """The corners of one check. number: the check's place, from 0."""
+
+    def __init__(self, placer: Placer, effects: Sequence[Effect], number: int) -> None:
+        self._placer, self._effects, self._number = placer, effects, number
+        self._base = placer.base()
+        self._sums = Sums(number, self._base, effects)
+
+    def worst(self) -> Worst:
+        """Raises Unplaced and ProgramError."""
+        starts = {side: tuple(each.end(side) for each in self._effects) for side in (-1, 1)}
+        samples = list(_at_random(self._effects, SAMPLES))
+        unsure = self._unsure([*starts.values(), *samples])
+        (at_least, low), (at_greatest, high) = (
+            self._extreme(starts[side], unsure, side) for side in (-1, 1))
+        turning = low | high | self._turning()
+        least, greatest = self._at(at_least, -1), self._at(at_greatest, 1)
+        below, above = self._beyond(least, greatest, len(unsure)) if turning else (0, 0)
+        loose = self._placer.loose_nm
+        return Worst(least, greatest, at_least, at_greatest, turning, below + loose, above + loose)
+
+    def _case(self, offs: Offs) -> Case:
+        """A case; where it isn't placed, the one in which what doesn't move the check is held."""
+        try:
+            return self._placer.case(offs)
+        except Unplaced:
+            return self._placer.case(tuple(
+                off if each.gives() > NOISE else each.base.off
+                for off, each in zip(offs, self._effects)))
+
+    def _is_placed(self, offs: Offs) -> bool:
+        try:
+            self._case(offs)
+        except Unplaced:
+            return False
+        return True
+
+    def _at(self, offs: Offs, side: int) -> int:
+        """The least that the check measures in a case, or the greatest where the side is 1."""
+        case = self._case(offs)
+        return (case.values if side < 0 else case.highs)[self._number]
+
+    def _unsure(self, corners: Sequence[Offs]) -> list[int]:
+        """The dimensions whose effect may have another sign at a corner than at the base: all in
+        which the check turns, and the most doubtful of those that move it less than a few times as
+        much as corners are off the sums of the effects. Those that move it most come first."""
+        rests = (self._sums.rest(offs, self._case(offs)) for offs in corners)
+        bend = max((abs(rest) for rest in rests if rest is not None), default=0)
+        gives = {place: each.gives() for place, each in enumerate(self._effects)
+                 if len(each.readings) > 1}
+        unsure = [place for place in gives if self._effects[place].turn() is not None]
+        if bend > NOISE:
+            still = [place for place in gives if gives[place] <= NOISE and place not in unsure]
+            unsure += still if self._move_together(corners[0], still) else []
+            doubtful = [place for place in sorted(gives, key=lambda place: gives[place])
+                        if NOISE < gives[place] <= TIMES * bend and place not in unsure]
+            unsure += doubtful[:MOST_DOUBTFUL]
+        return sorted(unsure, key=lambda place: -gives[place])
+
+    def _move_together(self, corner: Offs, places: Sequence[int]) -> bool:
+        """Whether dimensions that don't move the check by themselves do so together: each two of
+        them are put to unlike ends in one of a few cases."""
+        value = self._at(corner, 1)
+        for bit in range(len(places).bit_length()):
+            others = {place: self._other_end(place, corner[place])
+                      for index, place in enumerate(places) if index >> bit & 1}
+            if abs(self._at(_with(corner, others), 1) - value) > NOISE:
+                return True
+        return False
+
+    def _extreme(self, start: Offs, unsure: Sequence[int],
+                 side: int) -> tuple[Offs, frozenset[int]]:
+        """The case in which the check times a side is greatest, and the dimensions whose effect
+        changed its sign on the way. Where none of the unsure makes the start worse, and no case is
+        worse that is known, that is the start."""
+        best = self._within(self._worst_known(start, side), unsure, side)
+        if self._gain(start, best, side) <= NOISE and not self._turning():
+            return start, frozenset()
+        best, left = self._worst_known(best, side), MOST_TRIED
+        begins = sorted(self._begins(start, unsure), key=lambda offs: -side * self._at(offs, side))
+        for begin in (best, *begins[:MOST_BEGUN]):
+            offs, left = self._climbed(begin, unsure, side, left)
+            best = max(best, offs, key=lambda case: side * self._at(case, side))
+        best = self._within(best, unsure, side)
+        is_worse = self._gain(start, best, side) > NOISE
+        return best, self._changed(start, best, side) if is_worse else frozenset()
+
+    def _gain(self, start: Offs, other: Offs, side: int) -> int:
+        """How much worse another case is."""
+        return side * (self._at(other, side) - self._at(start, side))
+
+    def _worst_known(self, start: Offs, side: int) -> Offs:
+        """The worst case that is known; the start where none is worse."""
+        known = (offs for offs, _ in self._placer.within())
+        return max((start, *known), key=lambda offs: side * self._at(offs, side))
+
+    def _begins(self, start: Offs, unsure: Sequence[int]) -> Iterator[Offs]:
+        """The corners from which the search goes on."""
+        yield from self._together(start, unsure)
+        furthest = self._sums.furthest()
+        if furthest is not None:
+            yield furthest
+
+    def _within(self, offs: Offs, unsure: Sequence[int], side: int) -> Offs:
+        """A case from which it is no worse to put one of the unsure between its ends: within, and
+        where by a parabola the check turns round."""
+        for _ in range(MOST_ROUNDS):
+            before = self._at(offs, side)
+            for place in unsure:
+                offs = self._best_within(offs, place, side)
+            if abs(self._at(offs, side) - before) <= NOISE:
+                break
+        return offs
+
+    def _best_within(self, offs: Offs, place: int, side: int) -> Offs:
+        """The worst case of those in which one of the unsure lies otherwise."""
+        three = [_with(offs, {place: off}) for off in ends_of(self._effects[place].dimension)]
+        cases = [offs, *three]
+        where = turning_at([(case[place], self._at(case, side)) for case in three])
+        if where is not None and self._is_placed(_with(offs, {place: where})):
+            cases.append(_with(offs, {place: where}))
+        return max(cases, key=lambda case: side * self._at(case, side))
+
+    def _together(self, start: Offs, unsure: Sequence[int]) -> Iterator[Offs]:
+        """Corners with all ends of the first of the unsure, and with the other end of the rest."""
+        most, rest = unsure[:MOST_TOGETHER], unsure[MOST_TOGETHER:]
+        for ends in product(*map(self._states, most)) if most else ():
+            yield _with(start, dict(zip(most, ends)))
+        if rest:
+            yield _with(start, {place: self._other_end(place, start[place]) for place in rest})
+
+    def _climbed(self, offs: Offs, unsure: Sequence[int], side: int,
+                 left: int) -> tuple[Offs, int]:
+        """A corner from which no other end of one of the unsure makes it worse, and how many may
+        still be tried of those that are left."""
+        value = side * self._at(offs, side)
+        for _ in range(MOST_ROUNDS):
+            before = value
+            for place, state in ((place, it) for place in unsure for it in self._states(place)):
+                other, left = _with(offs, {place: state}), left - 1
+                there = side * self._at(other, side) if left > 0 else value
+                if there > value:
+                    offs, value = other, there
+            if value <= before + NOISE:
+                break
+        return offs, left
+
+    def _changed(self, start: Offs, best: Offs, side: int) -> frozenset[int]:
+        """The dimensions that lie otherwise in the worst case than at the start, and move the
+        check there; where none does by itself, all of them."""
+        other = [place for place, (one, two) in enumerate(zip(start, best)) if one != two]
+        value = self._at(best, side)
+        moving = [place for place in other
+                  if abs(self._at(_with(best, {place: start[place]}), side) - value) > NOISE]
+        return frozenset(moving or other)
+
+    def _turning(self) -> frozenset[int]:
+        """The dimensions in which the check turns by itself; and where it is the distance of two
+        points that come past each other, all that move it."""
+        turning = {place for place, each in enumerate(self._effects) if each.turn() is not None}
+        if self._comes_past():
+            turning.update(place for place, each in enumerate(self._effects)
+                           if each.gives() > NOISE)
+        return frozenset(turning)
+
+    def _comes_past(self) -> bool:
+        """Whether the way between two points runs backwards in a case against the given one, or is
+        none there."""
+        given = self._base.ways[self._number]
+        if given is None:
+            return False
+        return any(_dot(given, way) <= 0 for _, case in self._placer.within()
+                   if (way := case.ways[self._number]) is not None)
+
+    def _beyond(self, least: int, greatest: int, unsure: int) -> tuple[int, int]:
+        """How much less and more the check may be, where it isn't monotone, than what was
+        measured."""
+        reach = self._sums.reach(self._placer.cases, 1 if unsure <= MOST_TOGETHER else 2)
+        floor = 0.0 if self._base.ways[self._number] is not None and self._comes_past() else None
+        low = reach.least if floor is None else floor
+        below, above = round(least - low), round(reach.greatest - greatest)
+        return below if below > NOISE else 0, above if above > NOISE else 0
+
+    def _states(self, place: int) -> list[Fraction]:
+        return [each.off for each in self._effects[place].states()]
+
+    def _other_end(self, place: int, off: Fraction) -> Fraction:
+        ends = self._states(place)
+        return ends[0] if off == ends[-1] else ends[-1]
+
+
+def _with(offs: Offs, others: dict[int, Fraction]) -> Offs:
+    return tuple(others.get(place, off) for place, off in enumerate(offs))
+
+
+def _dot(one: Way, other: Way) -> int:
+    return one[0] * other[0] + one[1] * other[1]
+
+
+def _at_random(effects: Sequence[Effect], count: int) -> Iterator[Offs]:
+    """Corners at random: each dimension at an end."""
+    random = Random(SEED)
+    for _ in range(count):
+        yield tuple(random.choice((each.readings[0], each.readings[-1])).off for each in effects)

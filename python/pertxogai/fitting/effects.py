@@ -1,0 +1,182 @@
+"""How much each dimension moves each check: measured with it at both ends of its tolerance and
+within, all others as they are given."""
+from __future__ import annotations
+
+from collections.abc import Iterable, Sequence
+from contextlib import suppress
+from dataclasses import dataclass
+from fractions import Fraction
+
+from pertxogai.fitting.gauges import Way
+from pertxogai.fitting.placing import NOISE, Case, Placer, Unplaced
+from pertxogai.fitting.toleranced import MILLIONTHS, Toleranced
+
+NEAR = Fraction(1, 16)
+"""A dimension with which nothing is placed at an end of its tolerance is tried at this part too."""
+
+BESIDE = Fraction(1, 1000)
+"""Where a check may turn round it is measured this part of the tolerance beside that, if need
+be."""
+
+
+@dataclass(frozen=True)
+class Reading:
+    """What a check measures, in millionths, where one dimension is off, in micrometres or degrees;
+    way: the way that it measures, where it is the distance of two points."""
+
+    off: Fraction
+    value: int
+    way: Way | None
+
+
+@dataclass(frozen=True)
+class Effect:
+    """What one dimension does to one check. readings: from its least to its greatest, the least off
+    first; of one that is held, that one alone. base: with all others as they are given, or as
+    nearly as their tolerances allow."""
+
+    dimension: Toleranced
+    readings: tuple[Reading, ...]
+    base: Reading
+
+    @property
+    def spread(self) -> int:
+        """By how much the check changes over the tolerance, with its sign."""
+        return self.readings[-1].value - self.readings[0].value
+
+    @property
+    def least(self) -> int:
+        """The least that was measured."""
+        return min(each.value for each in self.readings)
+
+    @property
+    def greatest(self) -> int:
+        """The greatest that was measured."""
+        return max(each.value for each in self.readings)
+
+    def gives(self) -> int:
+        """How much of it the dimension gives to either side: half of the greatest change."""
+        return (self.greatest - self.least + 1) // 2
+
+    def middle(self) -> Fraction:
+        """What the check measures in the middle of that change."""
+        return Fraction(self.greatest + self.least, 2)
+
+    def per_unit(self) -> float | None:
+        """The change of the check, in millimetres or degrees, for each millimetre or degree; None
+        where it turns round."""
+        if self.turn() is not None:
+            return None
+        unit = Fraction(1) if self.dimension.is_angle else Fraction(1, 1000)
+        return float(Fraction(self.spread, MILLIONTHS) / (self.dimension.width() * unit))
+
+    def at(self, off: Fraction) -> Reading | None:
+        """What was measured with the dimension so far off; None where it wasn't."""
+        known = (self.base, *self.readings)
+        return next((each for each in known if each.off == off), None)
+
+    def turn(self) -> Reading | None:
+        """Where between the ends the check is beyond what it is at both; None where it isn't."""
+        if len(self.readings) < 3:
+            return None
+        first, *within, last = self.readings
+        low, high = sorted((first.value, last.value))
+        most = max(within, key=lambda each: max(low - each.value, each.value - high))
+        return most if most.value < low - NOISE or most.value > high + NOISE else None
+
+    def states(self) -> list[Reading]:
+        """Where the check may be worst: both ends, and where it turns."""
+        turn = self.turn()
+        return list(dict.fromkeys([self.readings[0], *([turn] if turn else []),
+                                   self.readings[-1]]))
+
+    def end(self, side: int) -> Fraction:
+        """How far off the dimension is where the check times a side is greatest by it alone."""
+        return max(self.states(), key=lambda each: (side * each.value, each.off)).off
+
+
+def effects(placer: Placer, dimensions: Sequence[Toleranced],
+            number: int) -> tuple[Effect, ...]:
+    """What each dimension does to the check of that place, from 0. One that can't be placed at an
+    end of its tolerance is held as it is given where it doesn't move the check wherever it can be
+    placed. Raises Unplaced where it does, and ProgramError."""
+    base = placer.base()
+    return tuple(_effect(_One(placer, place, number), dimension,
+                         _reading(dimension.base, base, number))
+                 for place, dimension in enumerate(dimensions))
+
+
+@dataclass(frozen=True)
+class _One:
+    """One dimension and one check, by their places from 0."""
+
+    placer: Placer
+    place: int
+    number: int
+
+    def reading(self, off: Fraction) -> Reading:
+        """What the check measures with the dimension so far off. Raises Unplaced."""
+        return _reading(off, self.placer.alone(self.place, off), self.number)
+
+
+def _effect(one: _One, dimension: Toleranced, base: Reading) -> Effect:
+    three = ends_of(dimension)
+    try:
+        readings = [one.reading(off) for off in three]
+    except Unplaced:
+        near = (base.off + (off - base.off) * NEAR for off in three)
+        if _moves(one, [*three, *near], base):
+            raise
+        return Effect(dimension, (base,), base)
+    where = turning_at([(each.off, each.value) for each in readings])
+    if where is not None:
+        readings.append(_reading_near(one, where, dimension.width()))
+    return Effect(dimension, tuple(sorted(readings, key=lambda each: each.off)), base)
+
+
+def _moves(one: _One, offs: Iterable[Fraction], base: Reading) -> bool:
+    """Whether a dimension moves the check where it can be placed, or can be placed nowhere else."""
+    found = []
+    for off in offs:
+        with suppress(Unplaced):
+            found.append(one.reading(off))
+    others = [each.value for each in found if each.off != base.off]
+    return not others or any(abs(value - base.value) > NOISE for value in others)
+
+
+def _reading_near(one: _One, where: Fraction, width: Fraction) -> Reading:
+    """What is measured there, or by a little beside it: where two bars lie in one line, a drawing
+    may have no places. Raises Unplaced where it has none beside it either."""
+    for beside in (0, width * BESIDE, -width * BESIDE):
+        try:
+            return one.reading(where + beside)
+        except Unplaced as fault:
+            why = fault
+    raise why
+
+
+def _reading(off: Fraction, case: Case, number: int) -> Reading:
+    return Reading(off, case.values[number], case.ways[number])
+
+
+def ends_of(dimension: Toleranced) -> tuple[Fraction, Fraction, Fraction]:
+    """How far off a dimension is at its least, within, and at its greatest: within as it is given,
+    where that is no end, else in the middle."""
+    low, high = -dimension.below, dimension.above
+    return low, (Fraction(0) if low < 0 < high else (low + high) / 2), high
+
+
+def turning_at(readings: Sequence[tuple[Fraction, int]]) -> Fraction | None:
+    """Where between the ends a check may turn round, how far off, by a parabola through three
+    readings, each how far off that is and what was measured; None where it goes one way, or turns
+    where it was read."""
+    (low, at_low), (inner, within), (high, at_high) = readings
+    begin = Fraction(within - at_low) / (inner - low)
+    end = Fraction(at_high - within) / (high - inner)
+    bend = (end - begin) / (high - low)
+    first, last = begin - bend * (inner - low), end + bend * (high - inner)
+    if first * last >= 0 or not bend:
+        return None
+    where = Fraction(round((low - first / (2 * bend)) * 1000), 1000)
+    rise = abs(bend) * min(where - low, high - where) ** 2
+    return where if rise > NOISE and where not in (low, inner, high) else None

@@ -1,0 +1,156 @@
+"""A drawing placed by the program with dimensions that lie off."""
+from __future__ import annotations
+
+from collections.abc import Iterator, Mapping, Sequence
+from dataclasses import dataclass
+from fractions import Fraction
+
+from pertxogai.drawing import Drawing, DrawingUnsound
+from pertxogai.fitting.gauges import Gauge, Way
+from pertxogai.fitting.toleranced import Toleranced, moved
+from pertxogai.judging import DrawingRefused, Judgement
+from pertxogai.judging.edited import EditedDrawing
+from pertxogai.judging.judgement import judge_edited
+from pertxogai.judging.measure import Limit, Unit
+from pertxogai.language import NotHeld, Refusal
+from pertxogai.program import Solver
+from pertxogai.program.reports import Verdict
+
+NOISE = 20
+"""Millionths of a millimetre or a degree: what moves a check by no more is the rounding of places
+to whole nanometres, and of angles to ratios."""
+Offs = tuple[Fraction, ...]
+"""How far each dimension lies off, in their order, in micrometres or degrees."""
+
+
+class Unplaced(Exception):
+    """With dimensions that lie off within their tolerances a drawing isn't placed, or a constraint
+    isn't met. The message says which dimensions, and why."""
+
+
+@dataclass(frozen=True)
+class Case:
+    """A drawing as it is placed. values: what each check measures, in millionths of a millimetre or
+    a degree, the lesser end of two segments; highs: the same by the greater end. ways: the way of each check that measures the distance of two points; None of each
+    other. off_nm: how far that constraint is off which is off most."""
+
+    values: tuple[int, ...]
+    highs: tuple[int, ...]
+    ways: tuple[Way | None, ...]
+    off_nm: int
+
+
+class Placer:
+    """Places a drawing with its dimensions off, and measures the checks there. What was tried is
+    kept."""
+
+    def __init__(self, drawing: Drawing, program: Solver, limit: Limit) -> None:
+        self._edited, self._program, self._limit = EditedDrawing(drawing), program, limit
+        self.nominal: Judgement = judge_edited(self._edited, program, limit=limit)
+        self._known: dict[Offs, Case] = {}
+        self._unplaced: dict[Offs, str] = {}
+        self._dimensions: Sequence[Toleranced] = ()
+        self._gauges: Sequence[Gauge] = ()
+
+    def begin(self, dimensions: Sequence[Toleranced], gauges: Sequence[Gauge]) -> None:
+        """Says which dimensions may lie off, and what is measured."""
+        self._dimensions, self._gauges = dimensions, gauges
+
+    @property
+    def cases(self) -> Mapping[Offs, Case]:
+        """All that was placed and measured."""
+        return self._known
+
+    def within(self) -> Iterator[tuple[Offs, Case]]:
+        """The cases in which each dimension lies within its tolerance. As a drawing is given it
+        may not, where both deviations lie on one side."""
+        for offs, case in self._known.items():
+            if all(each.has(off) for each, off in zip(self._dimensions, offs)):
+                yield offs, case
+
+    @property
+    def unplaced(self) -> tuple[str, ...]:
+        """Which cases couldn't be placed, and why, each once."""
+        return tuple(dict.fromkeys(self._unplaced.values()))
+
+    @property
+    def loose_nm(self) -> int:
+        """By how much that constraint is off in any case which is off most; 0 where that is the
+        rounding of places."""
+        most = max((case.off_nm for case in self._known.values()), default=0)
+        return most if most > NOISE else 0
+
+    def as_given(self) -> Case:
+        """The case in which nothing lies off. Raises Unplaced and ProgramError."""
+        return self.case((Fraction(0),) * len(self._dimensions))
+
+    def base(self) -> Case:
+        """The case next to that in which each dimension lies within its tolerance. Raises Unplaced
+        and ProgramError."""
+        return self.case(tuple(each.base for each in self._dimensions))
+
+    def alone(self, place: int, off: Fraction) -> Case:
+        """The case next to the base in which one dimension is off, by its place from 0. Raises
+        Unplaced and ProgramError."""
+        return self.case(tuple(off if number == place else each.base
+                               for number, each in enumerate(self._dimensions)))
+
+    def case(self, offs: Offs) -> Case:
+        """The case with the dimensions so far off. Raises Unplaced and ProgramError."""
+        if offs in self._unplaced:
+            raise Unplaced(self._unplaced[offs])
+        if offs not in self._known:
+            try:
+                self._known[offs] = self._placed(offs)
+            except Unplaced as why:
+                self._unplaced[offs] = str(why)
+                raise
+        return self._known[offs]
+
+    def tilts(self, number: int) -> bool:
+        """Whether a check of two segments measured more at one end than at the other."""
+        return any(case.highs[number] - case.values[number] > NOISE
+                   for case in self._known.values())
+
+    def _placed(self, offs: Offs) -> Case:
+        drawing = self._edited.drawing
+        by_number = {each.number: off for each, off in zip(self._dimensions, offs) if off}
+        try:
+            edited = EditedDrawing(moved(drawing, by_number), self._edited)
+            judged = judge_edited(edited, self._program, limit=self._limit)
+        except (DrawingRefused, DrawingUnsound, NotHeld, Refusal) as refused:
+            raise Unplaced(f"{self._told(by_number)}: {refused}") from None
+        why = _why_not(judged, self._limit)
+        if why or judged.solution is None:
+            raise Unplaced(f"{self._told(by_number)}: {why}")
+        solution = judged.solution
+        off_nm = max((each.amount for each in judged.deviations if each.unit is Unit.NM), default=0)
+        values, highs = (tuple(gauge.measured(solution, side) for gauge in self._gauges)
+                         for side in (-1, 1))
+        return Case(values, highs, tuple(gauge.way(solution) for gauge in self._gauges), off_nm)
+
+    def _told(self, by_number: dict[int, Fraction]) -> str:
+        """Which dimensions lie off."""
+        if len(by_number) > 1:
+            return f"with {len(by_number)} dimensions at the ends of their tolerances"
+        angles = {each.number for each in self._dimensions if each.is_angle}
+        called = self._edited.drawing.called
+        told = [f"with {called(number)} off by {_off_text(off, number in angles)}"
+                for number, off in by_number.items()]
+        return told[0] if told else "as it is given"
+
+
+def _off_text(off: Fraction, is_angle: bool) -> str:
+    """How far a dimension is off, in four digits."""
+    return f"{float(off):.4g} degrees" if is_angle else f"{float(off / 1000):.4g} mm"
+
+
+def _why_not(judged: Judgement, limit: Limit) -> str:
+    """Why what was placed doesn't count; nothing where it does."""
+    if judged.solution is None:
+        return ("no places are found" if judged.verdict is Verdict.WELL
+                else f"it is {judged.verdict.value}")
+    if judged.left_out or judged.frozen or judged.grown:
+        return "not all of it is told to the program there"
+    beyond = next(iter(limit.beyond(judged.deviations)), None)
+    return "" if beyond is None else "a constraint isn't met"

@@ -1,0 +1,163 @@
+"""What comes of the checks of a drawing."""
+from __future__ import annotations
+
+from dataclasses import dataclass
+from enum import Enum
+from fractions import Fraction
+
+from pertxogai.drawing import Drawing
+from pertxogai.drawing.tolerances.check import Check
+from pertxogai.fitting.corners import Worst
+from pertxogai.fitting.placing import NOISE
+from pertxogai.fitting.toleranced import Dimensions, Toleranced
+from pertxogai.judging import GoodJudgement
+
+
+class Answer(Enum):
+    """Whether something fits in the worst case; the values are for JSON."""
+
+    FITS = True
+    """All that was placed lies within the limits, and so does all that is reckoned where a check
+    isn't monotone."""
+    UNSURE = None
+    """All that was placed lies within the limits, and it isn't known whether all else does."""
+    BEYOND = False
+    """A case that was placed lies beyond a limit."""
+
+
+@dataclass(frozen=True)
+class Share:
+    """What one dimension gives. gives: to either side, in millionths; part: of what all give in the
+    worst case, from 0 to 1; part_of_squares: of the sum of their squares. per_unit: by how much the
+    check changes for a millimetre or a degree of the dimension; None where it turns round."""
+
+    dimension: Toleranced
+    gives: int
+    per_unit: float | None
+    part: float
+    part_of_squares: float
+
+
+@dataclass(frozen=True)
+class Range:
+    """From least to greatest, in millionths of a millimetre or a degree."""
+
+    least: int
+    greatest: int
+
+    def lies_within(self, low: Fraction | None, high: Fraction | None) -> bool:
+        """Whether all of it lies between two limits, in millionths; what is beyond one by the
+        rounding of places alone lies at the limit."""
+        return ((low is None or self.least >= low - NOISE)
+                and (high is None or self.greatest <= high + NOISE))
+
+
+@dataclass(frozen=True)
+class CheckedFit:
+    """What comes of one check. number: its place among those that are measured, from 0. low, high:
+    its limits; nominal: as all is given; all in millionths of a millimetre or a degree. by_squares:
+    the root of the sum of squares to both sides of the middle; None where the check isn't monotone
+    in what gives a good part of it, or where one of two segments tilts. shares: those that give
+    something, the greatest first. dimensions: all of them. tightened: where the first of the shares
+    has one tolerance to both sides, and to tighten that alone is enough, to how many micrometres or
+    degrees, as the program placed it."""
+
+    check: Check
+    number: int
+    low: Fraction | None
+    high: Fraction | None
+    nominal: int
+    worst: Worst
+    by_squares: Range | None
+    shares: tuple[Share, ...]
+    dimensions: tuple[Toleranced, ...]
+    tightened: Fraction | None = None
+
+    @property
+    def placed(self) -> Range:
+        """From the least to the greatest that was measured."""
+        return Range(self.worst.least, self.worst.greatest)
+
+    @property
+    def reckoned(self) -> Range:
+        """The same, as much wider as it is reckoned where the check isn't monotone."""
+        worst = self.worst
+        return Range(worst.least - worst.below, worst.greatest + worst.above)
+
+    @property
+    def turning_numbers(self) -> tuple[int, ...]:
+        """The places, from 1, of the constraints in which the check isn't monotone."""
+        return tuple(self.dimensions[place].number for place in sorted(self.worst.turning))
+
+    @property
+    def answer(self) -> Answer:
+        """Whether it fits in the worst case."""
+        if not self.placed.lies_within(self.low, self.high):
+            return Answer.BEYOND
+        if not self.reckoned.lies_within(self.low, self.high):
+            return Answer.UNSURE
+        return Answer.FITS
+
+    @property
+    def fits_by_squares(self) -> bool:
+        """Whether the root of the sum of squares lies within the limits."""
+        return self.by_squares is not None and self.by_squares.lies_within(self.low, self.high)
+
+
+@dataclass(frozen=True)
+class UnknownFit:
+    """A check of which nothing is known: why, in a line."""
+
+    check: Check
+    why: str
+
+    @property
+    def answer(self) -> Answer:
+        """It isn't known whether it fits."""
+        return Answer.UNSURE
+
+
+@dataclass(frozen=True)
+class Fit:
+    """What comes of each check of a drawing that is good. placements: how many times it was placed
+    and measured. unplaced: which cases have no places, and why. loose_nm: how far a constraint is
+    off in a case at most; 0 where that is rounding."""
+
+    good: GoodJudgement
+    dimensions: Dimensions
+    checks: tuple[CheckedFit | UnknownFit, ...]
+    placements: int
+    unplaced: tuple[str, ...] = ()
+    loose_nm: int = 0
+
+    @property
+    def drawing(self) -> Drawing:
+        """What is drawn."""
+        return self.good.drawing
+
+    @property
+    def known(self) -> tuple[CheckedFit, ...]:
+        """The checks of which something is known."""
+        return tuple(each for each in self.checks if isinstance(each, CheckedFit))
+
+    @property
+    def idle(self) -> tuple[Toleranced, ...]:
+        """The dimensions with a tolerance that by themselves give nothing to any check."""
+        giving = {share.dimension.number for each in self.known for share in each.shares}
+        return tuple(each for each in self.dimensions.toleranced if each.number not in giving)
+
+    @property
+    def answer(self) -> Answer:
+        """Whether all checks fit in the worst case; that isn't known where a case has no places."""
+        answers = {each.answer for each in self.checks}
+        if self.unplaced:
+            answers.add(Answer.UNSURE)
+        return next((each for each in (Answer.BEYOND, Answer.UNSURE) if each in answers),
+                    Answer.FITS)
+
+
+@dataclass(frozen=True)
+class NoFit:
+    """Nothing is known of what fits: why, in a line each."""
+
+    why: tuple[str, ...]

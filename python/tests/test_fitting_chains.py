@@ -1,0 +1,257 @@
+"""Chains of tolerances of which each printed digit was worked out by hand: where points meet, where
+bars lie in one line, where nothing is left between two walls, where both deviations lie on one
+side; chains of radii and of holes on a circle; values that are expressions; general tolerances."""
+from __future__ import annotations
+
+from math import atan, cos, degrees, radians, sin, sqrt
+
+import pytest
+
+from pertxogai.drawing import read_drawing
+from pertxogai.fitting import Answer, CheckedFit, Fit, UnknownFit, fit
+
+
+def checks(text: str, program) -> list[CheckedFit]:
+    """What comes of the checks of a drawing, all of which are known."""
+    found = fit(read_drawing(text), program)
+    assert isinstance(found, Fit), found
+    assert len(found.known) == len(found.checks), found.checks
+    return list(found.known)
+
+
+def worst(found: CheckedFit) -> tuple[float, float]:
+    """The worst case in millimetres or degrees, to the last printed digit."""
+    return tuple(round(each / 1_000_000, 4) for each in (found.worst.least, found.worst.greatest))
+
+
+def squares(found: CheckedFit) -> tuple[float, float]:
+    """The root of the sum of squares, likewise."""
+    by_squares = found.by_squares
+    return tuple(round(each / 1_000_000, 4) for each in (by_squares.least, by_squares.greatest))
+
+
+def rounded(*values: float) -> tuple[float, ...]:
+    return tuple(round(each, 4) for each in values)
+
+
+POSITION = """check Off distance P B.end .. 0.1803
+point P 30 20
+x P 30 +-0.1
+y P 20 +-0.05
+segment A 0 0 30 0
+segment B A.end 30 20.5
+coincident A.start Origin
+horizontal A
+vertical B
+length A 30 +-0.05
+length B 20 +-0.05
+"""
+
+
+def test_a_true_position_by_two_chains(program) -> None:
+    # As all is given the two points are one. In x they come apart by 0.1 + 0.05, in y by
+    # 0.05 + 0.05: by the root of 0.15^2 + 0.1^2 = 0.18028, and no case is further.
+    (off,) = checks(POSITION, program)
+    assert worst(off) == rounded(0, sqrt(0.15 ** 2 + 0.1 ** 2)) == (0, 0.1803)
+    assert off.answer is Answer.FITS and len(off.turning_numbers) == 4
+    (off,) = checks(POSITION.replace("0.1803", "0.18"), program)
+    assert off.answer is Answer.BEYOND
+
+
+def test_a_crank_that_comes_past_its_dead_point(program) -> None:
+    # The slider stands at r cos d + root(l^2 - (r sin d)^2), d from where both bars lie in one
+    # line: 2.5 degrees off at one end of the angle, 1.5 at the other, 0 between them.
+    def slider(r: float, rod: float, d: float) -> float:
+        return r * cos(radians(d)) + sqrt(rod ** 2 - (r * sin(radians(d))) ** 2)
+
+    (found,) = checks("check Slider y Rod.end 179.7 .. 180.3\nsegment Crank 0 0 0.5 50\n"
+                      "segment Rod Crank.end 0 180\ncoincident Crank.start Origin\n"
+                      "on Rod.end YAxis\nlength Crank 50 +-0.1\nlength Rod 130 +-0.1\n"
+                      "angle Crank +89.5deg +-2deg\n", program)
+    assert worst(found) == rounded(slider(49.9, 129.9, 2.5), 180.2) == (179.7343, 180.2)
+    assert found.turning_numbers == (5,) and found.answer is Answer.FITS
+
+
+@pytest.mark.parametrize("side", [1, -1])
+@pytest.mark.parametrize("first, last", [(-5, 5), (5, -5)])
+def test_a_gap_that_may_close_whichever_way_the_wall_is_drawn(side, first, last, program) -> None:
+    # 20 to 20.1 less 19.9 to 20: 0 to 0.2, on either side of the datum.
+    (gap,) = checks(f"check Gap distance A.end Wall 0 .. 0.2\nsegment A 0 0 {19.5 * side} 0\n"
+                    f"segment Wall {20 * side} {first} {20 * side} {last}\nvertical Wall\n"
+                    "y Wall.start 5\nlength Wall 10\ncoincident A.start Origin\nhorizontal A\n"
+                    "length A 20 +0-0.1\nx Wall.start 20 +0.1-0\n", program)
+    assert worst(gap) == (0, 0.2) and gap.answer is Answer.FITS
+
+
+def test_a_hole_and_a_shaft(program) -> None:
+    # H7 and g6 of 20: 20 to 20.021 less 19.98 to 19.993, so 0.007 to 0.041. The middles are 20.0105
+    # and 19.9865, 0.024 apart; half of the fields are 0.0105 and 0.0065.
+    (clear,) = checks("check Clear x Shaft.end Hole.end 0.007 .. 0.041\nsegment Shaft 0 0 19.9 0\n"
+                      "segment Hole Shaft.start 20 0\ncoincident Shaft.start Origin\n"
+                      "horizontal Shaft Hole\nlength Shaft 20 -0.007-0.02\n"
+                      "length Hole 20 +0.021-0\n", program)
+    off = sqrt(0.0105 ** 2 + 0.0065 ** 2)
+    assert worst(clear) == (0.007, 0.041) and clear.answer is Answer.FITS
+    assert squares(clear) == rounded(0.024 - off, 0.024 + off) == (0.0117, 0.0363)
+
+
+def test_a_turn_beyond_half_of_one(program) -> None:
+    # 179.9 within 0.3 is 179.6 to 180.2, and doesn't leap to -179.8.
+    (turn,) = checks("check Turn angle A B +179.5deg .. +180.5deg\nsegment A 0 0 40 0\n"
+                     "segment B A.end 0 0.07\ncoincident A.start Origin\nhorizontal A\n"
+                     "length A 40\nlength B 40\nangle A B +179.9deg +-0.3deg\n", program)
+    assert worst(turn) == (179.6, 180.2) and turn.answer is Answer.FITS
+
+
+@pytest.mark.parametrize("tilt", [30, 37.123])
+def test_limits_that_are_just_reached_in_a_slanted_frame(tilt, program) -> None:
+    # 60 - 20 = 40 within 0.1, and the limits are 39.9 and 40.1.
+    x, y = cos(radians(tilt)), sin(radians(tilt))
+    (gap,) = checks("check Gap distance A.end B.end 39.9 .. 40.1\n"
+                    f"segment A 0 0 {20 * x:.4f} {20 * y:.4f}\n"
+                    f"segment B A.start {60 * x:.4f} {60 * y:.4f}\ncoincident A.start Origin\n"
+                    f"angle A +{tilt}deg\nangle B +{tilt}deg\nlength A 20 +-0.1\nlength B 60\n",
+                    program)
+    assert worst(gap) == (39.9, 40.1) and gap.answer is Answer.FITS
+
+
+def test_a_chain_of_radii(program) -> None:
+    # Three circles in a row: 20 + 2 * 10 + 5 = 45, within 0.1 + 0.1 + 0.02; the middle one by its
+    # diameter.
+    (last,) = checks("check Last x Three.centre 44.8 .. 45.2\ncircle One 0 0 20\n"
+                     "circle Two 30 0 10\ncircle Three 45 0 5\ncoincident One.centre Origin\n"
+                     "on Two.centre XAxis\non Three.centre XAxis\ntangent One Two\n"
+                     "tangent Two Three\nradius One 20 +-0.1\ndiameter Two 20 +-0.1\n"
+                     "radius Three 5 +-0.02\n", program)
+    off = sqrt(0.1 ** 2 + 0.1 ** 2 + 0.02 ** 2)
+    assert worst(last) == (44.78, 45.22) and last.answer is Answer.BEYOND
+    assert squares(last) == rounded(45 - off, 45 + off)
+    # 0.2 is left for it and two of 0.02 and 0.1.
+    assert last.tightened == 80
+
+
+def test_holes_on_a_pitch_circle(program) -> None:
+    # They are 2 R sin(a/2) apart: R 39.9 to 40.1, a 59.9 to 60.1.
+    (chord,) = checks("check Chord distance One.centre Two.centre 39.8 .. 40.2\n"
+                      "circle Pitch 0 0 40\ncoincident Pitch.centre Origin\n"
+                      "radius Pitch 40 +-0.1\ncircle One 40 0 3\ncircle Two 20 34.64 3\n"
+                      "radius One 3\nradius Two 3\non One.centre Pitch\non One.centre XAxis\n"
+                      "segment Ray Origin Two.centre\non Two.centre Pitch\n"
+                      "angle Ray 60deg +-0.1deg\n", program)
+
+    def apart(radius: float, angle: float) -> float:
+        return 2 * radius * sin(radians(angle / 2))
+
+    assert worst(chord) == rounded(apart(39.9, 59.9), apart(40.1, 60.1)) == (39.8397, 40.1606)
+    off = sqrt(0.1 ** 2 + ((apart(40, 60.1) - apart(40, 59.9)) / 2) ** 2)
+    middle = 40 + (apart(40, 60.1) + apart(40, 59.9)) / 2 - 40
+    assert squares(chord) == rounded(middle - off, middle + off)
+
+
+def test_tolerances_of_expressions_and_of_a_ratio(program) -> None:
+    # 60/2 + 60*2/3 = 70, 0.1 less or 0.1 + 0.2 more. The bar of 50 rises 3 in 4: 36.87 degrees.
+    row, height = checks(
+        "value Width 60\ncheck Row x B.end 69.9 .. 70.3\ncheck Height y S.end 29 .. 31\n"
+        "segment A 0 0 30 0\nsegment B A.end 70 0\ncoincident A.start Origin\nhorizontal A B\n"
+        "length A Width/2 +-0.1\nlength B Width*2/3 +0.2-0\nsegment S A.start 40 30\n"
+        "length S 50\nangle S 3/4 +-0.2deg\n", program)
+    assert worst(row) == (69.9, 70.3) and row.answer is Answer.FITS
+    rise = degrees(atan(3 / 4))
+    assert worst(height) == rounded(
+        *(50 * sin(radians(rise + off)) for off in (-0.2, 0.2))) == (29.8602, 30.1394)
+
+
+def test_a_general_tolerance_beside_own_ones(program) -> None:
+    # ISO 2768-m: 0.2 for 20, 0.3 for 100; 5 has 0.01 of its own.
+    (row,) = checks("tolerances ISO2768-m\ncheck Row x C.end 124.49 .. 125.51\n"
+                    "segment A 0 0 20 0\nsegment B A.end 120 0\nsegment C B.end 125 0\n"
+                    "coincident A.start Origin\nhorizontal A B C\nlength A 20\nlength B 100\n"
+                    "length C 5 +-0.01\n", program)
+    off = sqrt(0.2 ** 2 + 0.3 ** 2 + 0.01 ** 2)
+    assert worst(row) == (124.49, 125.51) and row.answer is Answer.FITS
+    assert squares(row) == rounded(125 - off, 125 + off)
+    assert [each.dimension.is_general for each in row.shares] == [True, True, False]
+
+
+def test_the_end_of_a_slot_is_no_rounded_edge(program) -> None:
+    # Half a turn of radius 5 is a feature: 0.1 by ISO 2768-m, table 1. A quarter is the rounding of
+    # an edge: 0.5 by table 2.
+    slot = ("segment Lower 0 -5 30 -5\narc East 30 0 Lower.end 30 5\n"
+            "segment Upper East.end 0 5\narc West 0 0 Upper.end Lower.start\n"
+            "coincident West.centre Origin\nhorizontal Lower Upper\ntangent Lower East\n"
+            "tangent East Upper\ntangent Upper West\ntangent West Lower\nlength Lower 30\n"
+            "radius West 5\n")
+    edge = ("segment H 0 0 20 0\narc F 20 5 H.end 25 5\nsegment V F.end 25 20\n"
+            "coincident H.start Origin\nhorizontal H\nvertical V\ntangent H F\ntangent F V\n"
+            "length H 20\nlength V 15\nradius F 5\n")
+    (end,) = checks(f"tolerances ISO2768-m\ncheck End radius West 4.9 .. 5.1\n{slot}", program)
+    (corner,) = checks(f"tolerances ISO2768-m\ncheck Edge radius F 4.5 .. 5.5\n{edge}", program)
+    assert worst(end) == (4.9, 5.1) and worst(corner) == (4.5, 5.5)
+
+
+def test_a_bar_that_tilts_counts_by_its_nearer_and_its_further_end(program) -> None:
+    # Both ends stand 10 above the floor, each within 0.1 by itself: the nearer may come to 9.9, the
+    # further to 10.1, though the other end stays at 10.
+    (gap,) = checks("check Gap distance Floor Bar 9.9 .. 10.05\nsegment Floor 0 0 40 0\n"
+                    "coincident Floor.start Origin\nhorizontal Floor\nlength Floor 40\n"
+                    "segment Bar 5 10 35 10\nx Bar.start 5\nx Bar.end 35\ny Bar.start 10 +-0.1\n"
+                    "y Bar.end 10 +-0.1\n", program)
+    assert worst(gap) == (9.9, 10.1)
+    assert gap.answer is Answer.BEYOND and gap.by_squares is None
+
+
+def test_a_check_that_turns_only_where_two_angles_are_off_together(program) -> None:
+    # An arm of 1000 at 30 + 59 = 89 degrees. Each angle alone leaves it below 90; together they
+    # take it to 90.4, and on the way it stands upright.
+    (high,) = checks("check High y Arm.end .. 999.99\nsegment First 0 0 86.6 50\n"
+                     "coincident First.start Origin\nlength First 100\n"
+                     "angle First +30deg +-0.5deg\nsegment Arm First.start 17 1000\n"
+                     "length Arm 1000\nangle First Arm +59deg +-0.9deg\n", program)
+    assert worst(high) == rounded(1000 * sin(radians(87.6)), 1000)
+    assert high.answer is Answer.BEYOND and high.worst.turning
+
+
+def test_what_is_worst_where_one_dimension_alone_is_off_is_told(program) -> None:
+    # A crank of 100 at 1 - 1.5 = -0.5 degrees and a rod of 50. With one angle half a degree more it
+    # lies level, which is its furthest; with both at their turn it is beyond that.
+    (reach,) = checks("check Reach x Rod.end .. 149.999\nsegment Base 0 0 100 1.75\n"
+                      "coincident Base.start Origin\nlength Base 100\n"
+                      "angle Base +1deg +-0.6deg\nsegment Crank Base.start 100 -0.87\n"
+                      "length Crank 100\nangle Base Crank -1.5deg +-0.6deg\n"
+                      "segment Rod Crank.end 150 0\non Rod.end XAxis\nlength Rod 50\n", program)
+    assert worst(reach)[1] == 150 and reach.answer is Answer.BEYOND
+
+
+def test_more_of_a_coordinate_of_nothing_is_to_the_drawn_side(program) -> None:
+    (gap,) = checks("check Gap x P 0 .. 0.3\npoint P -5 10\nx P 0 +0.2-0\ny P 10\n", program)
+    assert worst(gap) == (0, 0.2) and gap.answer is Answer.FITS
+
+
+# -- what isn't sure, and what isn't known
+
+def test_two_points_that_may_come_past_each_other_are_not_sure_to_stay_apart(program) -> None:
+    # P lies 0.09 before Q and may move by 0.1: past it, to 0.01 behind, and so on it, where neither
+    # end of the tolerance lies.
+    text = ("check Apart distance P Q 0.005 ..\npoint P 20 0\npoint Q 20.09 0\non P XAxis\n"
+            "on Q XAxis\nx P 20 +-0.1\nx Q 20.09\n")
+    (apart,) = checks(text, program)
+    assert worst(apart) == (0.01, 0.19)
+    assert apart.answer is Answer.UNSURE and apart.reckoned.least == 0
+    assert fit(read_drawing(text), program).answer is Answer.UNSURE
+
+
+TRIANGLE = ("segment A 0 0 100 0\nsegment B A.end 50 1\nsegment C B.end A.start\n"
+            "coincident A.start Origin\nhorizontal A\nlength A 100 +-0.5\nlength B 50.01\n"
+            "length C 50.01\n")
+
+
+def test_what_has_no_places_is_told_and_what_does_not_hang_on_it_too(program) -> None:
+    # Three lengths that close only just: a tenth more, and there is no such triangle. The bar
+    # doesn't hang on it.
+    found = fit(read_drawing("check Top y B.end 0 .. 2\ncheck Bar length D 9.9 .. 10.1\n"
+                             + TRIANGLE + "segment D 0 -20 10 -20\nhorizontal D\n"
+                             "x D.start 5\ny D.start -20\nlength D 10 +-0.1\n"), program)
+    top, bar = found.checks
+    assert isinstance(top, UnknownFit) and "length A 100 +-0.5" in top.why
+    assert worst(bar) == (9.9, 10.1) and bar.answer is Answer.FITS
+    assert found.answer is Answer.UNSURE and "length A 100 +-0.5" in found.unplaced[0]

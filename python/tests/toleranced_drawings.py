@@ -1,0 +1,162 @@
+"""Drawings with tolerances by chance: such as the hunt makes, and what its points must keep of each
+other; and whether corners by chance lie within the worst case that `fit` tells."""
+from __future__ import annotations
+
+from collections.abc import Iterator
+from dataclasses import dataclass, replace
+from fractions import Fraction
+from functools import partial
+from random import Random
+
+from hunt.making import Kind, NotMade, made
+from pertxogai.drawing import (
+    VALUED, AngleBetween, Drawing, DrawingRefusal, Segment, Tolerance, Valued, read_drawing,
+    write_drawing)
+from pertxogai.fitting import Fit, NoFit, fit
+from pertxogai.fitting.gauges import Gauge
+from pertxogai.fitting.placing import NOISE, Offs, Placer, Unplaced
+from pertxogai.judging.measure import Limit
+from pertxogai.program import Solver
+
+MOST_BLOCKS = 3
+
+
+def toleranced(seed: int) -> Drawing | None:
+    """The drawing of a seed, with a tolerance for each dimension and two checks or more; None where
+    none is made, or it has no three points."""
+    try:
+        drawing = read_drawing(made(seed, Kind.COMPLETE, MOST_BLOCKS).text)
+    except NotMade:
+        return None
+    random = Random(seed)
+    said = tuple(_with_tolerance(each, random) if isinstance(each, VALUED) else each
+                 for each in drawing.constraints)
+    points = list(dict.fromkeys(map(drawing.meetings.leader, drawing.points())))
+    if len(points) < 3:
+        return None
+    one, other, third = random.sample(points, 3)
+    text = write_drawing(replace(drawing, constraints=said))
+    lines = [f"check Apart distance {one} {other} 0 ..",
+             f"check Aside {random.choice('xy')} {one} {third} -1 .. +1",
+             *_checks_of_segments(drawing, f"{third}", random)]
+    return read_drawing("\n".join([text, *filter(partial(_is_read, text), lines), ""]))
+
+
+def _checks_of_segments(drawing: Drawing, point: str, random: Random) -> Iterator[str]:
+    """What may be checked of segments, where it has two."""
+    segments = [each.name for each in drawing.geometry if isinstance(each, Segment)]
+    if len(segments) > 1:
+        first, second = random.sample(segments, 2)
+        yield f"check Long length {first} 0 .."
+        yield f"check Beside distance {point} {second} 0 .."
+        yield f"check Turn angle {first} {second} -400deg .. +400deg"
+
+
+def _is_read(text: str, line: str) -> bool:
+    """Whether a check can be asked for: none is asked of a point that lies on the segment."""
+    try:
+        read_drawing(f"{text}{line}\n")
+    except DrawingRefusal:
+        return False
+    return True
+
+
+def _with_tolerance(dimension: Valued, random: Random) -> Valued:
+    """A dimension that may lie off by up to a degree, or by 0.3 mm and a twentieth of itself: to
+    both sides, or to one alone."""
+    if isinstance(dimension, AngleBetween):
+        off, unit, mark = Fraction(random.randint(1, 100), 100), Fraction(1), "deg"
+    else:
+        most_um = min(300, int(abs(dimension.value_um) / 20))
+        off, unit, mark = Fraction(random.randint(1, max(most_um, 1))), Fraction(1, 1000), ""
+    text = f"{float(off * unit)}{mark}"
+    below, above, written = random.choice((
+        (off, off, f"+-{text}"), (off, off, f"+-{text}"), (Fraction(0), off, f"+{text}-0{mark}"),
+        (off, -off / 2, f"-{float(off * unit / 2)}{mark}-{text}")))
+    return replace(dimension, tolerance=Tolerance(below, above, written))
+
+
+@dataclass(frozen=True)
+class Tried:
+    """What came of one drawing. wrong: what of its checks was told wrongly: those said to be
+    monotone that have a corner outside of their worst case, and those said to fit, or reckoned by
+    numbers, that have one outside of what is reckoned; with how far that is, in millionths."""
+
+    is_known: bool
+    corners: int = 0
+    monotone: int = 0
+    checks: int = 0
+    wrong: tuple[str, ...] = ()
+
+
+def tried(seed: int, corners: int, program: Solver) -> Tried | None:
+    """What comes of the drawing of a seed at that number of corners; None where there is none."""
+    drawing = toleranced(seed)
+    if drawing is None:
+        return None
+    found = fit(drawing, program)
+    if isinstance(found, NoFit) or not found.known:
+        return Tried(False)
+    search = _Search(found, program, Random(seed))
+    search.try_corners(corners)
+    monotone = sum(each.worst.is_one_way for each in found.known)
+    return Tried(True, search.placed, monotone, len(found.known), tuple(search.wrong))
+
+
+class _Search:
+    """Corners by chance, and from the worst of them for each check on to worse ones, one dimension
+    after the other: as who wants to prove the told worst case wrong."""
+
+    def __init__(self, found: Fit, program: Solver, random: Random) -> None:
+        self._found, self._random = found, random
+        self._dimensions = found.dimensions.toleranced
+        self._placer = Placer(found.drawing, program, Limit())
+        solution = found.good.solution
+        self._placer.begin(self._dimensions, [
+            Gauge.of(each.check, found.drawing, solution) for each in found.known])
+        self.wrong: dict[str, None] = {}
+
+    @property
+    def placed(self) -> int:
+        """How many corners had places."""
+        return len(self._placer.cases)
+
+    def try_corners(self, count: int) -> None:
+        """That number by chance, and then for the least and the greatest of each check as many as
+        there are dimensions."""
+        chance = [self._corner() for _ in range(count)]
+        known = [offs for offs in chance if self._values(offs) is not None]
+        goals = [(number, side) for number in range(len(self._found.known)) for side in (-1, 1)]
+        for number, side in goals if known else ():
+            self._climb(known, number, side)
+
+    def _climb(self, known: list[Offs], number: int, side: int) -> None:
+        def worth(offs: Offs) -> int | None:
+            values = self._values(offs)
+            return None if values is None else side * values[number]
+
+        best = max(known, key=lambda offs: worth(offs) or 0)
+        for place in self._random.sample(range(len(best)), len(best)):
+            each = self._dimensions[place]
+            off = each.above if best[place] == -each.below else -each.below
+            other = (*best[:place], off, *best[place + 1:])
+            there, here = worth(other), worth(best)
+            if there is not None and here is not None and there > here:
+                best = other
+
+    def _corner(self) -> Offs:
+        return tuple(self._random.choice((-each.below, each.above)) for each in self._dimensions)
+
+    def _values(self, offs: Offs) -> tuple[int, ...] | None:
+        """What is measured there, looked at; None where nothing is placed."""
+        try:
+            case = self._placer.case(offs)
+        except Unplaced:
+            return None
+        for each, low, high in zip(self._found.known, case.values, case.highs):
+            told = each.placed if each.worst.is_one_way else each.reckoned
+            off = max(told.least - low, high - told.greatest)
+            if off > NOISE:
+                self.wrong[f"{each.check.line()}: {low} .. {high} is {off} outside of {told.least} "
+                           f".. {told.greatest}"] = None
+        return case.values
