@@ -391,7 +391,7 @@ def test_what_only_says_where_the_whole_lies_is_not_too_much_where_the_rest_has_
 def test_ends_that_become_one_are_named():
     text = ("segment S 0 0 40 0\nsegment T 40 0 0 5\ncoincident S.end T.start\n"
             "Shut: coincident S.start T.start\nlength T 30\n")
-    with pytest.raises(DrawingRefused, match="^Shut makes both ends of S one point: take"):
+    with pytest.raises(DrawingRefused, match="^Shut makes both ends of S one point: remove"):
         judge(read_drawing(text), None)
 
 

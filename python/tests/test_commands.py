@@ -32,7 +32,7 @@ def test_judge_a_sketch_that_is_well(capsys) -> None:
     status, out, err = judged(capsys, "judge", str(EXAMPLES / "triangle.sketch"))
     assert (status, err) == (0, "")
     assert out.splitlines() == [
-        "triangle: well (fully constrained), elements 3, constraints 3, parts 1",
+        "triangle: well (fully constrained), elements 3, constraints 3, rigid clusters 1",
         "  placed within 0 nm and 0 ppb",
         "  point A 0 0",
         "  point B 4000000 0",
@@ -47,18 +47,18 @@ def test_judge_a_sketch_that_is_well(capsys) -> None:
             "braced-square",
             [
                 "over",
-                "left out of part 1, so that the others can be placed:\n"
-                "    c6 : distance C D 4 repeat off 0 nm\n",
-                "remove one of these",
+                "redundant or conflicting in part 1; without these the others can be placed:\n"
+                "    c6 : distance C D 4 repeat off 0 nm (redundant)\n",
+                "remove any one of these",
             ],
         ),
         (
             "hinge",
-            ["open", "part 2 sound elements 4 held 5 due 5 : Pin Door D1 D2", "connect the parts"],
+            ["open", "part 2 sound elements 4 held 5 due 5 : Pin Door D1 D2", "connect the rigid clusters"],
         ),
         (
             "no-triangle",
-            ["well", "fault s1 build height C gap", "of distance A B 5", "change one of these lengths"],
+            ["well", "can't be placed as drawn (no real solution): fault s1 build height C gap", "of distance A B 5", "change one of these lengths"],
         ),
     ],
 )

@@ -278,7 +278,7 @@ def test_a_value_is_refused_by_its_line_and_name(text, told):
      "12.5, or a line as `value Widht 12.5`, or do you mean Width?"),
     ("value Slope 3deg", "angle S T Slop", "'Slop' is no angle and no value: write degrees, as "
      "60deg, a ratio, as 1/2, or a line as `value Slop 60deg`, or do you mean Slope?"),
-    ("value Width 3", "x S.start Widht Width", "'Widht' isn't drawn: write its line further up, or "
+    ("value Width 3", "x S.start Widht Width", "'Widht' isn't drawn above this line: "
      "do you mean Width?"),
 ])
 def test_an_expression_is_refused_by_its_line_and_words(values, line, told):

@@ -150,7 +150,7 @@ def test_the_installed_command_judges(installed: Path, tmp_path: Path) -> None:
     shutil.copy(TOP / "examples/triangle.sketch", tmp_path)
     assert done("pertxogai", "--version", env=here) == f"pertxogai {__version__}\n"
     judged = done("pertxogai", "judge", "triangle.sketch", env=here, cwd=tmp_path)
-    assert judged.startswith("triangle: well (fully constrained), elements 3, constraints 3, parts 1\n  placed within")
+    assert judged.startswith("triangle: well (fully constrained), elements 3, constraints 3, rigid clusters 1\n  placed within")
     done("pertxogai", "draw", "triangle.sketch", "-o", "triangle.svg", env=here, cwd=tmp_path)
     asked = "from pertxogai.program import Program; print(Program.find().path)"
     found = done(PYTHON, "-c", asked, env=here)

@@ -21,7 +21,7 @@ def certify(options: argparse.Namespace) -> Exit:
     outcome = outcome_of(found, program, options)
     good = outcome.good()
     if isinstance(good, NotGood):
-        print(printable(f"{outcome.name}: isn't good, so no claim is written: {good}"))
+        print(printable(f"{outcome.name}: no claim is written, because it isn't good: {good}"))
         return Exit.NOT_GOOD
     try:
         claim = claim_of(good, program).text()

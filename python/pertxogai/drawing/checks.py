@@ -19,8 +19,8 @@ MOST_UM = MOST_MM * UM_PER_MM
 def standing(scene: NamedShapes, name: str, word: str) -> Shape | Datum:
     """The shape of that name; raises WordFault at the `word` that names it where none has it."""
     if not scene.has(name):
-        raise WordFault(word, "isn't drawn: write its line further up"
-                        + nearest(name, (*scene.names(), *scene.values.names())))
+        near = nearest(name, (*scene.names(), *scene.values.names())).removeprefix(", or ")
+        raise WordFault(word, f"isn't drawn above this line: {near or 'write its line further up'}")
     return scene.shape(name)
 
 

@@ -268,4 +268,4 @@ def _advice(word: str) -> str:
     known = [each.value for kind in (ShapeWord, ConstraintWord, Flag) for each in kind]
     known.extend(HEAD_WORDS)
     near = nearest(word, known).removeprefix(", or ")
-    return f"is no word that begins a line: {near or 'write one of ' + ', '.join(known)}"
+    return f"begins no line: {near or 'write one of ' + ', '.join(known)}"

@@ -7,7 +7,8 @@ from pertxogai.judging.choices import tried_lines
 from pertxogai.judging.judged_sketch import JudgedSketch, concerned, what_to_do
 from pertxogai.judging.measure import Unit, units_text
 from pertxogai.output.verdict_text import verdict_text
-from pertxogai.program.reports import OverPart
+from pertxogai.program.reports import (
+    Cause, Fault, FrameFault, NumberFault, Off, OverPart, RangeFault, Spare, TurnedFault)
 
 
 def sketch_lines(judged: JudgedSketch) -> Iterator[str]:
@@ -15,8 +16,7 @@ def sketch_lines(judged: JudgedSketch) -> Iterator[str]:
     check = judged.check
     yield (
         f"{judged.name}: {verdict_text(check.verdict)}, elements {check.elements}, constraints"
-        f" {check.constraints}, parts"
-        f" {len(check.parts)}"
+        f" {check.constraints}, rigid clusters {len(check.parts)}"
     )
     yield from _place_lines(judged)
     yield from _fault_lines(judged)
@@ -27,10 +27,18 @@ def sketch_lines(judged: JudgedSketch) -> Iterator[str]:
         for over in judged.excess.parts:
             yield from _over(over, groups)
     if judged.spare:
-        yield "  what to do: remove one of these, and judge again"
-        yield from (f"    {it.text()}" for it in judged.spare)
+        yield "  what to do: remove any one of these, and judge again"
+        yield from (f"    {it.text()}" for it in _picked_first(judged))
     elif judged.parts:
-        yield "  what to do: connect the parts: add a dimension between elements of two of them"
+        yield ("  what to do: connect the rigid clusters: add a dimension between elements of two "
+               "of them")
+
+
+def _picked_first(judged: JudgedSketch) -> list[Spare]:
+    """The removable constraints, those first that the program leaves out."""
+    parts = judged.excess.parts if judged.excess else ()
+    picked = {each.number for part in parts for each in part.left_out}
+    return sorted(judged.spare, key=lambda each: each.number not in picked)
 
 
 def _place_lines(judged: JudgedSketch) -> Iterator[str]:
@@ -45,7 +53,7 @@ def _place_lines(judged: JudgedSketch) -> Iterator[str]:
 def _fault_lines(judged: JudgedSketch) -> Iterator[str]:
     """What fails, the constraints that it is about, and what helps."""
     if judged.fault:
-        yield f"  {judged.fault.text().strip()}"
+        yield f"  can't be placed as drawn ({_cause(judged.fault)}): {judged.fault.text().strip()}"
         yield from (f"    of {constraint.text()}" for constraint in concerned(judged))
         yield from (f"  {line}" for line in tried_lines(judged.sketch, judged.tried))
         yield f"  what to do: {what_to_do(judged.fault, judged.tried)}"
@@ -54,8 +62,10 @@ def _fault_lines(judged: JudgedSketch) -> Iterator[str]:
 def _over(over: OverPart, groups: Mapping[int, tuple[int, ...]]) -> Iterator[str]:
     """What is left out of a part, from the last constraint on, how far off each is then, and
     against which others it is too many."""
-    yield f"  left out of part {over.part.number}, {_rest(over)}:"
-    yield from (f"    {line}" for line in over.text().splitlines()[1:])
+    yield f"  redundant or conflicting in part {over.part.number}; {_rest(over)}:"
+    yield from (f"    {each.text().strip()}{_gloss(each.off)}" for each in over.left_out)
+    if over.fault:
+        yield f"    {over.fault.text().strip()}"
     for each in over.left_out:
         if each.number in groups:
             because = ", ".join(f"c{number}" for number in groups[each.number])
@@ -65,7 +75,35 @@ def _over(over: OverPart, groups: Mapping[int, tuple[int, ...]]) -> Iterator[str
 def _rest(over: OverPart) -> str:
     """What becomes of the constraints of a part that are kept."""
     if over.stays_over():
-        return "and the others are still over-constrained"
+        return "without these the others are still over-constrained"
     if over.fault:
-        return "and the program doesn't place the others"
-    return "so that the others can be placed"
+        return "without these the program doesn't place the others"
+    return "without these the others can be placed"
+
+
+def _gloss(off: Off | None) -> str:
+    """Whether a constraint is redundant, or by how much it conflicts; nothing where that isn't
+    measured."""
+    if off is None:
+        return ""
+    if not off.conflicts:
+        return " (redundant)"
+    if off.turned:
+        return " (conflicting: flipped against the drawing)"
+    amount = units_text(abs(off.amount), Unit(off.unit.value))
+    return f" (conflicting: the others give {amount} {'more' if off.amount > 0 else 'less'})"
+
+
+def _cause(fault: Fault) -> str:
+    """The trade's word for why there are no coordinates."""
+    match fault:
+        case NumberFault(_, Cause.GAP):
+            return "no real solution"
+        case NumberFault():
+            return "degenerate"
+        case RangeFault() | FrameFault():
+            return "out of range"
+        case TurnedFault():
+            return "flipped against the drawing"
+        case _:
+            return "beyond the limit"
