@@ -226,8 +226,8 @@ def test_a_folder_of_documents_is_judged_without_a_window(program: Program,
     status, lines = asked(here, program, "judge", str(here.folder))
     assert status == 2
     assert "empty.FCStd: empty has no sketch: draw one in the Sketcher" in lines
-    assert any(each.startswith("plate.FCStd Sketch: Sketch: well, ") for each in lines)
-    assert any(each.startswith("twice.FCStd Sketch: Sketch: over, ") for each in lines)
+    assert any(each.startswith("plate.FCStd Sketch: Sketch: well (fully constrained), ") for each in lines)
+    assert any(each.startswith("twice.FCStd Sketch: Sketch: over (over-constrained), ") for each in lines)
     assert sums(here.folder) == before
 
 
@@ -259,7 +259,7 @@ def test_a_folder_is_completed_into_another(program: Program, tmp_path: Path) ->
     status, lines = asked(here, program, "complete", str(here.folder), str(out))
     assert status == 0 and sums(here.folder) == before, lines
     status, lines = asked(here, program, "judge", str(out))
-    assert status == 0 and lines[0].startswith("plate-without-height.FCStd Sketch: Sketch: well, ")
+    assert status == 0 and lines[0].startswith("plate-without-height.FCStd Sketch: Sketch: well (fully constrained), ")
 
 
 def test_the_add_on_of_a_release_has_all_that_it_needs(program: Program, tmp_path: Path) -> None:

@@ -66,7 +66,7 @@ def test_a_sketch_is_judged_and_stays_as_it_is(told: dict[str, Any]) -> None:
     assert [row[0] for row in facts["rows"]][8:] == ["Constraint9", "below", "above",
                                                      "Constraint12"]
     assert [row[1] for row in facts["rows"]].count("redundant") == 4
-    assert facts["told"].startswith("Sketch: over, ")
+    assert facts["told"].startswith("Sketch: over (over-constrained), ")
     assert facts["same"] and facts["undo"] == []
     assert facts["selected"] == [["Constraint11"]]
 

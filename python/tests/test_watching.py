@@ -91,15 +91,15 @@ def test_each_save_is_judged_and_an_unreadable_one_told(program: Program, tmp_pa
     path = tmp_path / "part.slvs"
     shutil.copy(FILES / "plate.slvs", path)
     with watched(path, program) as process:
-        assert ": well, " in told(process, "g002-")
+        assert ": well (fully constrained), " in told(process, "g002-")
         copied = tmp_path / "saved"
         shutil.copy(FILES / "loose.slvs", copied)
         os.replace(copied, path)
-        assert ": open, " in told(process, "g002-")
+        assert ": open (under-constrained, or rigid" in told(process, "g002-")
         path.write_text("no file of SolveSpace's")
         assert str(path) in told(process, str(path))
         shutil.copy(FILES / "plate.slvs", path)
-        assert ": well, " in told(process, "g002-")
+        assert ": well (fully constrained), " in told(process, "g002-")
         process.send_signal(signal.SIGINT)
         assert process.wait(SECONDS) == 130
 
