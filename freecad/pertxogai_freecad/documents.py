@@ -31,6 +31,7 @@ if TYPE_CHECKING:  # The package is found by `main`.
     from pertxogai.program import Program
     from pertxogai_freecad.sketches import ReadSketch
 
+COMPLETE = "complete"
 SUFFIX = ".fcstd"
 """How the name of a document ends, in small letters."""
 
@@ -77,6 +78,8 @@ def run(command: str, folder: Path, out: Path | None = None) -> Ends:
     it. Raises Trouble where nothing can be asked at all."""
     if command not in COMMANDS:
         raise Trouble(f"there is no command {command!r}: write one of {', '.join(COMMANDS)}")
+    if out is not None and command != COMPLETE:
+        raise Trouble(f"{command} writes no copies, so {out} isn't taken: leave it out")
     paths = [folder]
     if folder.is_dir():
         paths = sorted(each for each in folder.iterdir() if each.suffix.lower() == SUFFIX)
@@ -102,6 +105,7 @@ def _document(command: str, path: Path, asked: Asked) -> Ends:
             if out is not None and any(is_changed for _, is_changed in told):
                 out.parent.mkdir(parents=True, exist_ok=True)
                 document.saveCopy(str(out))
+                print(f"{path.name}: wrote {out}")
     except (Trouble, OSError) as trouble:
         print(f"{path.name}: {trouble}")
         return Ends.TROUBLE
@@ -119,6 +123,7 @@ def _opened(path: Path) -> Iterator[OwnDocument]:
         document: OwnDocument = FreeCAD.openDocument(str(path))
     except Exception as error:  # FreeCAD raises what its readers do.
         raise Trouble(f"FreeCAD can't open it: {error}") from None
+    document.UndoMode = 1  # So that what FreeCAD refuses is taken back.
     try:
         yield document
     finally:
@@ -190,6 +195,6 @@ def _construction(read: ReadSketch, asked: Asked) -> Found:
 
 
 COMMANDS: dict[str, Callable[["ReadSketch", Asked], Found]] = {
-    "judge": _judge, "repair": _repair, "complete": _complete, "range": _range,
+    "judge": _judge, "repair": _repair, COMPLETE: _complete, "range": _range,
     "certify": _certify, "construction": _construction,
 }

@@ -1,9 +1,9 @@
-"""What follows from a constraint by FreeCAD's expressions, and would be broken without it."""
+"""What follows from a constraint by FreeCAD's expressions, and what constraints follow from."""
 from __future__ import annotations
 
 import html
 import re
-from collections.abc import Iterator
+from collections.abc import Iterator, Mapping
 from typing import Any
 
 from pertxogai_freecad.freecad_types import OwnSketch
@@ -11,6 +11,8 @@ from pertxogai_freecad.freecad_types import OwnSketch
 USED = re.compile(r"(?:(?<![\w.>])\.?|(\w+|<<[^<>]*>>)\.)Constraints(?:\.(\w+)|\[(\d+)\])")
 """A constraint in an expression: the object that it is of, where it is another's, and its name or
 FreeCAD's number, from 0."""
+PLACE = re.compile(r"\.?Constraints(?:\.(\w+)|\[(\d+)\])")
+"""What has an expression, where it is a constraint of the sketch."""
 CELL = re.compile(r'<Cell address="(\w+)" content="(=[^"]*)"')
 SHEET = "Spreadsheet::Sheet"
 
@@ -22,6 +24,17 @@ def followers(sketch: OwnSketch, index: int) -> tuple[str, ...]:
                  for called, text in _expressions(sketch, each)
                  if any(_means(found, sketch, index, each.Name == sketch.Name)
                         for found in USED.finditer(text)))
+
+
+def set_by(sketch: OwnSketch) -> Mapping[int, str]:
+    """The expressions that set a sketch's constraints, by FreeCAD's numbers from 0."""
+    found = {}
+    names = {each.Name: index for index, each in enumerate(sketch.Constraints) if each.Name}
+    for path, text in sketch.ExpressionEngine:
+        place = PLACE.fullmatch(path)
+        if place is not None:
+            found[int(place[2]) if place[2] else names[place[1]]] = text
+    return found
 
 
 def _means(found: re.Match[str], sketch: OwnSketch, index: int, is_own: bool) -> bool:
@@ -36,10 +49,9 @@ def _means(found: re.Match[str], sketch: OwnSketch, index: int, is_own: bool) ->
 def _expressions(sketch: OwnSketch, of: Any) -> Iterator[tuple[str, str]]:
     """The expressions of an object, each with what has it."""
     for path, text in of.ExpressionEngine:
-        path = path.removeprefix(".")
-        own = re.fullmatch(r"Constraints(?:\.(\w+)|\[(\d+)\])", path)
+        own = PLACE.fullmatch(path)
         if of.Name != sketch.Name or own is None:
-            yield f"{of.Label}.{path}", text
+            yield f"{of.Label}.{path.removeprefix('.')}", text
         else:
             yield own[1] or f"Constraint{int(own[2]) + 1}", text
     if of.TypeId == SHEET:

@@ -23,12 +23,14 @@ class OwnCurve(Protocol):
 
 
 class OwnDocument(Protocol):
-    """A document. FileName: its file, empty where it was never saved."""
+    """A document. FileName: its file, empty where it was never saved. UndoMode: 1 where it keeps
+    what can be undone, else 0."""
 
     Name: str
     Label: str
     FileName: str
     Objects: Sequence[Any]
+    UndoMode: int
 
     def saveCopy(self, path: str) -> object: ...
     def openTransaction(self, name: str) -> object: ...
@@ -45,6 +47,8 @@ class OwnSketch(Protocol):
     TypeId: str
     Document: OwnDocument
     Geometry: Sequence[Any]
+    ExternalGeometry: Sequence[tuple[Any, Sequence[str]]]
+    ExpressionEngine: Sequence[tuple[str, str]]
     Constraints: Sequence[OwnConstraint]
     Shape: Any
     ViewObject: Any

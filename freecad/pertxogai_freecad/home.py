@@ -51,7 +51,7 @@ def _check_version() -> None:
     own = VERSION.search((ADDON / "package.xml").read_text(encoding="utf-8"))
     if own is not None and own[1] != pertxogai.__version__:
         raise Trouble(f"the Python package pertxogai is {pertxogai.__version__}, and the add-on "
-                      f"{own[1]}: install the same version of both")
+                      f"{own[1]}: install the same version of both, and start FreeCAD anew")
 
 
 def _folders(settings: Settings) -> Iterator[Path]:

@@ -72,17 +72,19 @@ class ReadSketch:
             raise Trouble(CHANGED)
 
     def check_unchanged(self) -> None:
-        """Raises Trouble where the sketch has other constraints or shapes than were read."""
-        if stored_of(self.sketch) != self.stored:
+        """Raises Trouble where the sketch has other constraints or shapes than were read, or what
+        it has of other objects lies elsewhere."""
+        if stored_of(self.sketch) != self.stored or read_sketch(self.sketch).found != self.found:
             raise Trouble(CHANGED)
 
 
 def stored_of(sketch: OwnSketch) -> tuple[tuple[str, ...], tuple[str, ...]]:
-    """A sketch's constraints and shapes as FreeCAD stores them, without how constraints are shown.
-    Raises Trouble where the sketch is gone."""
+    """A sketch's constraints and shapes as FreeCAD stores them, without how constraints are shown;
+    of outer shapes which they are. Raises Trouble where the sketch is gone."""
     try:
+        outer = (f"{of.Name} {' '.join(parts)}" for of, parts in sketch.ExternalGeometry)
         return (tuple(SHOWN_ONLY.sub("", each.Content) for each in sketch.Constraints),
-                tuple(each.Content for each in sketch.Geometry))
+                (*(each.Content for each in sketch.Geometry), *outer))
     except ReferenceError:
         raise Trouble(GONE) from None
 

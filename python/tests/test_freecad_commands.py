@@ -152,6 +152,19 @@ def test_shapes_are_placed_and_come_back(told: dict[str, Any]) -> None:
     assert facts["stale"] == CHANGED and facts["undone"]
 
 
+def test_shapes_come_to_lie_where_the_plate_has_them(told: dict[str, Any]) -> None:
+    """60 x 40 mm, its second hole of 5 mm at 45, 20; without FreeCAD's solver, to its rounding."""
+    facts = told["place_rough plate"]
+    assert facts["ends"] == [pytest.approx([60, 0], abs=2e-3), pytest.approx([45, 20], abs=2e-3)]
+    assert facts["radius"] == pytest.approx(5, abs=2e-3)
+
+
+def test_an_outer_edge_that_lies_elsewhere_keeps_dimensions_from_being_added(
+        told: dict[str, Any]) -> None:
+    facts = told["complete_outer edge"]
+    assert facts["proposed"] > 0 and facts["stale"] == CHANGED and facts["same"]
+
+
 def test_a_claim_and_its_verification_lie_beside_the_document(told: dict[str, Any]) -> None:
     facts = told["certify link"]
     assert facts["files"] == ["link-Sketch.claim", "link-Sketch.verification"]
@@ -190,6 +203,19 @@ def test_a_plate_is_as_narrow_as_its_second_hole_lets_it_be(told: dict[str, Any]
         least = re.match(rf"  {called}: from (\S+) to \S+ mm, now 60, ", second)
         assert least is not None and 49.999 <= float(least[1]) <= 50.001
     assert "no dimension is selected: click on one" in told["range nothing"]["trouble"]
+
+
+@pytest.mark.skipif(not HAS_RANGES, reason="the package has no ranges yet")
+def test_what_a_spreadsheet_sets_has_no_range_and_is_held(told: dict[str, Any]) -> None:
+    """The hole's centre lies 15 mm from the left edge and 20 mm above the lower one."""
+    assert told["range by a sheet"]["lines"] == [
+        "Sketch: 0 ranges", "  Constraint11: no range, since FreeCAD sets it by Sheet.wide * 2 / 3"]
+    _, hole, *_, last = told["range beside a sheet"]["lines"]
+    most = re.match(r"  Constraint12: from \S+ to (\S+) mm, now 5, ", hole)
+    assert most is not None and 14.999 <= float(most[1]) <= 15.001
+    held, _, names = last.rpartition(": ")
+    assert held == "  held as they are, since FreeCAD sets them by expressions"
+    assert set(names.split(", ")) == {"width", "Constraint11"}
 
 
 @pytest.mark.skipif(HAS_RANGES, reason="the package has ranges")
@@ -258,8 +284,12 @@ def test_a_folder_is_completed_into_another(program: Program, tmp_path: Path) ->
     before, out = sums(here.folder), tmp_path / "completed"
     status, lines = asked(here, program, "complete", str(here.folder), str(out))
     assert status == 0 and sums(here.folder) == before, lines
+    name = "plate-without-height.FCStd"
+    assert lines[-1] == f"{name}: wrote {out / name}"
     status, lines = asked(here, program, "judge", str(out))
-    assert status == 0 and lines[0].startswith("plate-without-height.FCStd Sketch: Sketch: well (fully constrained), ")
+    assert status == 0 and lines[0].startswith(f"{name} Sketch: Sketch: well (fully constrained), ")
+    assert asked(here, program, "judge", str(here.folder), str(out)) == (
+        2, [f"pertxogai: judge writes no copies, so {out} isn't taken: leave it out"])
 
 
 def test_the_add_on_of_a_release_has_all_that_it_needs(program: Program, tmp_path: Path) -> None:

@@ -6,6 +6,7 @@ from contextlib import suppress
 from typing import Any
 
 import FreeCAD
+import FreeCADGui
 
 from pertxogai.judging.parts import parts_of_shapes
 from pertxogai_freecad.judging import JudgedSketch
@@ -29,12 +30,19 @@ class ClusterColours:
         """Colours each edge by the rigid cluster that its shape lies in."""
         colours = self._colours()
         if colours:
-            self._sketch.ViewObject.LineColorArray = colours
+            self._paint(colours)
 
     def take_back(self) -> None:
         """Gives the edges the colours that they had, unless the sketch is gone."""
         with suppress(ReferenceError, RuntimeError):
-            self._sketch.ViewObject.LineColorArray = self._before
+            self._paint(self._before)
+
+    def _paint(self, colours: list[Colour]) -> None:
+        """Gives the edges colours; whether the document counts as modified stays as it is."""
+        shown_document = FreeCADGui.getDocument(self._sketch.Document.Name)
+        was_modified = shown_document.Modified
+        self._sketch.ViewObject.LineColorArray = colours
+        shown_document.Modified = was_modified
 
     def _colours(self) -> list[Colour]:
         cluster_of = parts_of_shapes(self._judged.judged.judgement)

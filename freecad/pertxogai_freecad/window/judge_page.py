@@ -14,7 +14,8 @@ from pertxogai_freecad.trouble import Trouble
 from pertxogai_freecad.window.command_words import Word
 from pertxogai_freecad.window.selection import (
     deselect, edit, edited_sketch, select_constraints)
-from pertxogai_freecad.window.tables import Table, button, read_only, stacked
+from pertxogai_freecad.window.tables import (
+    Table, button, height_of, read_only, stacked)
 from pertxogai_freecad.window.words import shown
 
 HEADINGS = (QT_TRANSLATE_NOOP("Pertxogai", "Constraint"),
@@ -25,7 +26,7 @@ CLUSTERS = QT_TRANSLATE_NOOP("Pertxogai", "Colour the clusters")
 EDITED = QT_TRANSLATE_NOOP(
     "Pertxogai", "while the sketch is edited FreeCAD shows its own colours: close it first")
 STRONG = {Standing.OFF, Standing.REDUNDANT, Standing.CONFLICTING, Standing.MAY_GO,
-          Standing.LEFT_OUT}
+          Standing.IN_PART, Standing.LEFT_OUT}
 TOLD_LINES = 6
 """How many lines of all that is told are seen at once."""
 
@@ -50,7 +51,7 @@ class JudgePage:
         self.clusters = button(CLUSTERS, "PertxogaiClusters", self._colour)
         self.clusters.setCheckable(True)
         self.told = read_only("PertxogaiTold")
-        self.told.setMaximumHeight(TOLD_LINES * self.told.fontMetrics().lineSpacing())
+        self.told.setMaximumHeight(height_of(self.told, TOLD_LINES))
         self.widget = stacked(self.table.widget, self.told, (self.place, self.clusters))
 
     def show(self, judged: JudgedSketch) -> None:

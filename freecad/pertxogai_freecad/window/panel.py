@@ -211,7 +211,8 @@ class Panel:
 
     def slotChangedObject(self, changed: object, what: str) -> None:
         """Says so where the sketch isn't any more what was judged."""
-        if self._read is not None and what in ("Constraints", "Geometry"):
+        if self._read is not None and what in (
+                "Constraints", "Geometry", "ExternalGeometry"):
             try:
                 is_changed = stored_of(self._read.sketch) != self._read.stored
             except Trouble:

@@ -91,3 +91,9 @@ def read_only(name: str) -> QtGui.QPlainTextEdit:
     made.setTextInteractionFlags(QtCore.Qt.TextSelectableByMouse
                                  | QtCore.Qt.TextSelectableByKeyboard)
     return made
+
+
+def height_of(text: QtGui.QPlainTextEdit, lines: int) -> int:
+    """How high a text has to be to show some lines whole, in pixels."""
+    margin = text.document().documentMargin() + text.frameWidth()
+    return int(lines * text.fontMetrics().lineSpacing() + 2 * margin)

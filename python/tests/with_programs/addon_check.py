@@ -33,10 +33,14 @@ ARCS, END = (0, 1), 2
 """The numbers of two arcs of the link, and of a shape's end."""
 RING, TAIL, START = 0, 1, 1
 """The numbers of the circle and of the line that touches it of tangent-forms, and of a start."""
-WIDTH, HEIGHT = 9, 10
-"""The numbers of two dimensions of the plate, from 0."""
+WIDTH, HEIGHT, HOLE = 9, 10, 11
+"""The numbers of three dimensions of the plate, from 0: that of a hole is its radius."""
 FLOOR, BELOW = 0, 9
 """The numbers of a plate's lower edge, and of its width there."""
+HOLE_SHAPE, CENTRE = 5, 3
+"""The numbers of a plate's second hole, and of a centre."""
+OUTER = -3
+"""The number of the first outer shape."""
 PROGRAM, LIMIT = find_program(SETTINGS), limit_of(SETTINGS)
 
 
@@ -231,6 +235,42 @@ def check_place():
     FreeCAD.closeDocument(document.Name)
 
 
+def check_place_rough():
+    """A plate that is drawn half a millimetre off, placed without FreeCAD's own solver."""
+    sketch = opened("plate")
+    rough = list(sketch.Geometry)
+    rough[FLOOR].EndPoint = FreeCAD.Vector(60.4, -0.3, 0)
+    rough[HOLE_SHAPE].Center, rough[HOLE_SHAPE].Radius = FreeCAD.Vector(44.7, 20.2, 0), 5.3
+    sketch.Geometry = rough
+    found = judged(sketch)
+    sketch.Document.RecomputesFrozen = True
+    place(found.read, found.good)
+    ends = [sketch.getPoint(FLOOR, END), sketch.getPoint(HOLE_SHAPE, CENTRE)]
+    yield "plate", {"ends": [[each.x, each.y] for each in ends],
+                    "radius": sketch.Geometry[HOLE_SHAPE].Radius}
+    FreeCAD.closeDocument(sketch.Document.Name)
+
+
+def check_complete_outer():
+    """An edge of a box that the sketch has lies elsewhere since: what is proposed isn't added."""
+    document = FreeCAD.newDocument("outer")
+    box = document.addObject("Part::Box", "Box")
+    box.Length = 60
+    sketch = document.addObject("Sketcher::SketchObject", "Sketch")
+    document.recompute()
+    sketch.addExternal("Box", "Edge9")
+    sketch.addGeometry(Part.LineSegment(FreeCAD.Vector(0, 0, 0), FreeCAD.Vector(30, 20, 0)))
+    sketch.addConstraint(Sketcher.Constraint("Coincident", 0, START, OUTER, END))
+    document.recompute()
+    proposed = Proposed.of(read_sketch(sketch), PROGRAM, LIMIT)
+    box.Length = 80
+    document.recompute()
+    before = stored_of(sketch)
+    yield "edge", {"proposed": len(proposed.proposals), "stale": trouble_of(proposed.take_all),
+                   "same": stored_of(sketch) == before}
+    FreeCAD.closeDocument(document.Name)
+
+
 def check_certify():
     """A link that is good, a plate that isn't, and a document that was never saved."""
     sketch = opened("link")
@@ -282,6 +322,15 @@ def check_range():
     sketch.setExpression(f"Constraints[{HEIGHT}]", "Constraints.width * 2 / 3")
     sketch.Document.recompute()
     yield "height by width", ranges_of(sketch, {HEIGHT})
+    sheet = sketch.Document.addObject("Spreadsheet::Sheet", "Sheet")
+    sheet.set("A1", "60 mm")
+    sheet.setAlias("A1", "wide")
+    sketch.Document.recompute()
+    sketch.setExpression("Constraints.width", "Sheet.wide")
+    sketch.setExpression(f"Constraints[{HEIGHT}]", "Sheet.wide * 2 / 3")
+    sketch.Document.recompute()
+    yield "by a sheet", ranges_of(sketch, {HEIGHT})
+    yield "beside a sheet", ranges_of(sketch, {HOLE})
 
 
 def check_program():
@@ -296,7 +345,8 @@ def main():
     told = {}
     for check in (check_judge, check_repair, check_repair_moves, check_repair_followed,
                   check_repair_in_part, check_complete, check_complete_two, check_complete_moved,
-                  check_complete_nothing, check_place, check_certify, check_construction,
+                  check_complete_outer, check_complete_nothing, check_place, check_place_rough,
+                  check_certify, check_construction,
                   check_range, check_program):
         word = check.__name__.removeprefix("check_")
         try:

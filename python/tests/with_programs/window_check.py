@@ -366,14 +366,17 @@ def check_place():
 def check_clusters():
     """Two leaves of a hinge in two colours, while the button is pressed."""
     sketch = opened("hinge")
-    before = list(sketch.ViewObject.LineColorArray)
+    before, shown = list(sketch.ViewObject.LineColorArray), FreeCADGui.ActiveDocument
+    modified = [shown.Modified]
     run("Judge")
     press("Clusters")
     coloured = list(sketch.ViewObject.LineColorArray)
     image = picture("clusters")
     seen_colours = [pixels_of(image, colour) for colour in sorted(set(coloured))]
     press("Clusters")
-    facts = {"edges": len(coloured), "colours": len(set(coloured)), "pixels": seen_colours,
+    modified.append(shown.Modified)
+    facts = {"modified": modified, "edges": len(coloured), "colours": len(set(coloured)),
+             "pixels": seen_colours,
              "back": list(sketch.ViewObject.LineColorArray) == before}
     press("Clusters")
     sketch.Document.save()
