@@ -15,17 +15,12 @@ from pertxogai.judging.measure import Deviation, Limit, Unit, amount_text
 from pertxogai.judging.remembering import Remembering
 from pertxogai.output.drawing_text import drawing_lines
 from pertxogai.output.finding_text import freedoms_text
+from pertxogai.output.verdict_text import verdict_text
 from pertxogai.program import Program, Solver
 from pertxogai.program.reports import Verdict
 from pertxogai_freecad.sketches import ReadSketch
 from pertxogai_freecad.trouble import troubles
 
-TRADE = {
-    Verdict.WELL: "well: fully constrained",
-    Verdict.OVER: "over: over-constrained",
-    Verdict.OPEN: "open: under-constrained, or rigid in a way not found",
-}
-"""The program's verdicts with the trade's words."""
 BY_NUMBERS = " (by numbers)"
 
 
@@ -36,13 +31,13 @@ class Standing(Enum):
     OFF = "off"
     REDUNDANT = "redundant"
     CONFLICTING = "conflicting"
-    MAY_GO = "may go"
-    IN_PART = "too many in part"
-    """Some of what it says is too many: a tangency at an end also says where the end lies."""
+    MAY_GO = "removable"
+    IN_PART = "redundant in part"
+    """Some of what it says is redundant: a tangency at an end also says where the end lies."""
     LEFT_OUT = "left out"
-    NOT_ASKED = "not asked for"
+    NOT_ASKED = "doesn't constrain"
     UNKNOWN = ""
-    """The sketch isn't placed, and the constraint isn't among those that may go."""
+    """The sketch isn't placed, and the constraint isn't removable."""
 
 
 @dataclass(frozen=True)
@@ -78,7 +73,7 @@ class JudgedSketch:
 
     def headline(self) -> str:
         """The verdict, with the trade's word."""
-        return f"{self.read.label} is {TRADE[self.verdict]}"
+        return f"{self.read.label} is {verdict_text(self.verdict)}"
 
     def freedoms(self) -> str:
         """How many degrees of freedom it has, and who says so."""
@@ -90,7 +85,7 @@ class JudgedSketch:
         """Within what the program places it."""
         judgement = self.judged.judgement
         if judgement.length_tolerance_nm is None:
-            return "no places by the program"
+            return "not placed by the program"
         angle_ppb = self._angle_ppb()
         return f"placed within {judgement.length_tolerance_nm} nm and {angle_ppb} ppb"
 

@@ -20,9 +20,9 @@ REST = {
     Then.NO_PLACES: "fully constrained, but has no places", Then.OVER: "still over-constrained",
 }
 """What the program says of the rest, in the trade's words."""
-NOTHING = QT_TRANSLATE_NOOP("Pertxogai", "nothing is too many")
+NOTHING = QT_TRANSLATE_NOOP("Pertxogai", "nothing is redundant")
 NOT_COUNTED = QT_TRANSLATE_NOOP(
-    "Pertxogai", "the program finds nothing too many; by rank that wasn't counted")
+    "Pertxogai", "the program finds nothing redundant; the rank wasn't counted")
 
 
 class By(Enum):
@@ -96,7 +96,7 @@ class Repair:
         if not self.candidates:
             yield f"  {self.nothing()}"
         elif len(self.candidates) > 1:
-            yield "  take one away, and judge again"
+            yield "  remove one, and ask again"
 
     def nothing(self) -> str:
         """What is said where there is none."""
@@ -107,7 +107,7 @@ class Repair:
         none of these, something follows from it, or the sketch was changed since."""
         chosen = next((each for each in self.candidates if each.index == index), None)
         if chosen is None:
-            raise Trouble(f"constraint {index + 1} isn't among those that may go")
+            raise Trouble(f"constraint {index + 1} isn't removable")
         self.judged.read.check_constraints()
         stays = stays_for(followers(self.judged.read.sketch, index))
         if stays:

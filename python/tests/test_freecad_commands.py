@@ -25,8 +25,8 @@ from packing.made import Made  # noqa: E402
 
 pytestmark = pytest.mark.skipif(CONSOLE is None, reason="Debian's freecad isn't installed")
 
-WELL = "Sketch is well: fully constrained"
-OPEN = "Sketch is open: under-constrained, or rigid in a way not found"
+WELL = "Sketch is well (fully constrained)"
+OPEN = "Sketch is open (under-constrained, or rigid in a way not found)"
 CHANGED = "the sketch was changed since: judge it again"
 NOON = 1764331200
 """28 November 2025, 12:00, in seconds since 1970."""
@@ -71,7 +71,7 @@ def test_an_open_plate_has_its_freedom_counted(told: dict[str, Any]) -> None:
     plate = told["judge plate-without-height"]
     assert plate["headline"] == OPEN and not plate["good"]
     assert plate["freedoms"] == "1 degree of freedom (by numbers)"
-    assert plate["tolerance"] == "no places by the program"
+    assert plate["tolerance"] == "not placed by the program"
 
 
 @pytest.mark.parametrize("name", ["plate", "ellipse", "plate-without-height"])
@@ -88,7 +88,7 @@ def test_what_may_go_goes_and_comes_back(name: str, standing: str, off: str,
     facts = told[f"repair {name}"]
     each = [standing, off, "fully constrained", "by rank, and tried by the program"]
     assert facts["told"] == dict.fromkeys(["above", "below", "Constraint6", "Constraint8"], each)
-    assert facts["untouched"] and facts["wrong"] == "constraint 1 isn't among those that may go"
+    assert facts["untouched"] and facts["wrong"] == "constraint 1 isn't removable"
     assert facts["left"] == [11, False] and facts["says"] == SOLVED and facts["then"] == WELL
     assert facts["undo"] == ["Remove above (Pertxogai)"] and facts["undone"]
     assert facts["stale"] == CHANGED
@@ -114,7 +114,7 @@ def test_what_says_two_things_is_tried_as_a_whole(told: dict[str, Any]) -> None:
     once more of the end, and without the tangency the line may turn."""
     facts = told["repair_in_part tangency"]
     assert facts["told"]["Constraint3"] == [
-        "too many in part", "", "under-constrained", "by rank, and tried by the program"]
+        "redundant in part", "", "under-constrained", "by rank, and tried by the program"]
     assert facts["then"] == OPEN
 
 
@@ -252,8 +252,9 @@ def test_a_folder_of_documents_is_judged_without_a_window(program: Program,
     status, lines = asked(here, program, "judge", str(here.folder))
     assert status == 2
     assert "empty.FCStd: empty has no sketch: draw one in the Sketcher" in lines
-    assert any(each.startswith("plate.FCStd Sketch: Sketch: well (fully constrained), ") for each in lines)
-    assert any(each.startswith("twice.FCStd Sketch: Sketch: over (over-constrained), ") for each in lines)
+    for name, verdict in (("plate", "well (fully constrained)"), ("twice", "over (over-constrained)")):
+        begins = f"{name}.FCStd Sketch: Sketch: {verdict}, "
+        assert any(each.startswith(begins) for each in lines)
     assert sums(here.folder) == before
 
 

@@ -17,8 +17,8 @@ pytestmark = [
     pytest.mark.skipif(WINDOW is None, reason="Debian's freecad isn't installed"),
     pytest.mark.skipif(XVFB is None, reason="Debian's xvfb isn't installed")]
 
-WELL = "Sketch is well: fully constrained"
-OVER = "Sketch is over: over-constrained"
+WELL = "Sketch is well (fully constrained)"
+OVER = "Sketch is over (over-constrained)"
 HAS_RANGES = find_spec("pertxogai.ranging") is not None
 CHANGED = "the sketch was changed since: judge it again"
 PICTURES = {"judge", "repair", "repaired", "complete", "construction", "range", "certify",
@@ -77,7 +77,7 @@ def test_a_conflict_is_removed_by_a_button_and_comes_back(told: dict[str, Any]) 
     assert {tuple(row[1:3]) for row in facts["rows"]} == {("conflicting", "5 mm")}
     assert not facts["before"] and facts["selected"] == [["Constraint12"]] and facts["untouched"]
     assert facts["pressed"] and facts["headline"] == WELL and facts["count"] == 11
-    assert facts["note"].startswith("good: ") and facts["left"] == "nothing is too many"
+    assert facts["note"].startswith("good: ") and facts["left"] == "nothing is redundant"
     assert facts["undo"] == ["Remove above (Pertxogai)"]
     assert facts["undone"] and facts["stale"] == CHANGED
 

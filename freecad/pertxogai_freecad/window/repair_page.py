@@ -11,7 +11,7 @@ from pertxogai_freecad.window.selection import edit, select_constraints
 from pertxogai_freecad.window.tables import Table, button, read_only, stacked
 from pertxogai_freecad.window.words import shown
 
-HEADINGS = (QT_TRANSLATE_NOOP("Pertxogai", "May go"), QT_TRANSLATE_NOOP("Pertxogai", "It is"),
+HEADINGS = (QT_TRANSLATE_NOOP("Pertxogai", "Removable"), QT_TRANSLATE_NOOP("Pertxogai", "It is"),
             QT_TRANSLATE_NOOP("Pertxogai", "Off by"),
             QT_TRANSLATE_NOOP("Pertxogai", "The rest is then"))
 REMOVE = QT_TRANSLATE_NOOP("Pertxogai", "Remove the selected constraint")

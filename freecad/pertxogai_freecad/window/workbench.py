@@ -8,7 +8,7 @@ from pertxogai_freecad.window.resources import ICONS, PREFERENCES, TRANSLATIONS,
 from pertxogai_freecad.window.words import shown
 
 TIP = QT_TRANSLATE_NOOP(
-    "Pertxogai", "Asks the proved program about sketches: what is too many, what is missing, how "
+    "Pertxogai", "Asks the proved program about sketches: what is redundant, what is missing, how "
     "far it is off")
 
 

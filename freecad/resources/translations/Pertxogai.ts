@@ -4,11 +4,11 @@
  <context>
   <name>Pertxogai</name>
   <message>
-   <source>nothing is too many</source>
+   <source>nothing is redundant</source>
    <translation type="unfinished" />
   </message>
   <message>
-   <source>the program finds nothing too many; by rank that wasn't counted</source>
+   <source>the program finds nothing redundant; the rank wasn't counted</source>
    <translation type="unfinished" />
   </message>
   <message>
@@ -132,7 +132,7 @@
    <translation type="unfinished" />
   </message>
   <message>
-   <source>May go</source>
+   <source>Removable</source>
    <translation type="unfinished" />
   </message>
   <message>
@@ -144,7 +144,7 @@
    <translation type="unfinished" />
   </message>
   <message>
-   <source>Asks the proved program about sketches: what is too many, what is missing, how far it is off</source>
+   <source>Asks the proved program about sketches: what is redundant, what is missing, how far it is off</source>
    <translation type="unfinished" />
   </message>
  </context>
