@@ -324,7 +324,8 @@ def check_construction_turned():
     facts = {"least": list(box.getMin().getValue()), "most": list(box.getMax().getValue())}
     sheet = sketch.Document.addObject("Spreadsheet::Sheet", "Sheet")
     sheet.ViewObject.doubleClicked()
-    spin()
+    wait(lambda: not hasattr(FreeCADGui.ActiveDocument.ActiveView, "getSceneGraph"),
+         "the spreadsheet's view")
     FreeCADGui.Selection.clearSelection()
     FreeCADGui.Selection.addSelection(sketch)
     run("Construction")
@@ -367,9 +368,11 @@ def check_clusters():
     """Two leaves of a hinge in two colours, while the button is pressed."""
     sketch = opened("hinge")
     before, shown = list(sketch.ViewObject.LineColorArray), FreeCADGui.ActiveDocument
-    modified = [shown.Modified]
+    shown.Modified = False
     run("Judge")
+    modified = [shown.Modified]
     press("Clusters")
+    modified.append(shown.Modified)
     coloured = list(sketch.ViewObject.LineColorArray)
     image = picture("clusters")
     seen_colours = [pixels_of(image, colour) for colour in sorted(set(coloured))]
