@@ -8,12 +8,12 @@ from typing import Protocol
 from pertxogai.judging import GoodJudgement
 from pertxogai_freecad.changes import place
 from pertxogai_freecad.judging import JudgedSketch, Standing
-from pertxogai_freecad.window.colours import ClusterColours
+from pertxogai_freecad.window.colours import cluster_colours
 from pertxogai_freecad.translating import QT_TRANSLATE_NOOP
 from pertxogai_freecad.trouble import Trouble
 from pertxogai_freecad.window.command_words import Word
-from pertxogai_freecad.window.selection import (
-    deselect, edit, edited_sketch, select_constraints)
+from pertxogai_freecad.window.overlay import Overlay
+from pertxogai_freecad.window.selection import edit, edited_sketch, select_constraints
 from pertxogai_freecad.window.tables import (
     Table, button, height_of, read_only, stacked)
 from pertxogai_freecad.window.words import shown
@@ -45,7 +45,7 @@ class JudgePage:
     def __init__(self, panel: Does) -> None:
         self._panel = panel
         self._judged: JudgedSketch | None = None
-        self._colours: ClusterColours | None = None
+        self._colours: Overlay | None = None
         self.table = Table("PertxogaiRows", HEADINGS, self._selected, self._opened)
         self.place = button(PLACE, "PertxogaiPlace", self._place)
         self.clusters = button(CLUSTERS, "PertxogaiClusters", self._colour)
@@ -77,7 +77,7 @@ class JudgePage:
         """Takes back what it shows in the sketch."""
         colours, self._colours = self._colours, None
         if colours is not None:
-            colours.take_back()
+            colours.remove()
         self.clusters.setChecked(False)
 
     def _selected(self, row: int) -> None:
@@ -107,10 +107,10 @@ class JudgePage:
             self.take_back()
 
     def _show_colours(self, judged: JudgedSketch) -> None:
-        """Colours the clusters, with nothing selected, since FreeCAD shows what is selected in one
-        colour. Raises Trouble while the sketch is edited."""
+        """Draws the shapes in the colours of their clusters. Raises Trouble while a sketch is
+        edited, and where the sketch was changed since."""
         if edited_sketch() is not None:
             raise Trouble(shown(EDITED))
-        deselect()
-        self._colours = ClusterColours(judged)
-        self._colours.show()
+        judged.read.check_unchanged()
+        self._colours = Overlay(judged.read.sketch)
+        self._colours.show_coloured(cluster_colours(judged))

@@ -1,9 +1,9 @@
-"""A step of a construction drawn over the sketch, in the window's own scene; the document has
-nothing of it."""
+"""What is drawn over a sketch, in the window's own scene: a step of a construction, or the rigid
+clusters. The document has nothing of it."""
 from __future__ import annotations
 
 import math
-from collections.abc import Iterable, Sequence
+from collections.abc import Iterable, Mapping, Sequence
 from contextlib import suppress
 from typing import Any
 
@@ -14,6 +14,7 @@ from pertxogai.output.construction import Locus, LocusLine
 from pertxogai_freecad.constructing import Step
 from pertxogai_freecad.freecad_types import OwnSketch
 from pertxogai_freecad.trouble import Trouble
+from pertxogai_freecad.window.colours import Colour
 
 STANDING, LOCI, MADE = (0.0, 0.62, 0.45), (0.34, 0.71, 0.91), (0.84, 0.37, 0.0)
 """The colours of the shapes that stand, of where what is made may lie, and of what is made."""
@@ -41,14 +42,25 @@ class Overlay:
 
     def show(self, step: Step) -> None:
         """Shows a step alone."""
-        self._root.removeAllChildren()
-        self._root.addChild(_placed(self._sketch))
+        self._begin()
         reach = self._reach()
         standing = [self._polyline(each) for each in sorted(step.shapes)]
         self._root.addChild(_lines(standing, STANDING, 4))
         self._root.addChild(_lines([_locus(each, reach) for each in step.loci], LOCI, 2, DASHES))
         if step.at is not None:
             self._root.addChild(_point(step.at))
+
+    def show_coloured(self, colours: Mapping[int, Colour]) -> None:
+        """Shows shapes in colours, by FreeCAD's numbers of them."""
+        self._begin()
+        for colour in dict.fromkeys(colours.values()):
+            shapes = [self._polyline(index) for index, of in colours.items() if of == colour]
+            self._root.addChild(_lines(shapes, colour, 4))
+
+    def _begin(self) -> None:
+        """Shows nothing, where the sketch lies."""
+        self._root.removeAllChildren()
+        self._root.addChild(_placed(self._sketch))
 
     def remove(self) -> None:
         """Takes all of it out of the scene, unless the view is gone."""

@@ -203,11 +203,7 @@ class Panel:
             self._construction.clear()
             self._judge.take_back()
 
-    # -- FreeCAD tells of what changes in documents, and of what is saved
-
-    def slotStartSaveDocument(self, document: object, path: str) -> None:
-        """Gives the edges their own colours, which the document keeps."""
-        self._judge.take_back()
+    # -- FreeCAD tells of what changes in documents
 
     def slotChangedObject(self, changed: object, what: str) -> None:
         """Says so where the sketch isn't any more what was judged."""

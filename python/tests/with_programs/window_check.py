@@ -25,6 +25,8 @@ from PySide import QtCore, QtGui
 from pivy import coin
 
 WIDTH, HEIGHT = 1500, 900
+CLUSTER_COLOURS = (0.13, 0.40, 0.67), (0.84, 0.37, 0.00)
+"""The colours of the first two clusters."""
 FIRST = "SketcherWorkbench"
 """With what FreeCAD begins, as it is set."""
 PLACE_MM = (10, 20, 30)
@@ -323,11 +325,11 @@ def check_construction_turned():
     box = measure.getBoundingBox()
     facts = {"least": list(box.getMin().getValue()), "most": list(box.getMax().getValue())}
     sheet = sketch.Document.addObject("Spreadsheet::Sheet", "Sheet")
+    FreeCADGui.Selection.clearSelection()  # FreeCAD brings to the front what is selected.
+    spin()
     sheet.ViewObject.doubleClicked()
     wait(lambda: not hasattr(FreeCADGui.ActiveDocument.ActiveView, "getSceneGraph"),
          "the spreadsheet's view")
-    FreeCADGui.Selection.clearSelection()
-    FreeCADGui.Selection.addSelection(sketch)
     run("Construction")
     facts["sheet"] = text("Note")
     closed(sketch)
@@ -365,25 +367,25 @@ def check_place():
 
 
 def check_clusters():
-    """Two leaves of a hinge in two colours, while the button is pressed."""
-    sketch = opened("hinge")
-    before, shown = list(sketch.ViewObject.LineColorArray), FreeCADGui.ActiveDocument
-    shown.Modified = False
+    """Two leaves of a hinge in two colours, while the button is pressed; the document has nothing
+    of it."""
+    document = FreeCAD.openDocument(os.path.join(os.environ["FOLDER"], "hinge.FCStd"))
+    sketch, shown = document.getObject("Sketch"), FreeCADGui.getDocument(document.Name)
+    FreeCADGui.Selection.clearSelection()
+    FreeCADGui.Selection.addSelection(sketch)
     run("Judge")
-    modified = [shown.Modified]
+    scene = shown.ActiveView.getSceneGraph()
+    children, modified = [scene.getNumChildren()], [shown.Modified]
     press("Clusters")
+    children.append(scene.getNumChildren())
     modified.append(shown.Modified)
-    coloured = list(sketch.ViewObject.LineColorArray)
+    shown.ActiveView.viewTop()
     image = picture("clusters")
-    seen_colours = [pixels_of(image, colour) for colour in sorted(set(coloured))]
+    facts = {"pixels": [pixels_of(image, colour) for colour in CLUSTER_COLOURS]}
     press("Clusters")
+    children.append(scene.getNumChildren())
     modified.append(shown.Modified)
-    facts = {"modified": modified, "edges": len(coloured), "colours": len(set(coloured)),
-             "pixels": seen_colours,
-             "back": list(sketch.ViewObject.LineColorArray) == before}
-    press("Clusters")
-    sketch.Document.save()
-    facts["saved"] = list(sketch.ViewObject.LineColorArray) == before
+    facts.update(modified=modified, drawn=[each - children[0] for each in children])
     press("Clusters")
     closed(sketch)
     sketch = opened("plate")
