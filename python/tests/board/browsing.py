@@ -110,6 +110,17 @@ class Page:
         self.wait("the text", "return document.getElementById('text').ariaBusy !== 'true'")
         return str(self.driver.execute_script("return document.getElementById('text').value"))
 
+    def is_whole(self, *edges: str) -> bool:
+        """Whether edges are shown joined, each one's end to the next one's start, and the last
+        one's to the first one's, within a pixel."""
+        return bool(self.driver.execute_script(
+            "const ends = arguments[0].map((name) => {"
+            "  const path = document.querySelector(`[data-name='${name}'] .shape`);"
+            "  return [0, path.getTotalLength()].map((at) => path.getPointAtLength(at)); });"
+            "return ends.every(([, end], place) => {"
+            "  const [start] = ends[(place + 1) % ends.length];"
+            "  return Math.hypot(end.x - start.x, end.y - start.y) < 1; });", edges))
+
     def count(self, selector: str) -> int:
         """How many nodes there are."""
         return len(self.driver.find_elements(By.CSS_SELECTOR, selector))

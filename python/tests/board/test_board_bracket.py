@@ -6,6 +6,7 @@ import pytest
 
 from boards import wait_for
 from browsing import Page
+from keystrokes import count_keystrokes, seconds_of
 from selenium.webdriver.common.by import By
 from selenium.webdriver.common.keys import Keys
 
@@ -16,19 +17,6 @@ pytest.importorskip("numpy", reason="copies are held by rank, by Debian's python
 
 SECONDS = 120
 """A bracket is to be drawn within two minutes."""
-POINTING, PRESS, KEY, THOUGHT = 1.1, 0.2, 0.28, 1.35
-"""Seconds that a hand takes to point, to press a button, to press a key, and to think before it
-points: the keystroke-level model of Card, Moran and Newell."""
-COUNT = """window.hand = { pointerdown: 0, keydown: 0 };
-for (const what of Object.keys(window.hand)) {
-  addEventListener(what, () => { window.hand[what] += 1; }, { capture: true });
-}"""
-
-
-def seconds_of(page: Page) -> float:
-    """How long a hand would take for the presses and keys that were counted."""
-    hand = page.driver.execute_script("return window.hand")
-    return float(hand["pointerdown"] * (THOUGHT + POINTING + PRESS) + hand["keydown"] * KEY)
 
 
 def typed(page: Page, word: str, size: str) -> None:
@@ -61,7 +49,7 @@ def on_board(page: Page, x: float, y: float) -> tuple[float, float]:
 
 def test_a_bracket_with_two_fillets_and_four_holes(page: Page, program: Program) -> None:
     """Its holes are told by the first one's place and by two pitches: 15, 15, 70 and 25."""
-    page.driver.execute_script(COUNT)
+    count_keystrokes(page)
     x, y = page.at("Origin")
     page.keys("r")
     page.press(x, y)

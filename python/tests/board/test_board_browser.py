@@ -50,22 +50,32 @@ def _a_plate_with_a_hole_is_drawn(page: Page) -> None:
     page.wait("a hole", "return document.querySelectorAll('.edges [data-name]').length === 5")
 
 
+SIDES = "R1Bottom", "R1Right", "R1Top", "R1Left"
+
+
+def _asked(page: Page, word: str, value: str | None = None) -> None:
+    """Asks for a constraint of the bar; the plate is whole behind it."""
+    page.ask(word, value)
+    wait_for(f"whole, and {word}", lambda: page.is_whole(*SIDES))
+
+
 def _the_plate_has_its_size(page: Page) -> None:
+    assert page.is_whole(*SIDES)
     page.select("R1Bottom.start", "Origin")
-    page.ask("coincident")
+    _asked(page, "coincident")
     page.select("R1Bottom")
-    page.ask("length", "100")
+    _asked(page, "length", "100")
     page.select("R1Right")
-    page.ask("length", "60")
+    _asked(page, "length", "60")
     page.wait("its pieces", "return document.querySelectorAll('#verdict .chip').length === 2")
 
 
 def _the_hole_has_its_place(page: Page) -> None:
     page.select("C1")
-    page.ask("diameter", "20")
+    _asked(page, "diameter", "20")
     page.select("C1.centre")
-    page.ask("x", "40")
-    page.ask("y", "30")
+    _asked(page, "x", "40")
+    _asked(page, "y", "30")
     page.verdict("well")
     page.click("#fit")
 

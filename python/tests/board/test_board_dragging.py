@@ -10,6 +10,7 @@ pytest.importorskip("scipy", reason="what is dragged is reckoned by Debian's pyt
 
 from boards import Served, wait_for
 from browsing import Page
+from keystrokes import count_keystrokes, seconds_of
 from selenium.webdriver.common.keys import Keys
 
 Place = tuple[float, float]
@@ -41,6 +42,8 @@ window.fetch = async (path, options) => {
 """
 
 
+SECONDS = 180
+"""A linkage is to be drawn, dimensioned and turned within three minutes."""
 GRID_PIXELS = 14
 """A hand is rounded to half a step of the grid at most, which is less."""
 
@@ -148,7 +151,9 @@ def test_a_linkage_is_whole_and_what_is_free_stands_out(page: Page) -> None:
 
 
 def test_the_trial_of_a_linkage(page: Page) -> None:
-    """The second trial of docs/BOARD.md: a linkage drawn, dimensioned and turned."""
+    """The second trial of docs/BOARD.md: a linkage drawn, dimensioned and turned; it is whole at
+    each step."""
+    count_keystrokes(page)
     page.keys("s")
     for place, corner in enumerate(((300, 440), (700, 440), (640, 180), (360, 300), (300, 440))):
         page.press(*corner)
@@ -160,6 +165,7 @@ def test_the_trial_of_a_linkage(page: Page) -> None:
     for name, value in (("S1", "40"), ("S2", "26"), ("S3", "34"), ("S4", "15")):
         page.select(name)
         page.ask("length", value)
+        wait_for(f"whole, with {name}", lambda: page.is_whole("S1", "S2", "S3", "S4"))
     page.tells("1 degree of freedom (by numbers).")
     page.keys("0")
     page.settled()
@@ -172,6 +178,7 @@ def test_the_trial_of_a_linkage(page: Page) -> None:
     before = page.text()
     page.press(x, y, to=(x - 60, y + 30))
     wait_for("turned", lambda: page.text() != before)
+    assert seconds_of(page) < SECONDS
     page.tells("The program constructs this shape")
     page.keep_picture("linkage")
 
