@@ -26,6 +26,10 @@ radius C 8
 """
 
 
+LEGIBLE = 10, 30
+"""Between these a text's height in pixels is legible."""
+
+
 def centre(page: Page, number: int) -> tuple[float, float]:
     """The middle of the text of a dimension, in pixels of the board."""
     x, y = page.driver.execute_script(
@@ -84,12 +88,15 @@ def test_leaders_and_arcs_go_with_their_labels(page: Page) -> None:
     ("flange", "well"), ("bracket", "well"), ("plate-with-four-holes", "well"),
     ("slotted-plate", "well"), ("door-with-grille", "well"), ("open-bracket", "open")])
 def test_no_dimension_stands_over_another_at_first(page: Page, name: str, verdict: str) -> None:
+    """And each is as high as text is read at every zoom."""
     page.begin(drawing(name), verdict)
-    for zoom in ("", "-", "-", "--"):
+    for zoom in ("", "-", "-", "--", "++++++"):
         page.keys(*zoom)
         page.settled()
-        over = [pair for pair in combinations(boxes(page), 2) if overlap(*pair)]
+        found = boxes(page)
+        over = [pair for pair in combinations(found, 2) if overlap(*pair)]
         assert over == [], f"{name} {zoom}"
+        assert all(LEGIBLE[0] < low - high < LEGIBLE[1] for _, high, _, low in found), zoom
 
 
 def test_a_dimension_is_only_measured(page: Page) -> None:
