@@ -40,6 +40,12 @@ def clicks(page: Page, *places: Point) -> None:
         page.press(*each)
 
 
+def one_step_back(page: Page, before: str) -> None:
+    """One undo takes back all that a tool has drawn and asked for."""
+    page.click("#undo")
+    wait_for("one step", lambda: page.text() == before)
+
+
 # Figures.
 
 def test_a_polygon_is_drawn(page: Page, board_of) -> None:
@@ -58,14 +64,17 @@ def test_a_polygon_is_drawn(page: Page, board_of) -> None:
 
 def test_a_rectangle_round_the_origin(page: Page, board_of) -> None:
     at = board_of("")
+    before = page.text()
     page.keys("k")
     clicks(page, at((0, 0)), at((30, 15)))
     asks(page, "vertical R1Left", "symmetric R1Bottom.start R1Top.start about Origin")
     assert "segment R1Bottom -30 -15 30 -15\n" in page.text()
+    one_step_back(page, before)
 
 
 def test_an_arc_goes_on_from_an_end_to_an_edge(page: Page, board_of) -> None:
     at = board_of("segment S 0 0 20 0\nsegment E 0 40 80 40\n")
+    before = page.text()
     page.keys("b")
     page.press(*at((20, 0)))
     page.hover(*at((20.2, 39.8)))
@@ -75,6 +84,7 @@ def test_an_arc_goes_on_from_an_end_to_an_edge(page: Page, board_of) -> None:
     page.press(*at((60, 20)))
     page.press(*at((70, 20)))
     wait_for("it is told", lambda: "needs the end" in page.told("hint"))
+    one_step_back(page, before)
 
 
 # Copies.
@@ -111,6 +121,7 @@ def test_a_hole_is_mirrored_about_an_axis_and_an_edge(page: Page, board_of) -> N
 
 def test_a_row_of_holes(page: Page, board_of) -> None:
     at = board_of(HOLE)
+    before = page.text()
     page.select("C")
     page.keys("w")
     option(page, "count", "3")
@@ -119,6 +130,7 @@ def test_a_row_of_holes(page: Page, board_of) -> None:
     page.press(*at((50, 10.6)))
     asks(page, "x C.centre C1.centre 30", "horizontal C.centre C1.centre", "equal C C1",
          "symmetric C.centre C2.centre about C1.centre", "equal C C2")
+    one_step_back(page, before)
 
 
 def test_a_row_that_leans_a_little(page: Page, board_of) -> None:
@@ -132,6 +144,7 @@ def test_a_row_that_leans_a_little(page: Page, board_of) -> None:
 
 def test_a_ring_of_holes(page: Page, board_of) -> None:
     at = board_of(HOLE)
+    before = page.text()
     page.select("C")
     page.keys("u")
     option(page, "count", "3")
@@ -139,11 +152,13 @@ def test_a_ring_of_holes(page: Page, board_of) -> None:
     asks(page, "equal S1 S2", "angle S1 S2 120deg", "equal C C1", "equal S1 S3",
          "angle S2 S3 120deg", "equal C C2")
     assert "construction segment S1 Origin C.centre\n" in page.text()
+    one_step_back(page, before)
 
 
 def test_an_outline_beside_another(page: Page, board_of) -> None:
     at = board_of("rectangle R 0 0 60 40\ncoincident RBottom.start Origin\nlength RBottom 60\n"
                   "length RRight 40\n")
+    before = page.text()
     page.select("RBottom", "RRight", "RTop", "RLeft")
     page.keys("o")
     page.hover(*at((30, 8)))
@@ -154,10 +169,12 @@ def test_an_outline_beside_another(page: Page, board_of) -> None:
     field.send_keys("5", Keys.ENTER)
     wait_for("an outline", lambda: "segment S1 5 5 55 5\n" in page.text())
     assert page.text().count(" Offset1\n") == 4 and "value Offset1 5\n" in page.text()
+    one_step_back(page, before)
 
 
 def test_what_is_copied_is_pasted_also_in_another_drawing(page: Page, board_of) -> None:
     at = board_of(HOLE + "segment E 50 0 50 40\nlength E 40\n")
+    before = page.text()
     page.select("C", "E")
     page.keys(Keys.CONTROL + "c")
     wait_for("it is told", lambda: "Copied: C, E" in page.told("hint"))
@@ -167,6 +184,7 @@ def test_what_is_copied_is_pasted_also_in_another_drawing(page: Page, board_of) 
     page.press(*at((30, 10)))
     asks(page, "radius C1 4", "length S1 40")
     assert "circle C1 30 10 4\n" in page.text() and "segment S1 60 0 60 40\n" in page.text()
+    one_step_back(page, before)
     page.click("#new")
     page.verdict("empty")
     page.keys(Keys.CONTROL + "v")

@@ -324,6 +324,21 @@ def test_a_rectangle_of_no_size_keeps_its_angles(page: Page) -> None:
     assert hand.points["C.end"][1] == pytest.approx(y, abs=1e-6)
 
 
+def test_an_edge_goes_the_way_of_the_hand(page: Page) -> None:
+    """Its ends keep their places to each other, and what is level with them goes along."""
+    text = ("drawing 1\nsegment A 0 0 50 0\nsegment B A.end 50 30\nsegment C B.end 0 30\n"
+            "segment D C.end A.start\nhorizontal A\nhorizontal C\nvertical B\nvertical D\n")
+    hand = Hand(page, text)
+    hand.take("B")
+    hand.to((65, 22))
+    hand.let_go((65, 22))
+    hand.frames()
+    (x, y), (u, v) = hand.points["A.end"], hand.points["B.end"]
+    assert u == pytest.approx(x, abs=1e-6) and v - y == pytest.approx(30, abs=1e-3)
+    assert x == pytest.approx(65, abs=2), "as far to the right as the hand"
+    assert hand.points["A.start"][1] == pytest.approx(y, abs=1e-6), "level with its corner"
+
+
 def test_a_piece_at_the_origin_turns_about_it(page: Page) -> None:
     text = ("drawing 1\nsegment A 0 0 30 0\nsegment B A.end 30 20\nsegment C B.end A.start\n"
             "point P 50 0\ncoincident A.start Origin\nlength A 30\nlength B 20\nlength C 36\n"
