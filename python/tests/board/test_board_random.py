@@ -34,6 +34,17 @@ PLAIN = ("v", "x", "y", "d", "0", "+", "-", "[", "]", Keys.ESCAPE, Keys.ENTER, K
 VALUES = ("10", "25", "60deg", "1/2", "0.5 in", "-3", "", "forty", "7.25")
 
 
+COUNTS = """
+window.calls_ = 0;
+const { fetch } = window;
+window.fetch = async (...given) => {
+  window.calls_ += 1;
+  try { return await fetch(...given); } finally { window.calls_ -= 1; }
+};
+"""
+"""Counts the calls that are on their way to the server."""
+
+
 @dataclass
 class Hand:
     """A hand that does anything on a page, by chance."""
@@ -118,12 +129,12 @@ class Hand:
 
 
 def settle(page: Page) -> str:
-    """Waits until nothing has changed for a while; gives the text."""
+    """Waits until no call is on its way, and nothing has changed for a while; gives the text."""
     last, since, ends = ("", ""), time.monotonic(), time.monotonic() + 90
     while time.monotonic() - since < 1.5:
         assert time.monotonic() < ends, "it doesn't come to rest"
         now = page.text(), page.told()
-        if now != last:
+        if now != last or page.driver.execute_script("return window.calls_"):
             last, since = now, time.monotonic()
         time.sleep(0.1)
     return last[0]
@@ -151,6 +162,7 @@ def shown(page: Page) -> set[str]:
 
 @pytest.mark.parametrize("seed", SEEDS)
 def test_a_hand_that_does_anything(page: Page, program: Program, seed: int) -> None:
+    page.driver.execute_script(COUNTS)
     chance = random.Random(seed)
     begun = chance.choice(BEGUN)
     if begun:
