@@ -21,7 +21,7 @@ y H 30
 diameter H 10
 """
 """Its levels are constraints 1 to 4; 5 ties it; 6 and 7 are its lengths, 8 to 10 the hole's."""
-WEIGHED = "return document.getElementById('verdict').textContent.includes('may go instead')"
+WEIGHED = "return document.getElementById('verdict').textContent.includes('of these instead')"
 """Once it is weighed, the list says so behind what is left out."""
 
 

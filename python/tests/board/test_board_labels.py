@@ -65,8 +65,7 @@ def test_a_label_goes_where_it_is_dragged_and_is_kept_in_the_text(page: Page) ->
     assert abs(u - x - 30) < 2 and abs(v - y - 24) < 2
     page.click("#undo")
     wait_for("one step", lambda: "label" not in page.text())
-    page.settled()
-    assert centre(page, 3) == pytest.approx((x, y), abs=1)
+    wait_for("there again", lambda: centre(page, 3) == pytest.approx((x, y), abs=1))
 
 
 def test_leaders_and_arcs_go_with_their_labels(page: Page) -> None:

@@ -337,8 +337,8 @@ def test_a_drag_is_lost_whose_places_arent_met_nearby(client) -> None:
     """The crank is 30 long, and not 18: what is met nearest is 12 mm away, and nothing leaps."""
     places = {"points": {"Crank.end": [18, 0]}, "radii": {}}
     found = frame(client, 0, 30, "gone", places=places)
-    assert found == {"fixed": "the drag was lost, and it stays where it is shown: take hold of it "
-                              "anew"}
+    assert found == {"fixed": "the drag was lost, and it stays where it is shown: start to drag "
+                              "again"}
 
 
 BOW = """arc Bow 0 0 20 0 0 20
