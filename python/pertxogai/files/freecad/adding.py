@@ -4,6 +4,7 @@ from __future__ import annotations
 
 import math
 from fractions import Fraction
+from xml.sax.saxutils import quoteattr
 
 from pertxogai.drawing import (
     ORIGIN, X_AXIS, Y_AXIS, AngleBetween, Coincident, Concentric, Constraint, Degrees, Diameter,
@@ -28,9 +29,10 @@ def addition_tag(drawing: Drawing, constraint: Constraint) -> bytes:
     places = zip(("First", "Second", "Third"), (entry.first, entry.second, entry.third))
     named = " ".join(f'{word}="{end.shape}" {word}Pos="{int(end.position)}"'
                      for word, end in places)
-    return (f'<Constrain Name="" Type="{int(entry.kind)}" Value="{entry.value:.16f}" {named} '
+    name = quoteattr(constraint.name or "")
+    return (f'<Constrain Name={name} Type="{int(entry.kind)}" Value="{entry.value:.16f}" {named} '
             'LabelDistance="10.0000000000000000" LabelPosition="0.0000000000000000" IsDriving="1" '
-            'IsInVirtualSpace="0" IsActive="1" />\n').encode("ascii")
+            'IsInVirtualSpace="0" IsActive="1" />\n').encode("utf-8", "xmlcharrefreplace")
 
 
 def entry_of(drawing: Drawing, constraint: Constraint) -> Entry:

@@ -79,8 +79,10 @@ def addition_lines(drawing: Drawing, constraint: Constraint, handles: Handles,
     for name, value in fields.items():
         text = value if isinstance(value, str) else f"{value:08x}"
         yield f"Constraint.{name}={text}".encode("ascii")
-    yield from (b"Constraint.other=0", b"Constraint.other2=0", b"Constraint.reference=0",
-                b"AddConstraint", b"")
+    yield from (b"Constraint.other=0", b"Constraint.other2=0", b"Constraint.reference=0")
+    if constraint.name is not None:
+        yield f"Constraint.comment={constraint.name}".encode("utf-8", "replace")
+    yield from (b"AddConstraint", b"")
 
 
 def _record(drawing: Drawing, constraint: Constraint, handles: Handles) -> tuple[Kind, Fields]:

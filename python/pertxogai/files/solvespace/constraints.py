@@ -75,6 +75,13 @@ IsLeft = Callable[[ShapeRef, ShapeRef], bool]
 
 
 def name_of(record: Record) -> str:
+    """The name that a constraint was given, as its comment; else what SolveSpace shows as its
+    name."""
+    given = " ".join(record.fields.get("comment", "").split())
+    return given or shown_name_of(record)
+
+
+def shown_name_of(record: Record) -> str:
     """What SolveSpace shows as the name of a constraint."""
     kind = record.whole("type")
     word = Kind(kind).name.lower().replace("_", "-") if kind in list(Kind) else _OTHERS.get(
