@@ -5,7 +5,8 @@ from collections.abc import Callable, Mapping
 from dataclasses import dataclass
 from pathlib import Path
 
-from pertxogai.drawing import Drawing, DrawingRefusal, read_drawing
+from pertxogai.drawing import Drawing, DrawingRefusal, read_drawing, write_drawing
+from pertxogai.files.atomic import written_whole
 from pertxogai.files.contents import Addition, FileRefusal, FileSketch
 from pertxogai.files.limits import TEXT_BYTES, read_bytes
 from pertxogai.files.printable import printable
@@ -44,14 +45,15 @@ Input = SketchText | DesignerDrawing
 @dataclass(frozen=True)
 class Kind:
     """A kind of file: the ending of its name, what it is, what reads it, what copies it with good
-    sketches, and what copies it with more constraints and the places that meet them. What reads it
-    has the limits of `limits`."""
+    sketches, what copies it with more constraints and the places that meet them, and what copies it
+    with other values of its dimensions. What reads it has the limits of `limits`."""
 
     suffix: str
     what: str
     read: Callable[[Path], tuple[Input, ...]]
     write: Callable[[Path, Path, Mapping[str, GoodJudgement]], None] | None = None
     add: Callable[[Path, Path, Mapping[str, Addition]], None] | None = None
+    vary: Callable[[Path, Path, Mapping[str, GoodJudgement]], None] | None = None
 
 
 def kind_of(path: Path) -> Kind | None:
@@ -144,11 +146,29 @@ def _add_solvespace(path: Path, out: Path, additions: Mapping[str, Addition]) ->
     write_additions(path, out, additions)
 
 
+def _vary_drawing(path: Path, out: Path, good: Mapping[str, GoodJudgement]) -> None:
+    (each,) = good.values()
+    with written_whole(out, path) as stream:
+        stream.write(write_drawing(each.drawing).encode("utf-8", "surrogateescape"))
+
+
+def _vary_freecad(path: Path, out: Path, good: Mapping[str, GoodJudgement]) -> None:
+    from pertxogai.files.freecad.writing import write_variants
+
+    write_variants(path, out, good)
+
+
+def _vary_solvespace(path: Path, out: Path, good: Mapping[str, GoodJudgement]) -> None:
+    from pertxogai.files.solvespace.writing import write_variants
+
+    write_variants(path, out, good)
+
+
 KINDS = (
     Kind(".sketch", "the sketch language", _read_sketch),
-    Kind(".drawing", "a designer's drawing", _read_drawing),
-    Kind(".FCStd", "FreeCAD", _read_freecad, _write_freecad, _add_freecad),
-    Kind(".slvs", "SolveSpace", _read_solvespace, _write_solvespace,
-         _add_solvespace),
+    Kind(".drawing", "a designer's drawing", _read_drawing, vary=_vary_drawing),
+    Kind(".FCStd", "FreeCAD", _read_freecad, _write_freecad, _add_freecad, _vary_freecad),
+    Kind(".slvs", "SolveSpace", _read_solvespace, _write_solvespace, _add_solvespace,
+         _vary_solvespace),
     Kind(".dxf", "a DXF drawing", _read_outline),
 )

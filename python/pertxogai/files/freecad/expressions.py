@@ -65,6 +65,11 @@ class Bound:
         return _with_length(constraint, text, Values(self.values))
 
 
+def bound_places(kept: Kept) -> frozenset[int]:
+    """The places, from 1, of the constraints that have an expression, whatever that says."""
+    return frozenset(_Sketch(kept, "").bound)
+
+
 def _with_length(constraint: Sized | XDistance | YDistance, text: str,
                  values: Values) -> Constraint:
     expression = _signed(constraint, text)
@@ -97,15 +102,16 @@ def _signed(constraint: Valued, text: str) -> Expression:
 
 
 class _Sketch:
-    """The constraints of a sketch and the expressions that are bound to them."""
+    """The constraints of a sketch and the expressions that are bound to them. bound: these by the
+    places of the constraints; None where one can't be said."""
 
     def __init__(self, kept: Kept, label: str) -> None:
         self._own = {kept.name, f"<<{label}>>", f"<<{kept.name}>>"}
         self._nodes = kept.list_of("Constraints")
         self._places = {node.get("Name", ""): place for place, node in enumerate(self._nodes, 1)
                         if _is_name(node.get("Name", ""))}
-        bound = dict(self._bound(kept.list_of("ExpressionEngine")))
-        self._texts = {place: text for place, text in bound.items() if text is not None}
+        self.bound = dict(self._bound(kept.list_of("ExpressionEngine")))
+        self._texts = {place: text for place, text in self.bound.items() if text is not None}
         self._used = {name for text in self._texts.values()
                       for name in read_expression(text).names}
 

@@ -10,11 +10,12 @@ from __future__ import annotations
 import copy
 import math
 import re
-from collections.abc import Mapping
+from collections.abc import Iterator, Mapping, Sequence
 from decimal import Decimal
 from fractions import Fraction
 from itertools import repeat
 from pathlib import Path
+from types import MappingProxyType
 from typing import IO
 from zipfile import ZipFile
 
@@ -23,9 +24,11 @@ from pertxogai.files.atomic import written_whole
 from pertxogai.files.contents import Addition, FileRefusal
 from pertxogai.files.freecad.adding import addition_tag
 from pertxogai.files.freecad.archive import DOCUMENT, open_archive, pieces_of, read_member
+from pertxogai.files.freecad.expressions import bound_places
 from pertxogai.files.freecad.markup import Kept, Node
-from pertxogai.files.freecad.reading import SKETCH, objects_of
+from pertxogai.files.freecad.reading import SKETCH, objects_of, read_freecad
 from pertxogai.files.freecad.shapes import body_of, params_of, read_shapes
+from pertxogai.files.variants import Changed, changes
 from pertxogai.judging.good import GoodJudgement
 from pertxogai.judging.measure import Solution
 from pertxogai.judging.measure.upright import upright
@@ -63,25 +66,39 @@ def write_additions(path: Path, out: Path, additions: Mapping[str, Addition]) ->
     _write(path, out, {name: each.solution for name, each in additions.items()}, additions)
 
 
+def write_variants(path: Path, out: Path, good: Mapping[str, GoodJudgement]) -> None:
+    """Copies a file to `out` with the values of the dimensions of each sketch that is named as the
+    drawing of its judgement has them, which was made of the file's, and its shapes where that is
+    placed. Raises FileRefusal as `write_places`, and where an expression that isn't read would set
+    a value back."""
+    changed = {each.name: tuple(changes(each, good[each.name].drawing))
+               for each in read_freecad(path) if each.name in good}
+    _write(path, out, {name: each.solution for name, each in good.items()}, {}, changed)
+
+
 def _write(path: Path, out: Path, solutions: Mapping[str, Solution],
-           additions: Mapping[str, Addition]) -> None:
+           additions: Mapping[str, Addition],
+           changed: Mapping[str, Sequence[Changed]] = MappingProxyType({})) -> None:
     with open_archive(path) as archive:
         document = read_member(path, archive, DOCUMENT)
         if sum(info.file_size for info in archive.infolist()) > MOST_WRITTEN:
             raise FileRefusal(f"{path}: has more than {MOST_WRITTEN >> 30} GB: too much to copy")
-        changed = _with_changes(path, document, solutions, additions)
+        anew = _with_changes(path, document, solutions, additions, changed)
         with written_whole(out, path) as stream:
-            _copy(path, archive, stream, changed)
+            _copy(path, archive, stream, anew)
 
 
 def _with_changes(path: Path, document: bytes, solutions: Mapping[str, Solution],
-                  additions: Mapping[str, Addition]) -> bytes:
-    """The document with the shapes of the named sketches placed anew, and with what is added."""
+                  additions: Mapping[str, Addition],
+                  changed: Mapping[str, Sequence[Changed]]) -> bytes:
+    """The document with the shapes of the named sketches placed anew, with other values, and with
+    what is added."""
     edits: dict[int, Written] = {}
     lists: dict[int, bytes] = {}
     for kept in objects_of(path, document):
         if kept.kind == SKETCH and kept.name in solutions:
             edits.update(_edits(kept, upright(solutions[kept.name])))
+            edits.update(_dimensions(path, kept, changed.get(kept.name, ())))
         if kept.kind == SKETCH and kept.name in additions:
             begin, count = _list_of_constraints(path, kept)
             addition = additions[kept.name]
@@ -134,6 +151,21 @@ def _edits(kept: Kept, solution: Solution) -> dict[int, Written]:
             if values is not None:
                 edits[body.begin] = values
     return edits
+
+
+def _dimensions(path: Path, kept: Kept,
+                changed: Sequence[Changed]) -> Iterator[tuple[int, Written]]:
+    """For each dimension with another value, the byte where its tag begins, and that value. Raises
+    FileRefusal where an expression that the drawing hasn't would set it back."""
+    nodes, bound = kept.list_of("Constraints"), bound_places(kept) if changed else frozenset()
+    for each in changed:
+        node, more = nodes[each.number - 1], float(each.new - each.old)
+        if each.number in bound and not each.follows:
+            name = node.get("Name", "") or f"constraint {each.number}"
+            raise FileRefusal(f"{path}: FreeCAD sets {name} by an expression that isn't read, so no "
+                              "copy has another value: change it there")
+        value = float(node.get("Value", "0")) + (math.radians(more) if each.is_angle else more)
+        yield node.begin, {"Value": f"{value:.{_DIGITS}f}"}
 
 
 def _values(shape: Shape, body: Node, solution: Solution) -> Written | None:

@@ -11,21 +11,23 @@ from collections.abc import Iterator, Mapping
 from decimal import Decimal
 from fractions import Fraction
 from pathlib import Path
+from types import MappingProxyType
 
 from pertxogai.files.atomic import written_whole
 from pertxogai.files.contents import Addition, FileRefusal, NotSayable
 from pertxogai.files.solvespace.adding import Handles, addition_lines
 from pertxogai.files.solvespace.reading import (
-    Contents, contents_of, handles_of, name_of_group, requests_of, sketch_groups)
+    Contents, contents_of, handles_of, name_of_group, read_solvespace, requests_of, sketch_groups)
 from pertxogai.files.solvespace.records import Record, read_lines, records
 from pertxogai.files.solvespace.shapes import Request, drawn
+from pertxogai.files.variants import Changed, changes
 from pertxogai.judging.good import GoodJudgement
 from pertxogai.judging.measure import Number, Solution
 from pertxogai.judging.measure.upright import upright
 
 _NM_PER_MM = 10 ** 6
 _DIGITS = 20
-_VALUE = b"Param.val="
+_VALUE, _LENGTH = b"Param.val=", b"Constraint.valA="
 
 
 def write_solvespace(path: Path, out: Path, good: Mapping[str, GoodJudgement]) -> None:
@@ -50,8 +52,18 @@ def write_additions(path: Path, out: Path, additions: Mapping[str, Addition]) ->
     _write(path, out, {name: each.solution for name, each in additions.items()}, additions)
 
 
+def write_variants(path: Path, out: Path, good: Mapping[str, GoodJudgement]) -> None:
+    """Copies a file to `out` with the values of the dimensions of each sketch that is named as the
+    drawing of its judgement has them, which was made of the file's, and its numbers where that is
+    placed. Raises FileRefusal as `write_places`."""
+    changed = {each.number: each for sketch in read_solvespace(path) if sketch.name in good
+               for each in changes(sketch, good[sketch.name].drawing)}
+    _write(path, out, {name: each.solution for name, each in good.items()}, {}, changed)
+
+
 def _write(path: Path, out: Path, solutions: Mapping[str, Solution],
-           additions: Mapping[str, Addition]) -> None:
+           additions: Mapping[str, Addition],
+           changed: Mapping[int, Changed] = MappingProxyType({})) -> None:
     lines = read_lines(path)
     contents = contents_of(path, lines)
     values: dict[int, str] = {}
@@ -65,8 +77,34 @@ def _write(path: Path, out: Path, solutions: Mapping[str, Solution],
             added += _new_records(path, additions[name], handles_of(group, contents), number)
             number += len(additions[name].added)
     end = _end_of_constraints(lines)
+    kept = _dimensions(list(_rewritten(lines[:end], values)), changed)
     with written_whole(out, path) as stream:
-        stream.write(b"\n".join([*_rewritten(lines[:end], values), *added, *lines[end:]]))
+        stream.write(b"\n".join([*kept, *added, *lines[end:]]))
+
+
+def _dimensions(lines: list[bytes], changed: Mapping[int, Changed]) -> Iterator[bytes]:
+    """The lines with other values of some constraints."""
+    new: dict[int, bytes] = {}
+    begin = 0
+    for record in records(lines):
+        if record.word == "Constraint" and record.handle("h.v") in changed:
+            value = _told(record, changed[record.handle("h.v")])
+            new |= {place: _LENGTH + value.encode("ascii") for place in range(begin, record.added)
+                    if lines[place].startswith(_LENGTH)}
+        begin = record.added
+    for place, line in enumerate(lines):
+        yield new.get(place, line)
+
+
+def _told(record: Record, changed: Changed) -> str:
+    """A value as SolveSpace has it: an angle without a sign, of the first line turned round where
+    `other` is set; a length with the sign of the side that it was told with."""
+    if changed.is_angle:
+        size = abs(changed.new)
+        return f"{float(180 - size if record.whole('other') else size):.{_DIGITS}f}"
+    is_turned = (changed.new < 0) != (changed.old < 0)
+    sign = -1 if (record.number("valA") < 0) != is_turned else 1
+    return f"{sign * float(abs(changed.new)):.{_DIGITS}f}"
 
 
 def _new_records(path: Path, addition: Addition, handles: Handles, number: int) -> Iterator[bytes]:
