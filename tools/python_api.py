@@ -15,8 +15,9 @@ END = "<!-- The end of what tools/pages makes. -->\n"
 PACKAGES = [
     "pertxogai.program", "pertxogai.program.live", "pertxogai.program.library", "pertxogai.language",
     "pertxogai.program.reports", "pertxogai.drawing", "pertxogai.spelling", "pertxogai.judging",
-    "pertxogai.judging.measure", "pertxogai.search", "pertxogai.completing", "pertxogai.fitting",
-    "pertxogai.output", "pertxogai.output.picture", "pertxogai.files", "pertxogai.files.freecad",
+    "pertxogai.judging.measure", "pertxogai.search", "pertxogai.completing", "pertxogai.ranging",
+    "pertxogai.fitting", "pertxogai.output", "pertxogai.output.picture", "pertxogai.files",
+    "pertxogai.files.freecad",
     "pertxogai.files.solvespace", "pertxogai.files.dxf",
 ]
 """What has public names, in the order of the reference."""

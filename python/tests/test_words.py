@@ -152,7 +152,7 @@ COMPLETED = [
     ("sketch excess", "pl", ["place=boxes", "place=points"]),
     ("sketch live", "f", ["frame=base", "frame=drawn"]),
     ("sketch grow", "n", ["n="]),
-    ("pertxogai", "", ["judge", "draw", "complete", "certify", "page", "--help", "--version"]),
+    ("pertxogai", "", ["judge", "draw", "complete", "range", "family", "certify", "page", "--help", "--version"]),
     ("pertxogai judge", "--w", ["--within", "--write"]),
     ("pertxogai page", "--p", ["--port", "--program"]),
 ]
@@ -186,6 +186,7 @@ COLOURED = {
         ("construction segment Axis 0 0 40 0",
          [("Flag", "construction"), ("Shape", "segment"), *[("Number", it) for it in
                                                              ("0", "0", "40", "0")]]),
+        ("value Width 120", [("Value", "value"), ("Number", "120")]),
         ("Left width: length Bottom 120mm", [("Constraint", "length"), ("Number", "120mm")]),
         ("coincident PlateBottom.start Origin", [("Constraint", "coincident"),
                                                  ("Datum", "Origin")]),

@@ -41,8 +41,8 @@ def page(version: str, date: str) -> list[str]:
                  for line in (f".SS {name}", about[0].upper() + about[1:] + ".", *terms(*options(parser)))]
     return [
         *head("pertxogai", 1, ABOUT, version, date),
-        *chapter("SYNOPSIS", ["\\fBpertxogai\\fR \\fBjudge\\fR|\\fBwatch\\fR|\\fBdraw\\fR|\\fBcomplete\\fR|\\fBcertify\\fR ["
-                              "\\fIOPTION\\fR].. \\fIFILE\\fR", ".br",
+        *chapter("SYNOPSIS", ["\\fBpertxogai\\fR \\fBjudge\\fR|\\fBwatch\\fR|\\fBdraw\\fR|\\fBcomplete\\fR|\\fBrange\\fR|\\fBfit\\fR|\\fBcertify\\fR [\\fIOPTION\\fR].. \\fIFILE\\fR", ".br",
+                              "\\fBpertxogai\\fR \\fBfamily\\fR [\\fIOPTION\\fR].. \\fIFILE\\fR \\fISIZES.csv\\fR", ".br",
                               "\\fBpertxogai\\fR \\fBpage\\fR [\\fIOPTION\\fR].."]),
         *chapter("DESCRIPTION", *SAYS),
         *chapter("COMMANDS", described),

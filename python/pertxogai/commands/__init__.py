@@ -1,5 +1,5 @@
-"""The commands `judge`, `watch`, `draw`, `complete`, `fit`, `certify` and `page`, as ./pertxogai
-calls them. Each imports what it needs once it is called."""
+"""The commands `judge`, `watch`, `draw`, `complete`, `range`, `family`, `fit`, `certify` and
+`page`, as ./pertxogai calls them. Each imports what it needs once it is called."""
 from __future__ import annotations
 
 import argparse
@@ -42,6 +42,10 @@ CHART = "a chart of which dimension gives how much, as SVG"
 FITTED = "a .drawing with tolerances and checks"
 FREEZE = "fix lengths and radii that have no dimension at their drawn values"
 JOBS = "how many files are judged at a time (default: as many as processors)"
+NAMES = "values or dimensions, by name or as `judge` calls them (default: all)"
+FOLDER = "where to write the table of verdicts and the drawings (default: print the table)"
+PART = "only every N-th line of the table, beginning with the K-th"
+SIZES = "a table with a line for each variant and a column for each value; - for standard input"
 NEARLY = "also list relations that the drawing nearly has, such as horizontal edges, equal lengths"
 NO_SEARCH = "leave out what is found by numbers about what isn't well"
 OUTPUT = "the file to write: OUT.svg or OUT.dxf"
@@ -94,6 +98,8 @@ def command_line() -> argparse.ArgumentParser:
     _add_watch(commands)
     _add_draw(commands)
     _add_complete(commands)
+    _add_range(commands)
+    _add_family(commands)
     _add_fit(commands)
     _add_certify(commands)
     add_page(commands)
@@ -145,6 +151,32 @@ def _add_complete(commands: Commands) -> None:
     completing.add_argument("--json", action="store_true", help="print one object of JSON")
     completing.add_argument("-o", "--output", type=Path, metavar="OUT", help=COMPLETED)
     completing.add_argument("--sketch", metavar="NAME", help=SKETCH)
+
+
+def _add_range(commands: Commands) -> None:
+    ranging = _command(commands, "range",
+                       "tells how far each value and dimension may go, and why no further")
+    ranging.set_defaults(act=_range)
+    ranging.add_argument("file", type=Path, metavar="FILE", help=FILE)
+    ranging.add_argument("names", nargs="*", metavar="NAME", help=NAMES)
+    ranging.add_argument("--json", action="store_true", help="print one object of JSON")
+    ranging.add_argument("--sketch", metavar="NAME", help=SKETCH)
+
+
+def _add_family(commands: Commands) -> None:
+    family = _command(commands, "family",
+                      "judges and draws one drawing with many values, those of a table")
+    family.set_defaults(act=_family)
+    family.add_argument("file", type=Path, metavar="FILE", help=FILE)
+    family.add_argument("sizes", type=Path, metavar="SIZES.csv", help=SIZES)
+    family.add_argument("-o", "--output", type=Path, metavar="FOLDER", help=FOLDER)
+    family.add_argument("--svg", action="store_true", help="write each variant to NAME.svg")
+    family.add_argument("--dxf", action="store_true", help="write what is good to NAME.dxf")
+    family.add_argument("--copy", action="store_true",
+                        help="copy the file, with the values of what is good, to NAME")
+    family.add_argument("--part", type=_part, default="1/1", metavar="K/N", help=PART)
+    family.add_argument("--jobs", type=int, default=os.cpu_count() or 1, metavar="N", help=JOBS)
+    family.add_argument("--sketch", metavar="NAME", help=SKETCH)
 
 
 def _add_fit(commands: Commands) -> None:
@@ -202,6 +234,16 @@ def _limit(word: str) -> Limit:
             f"{word!r} isn't a whole number from 1 to {MOST_LIMIT}") from None
 
 
+def _part(word: str) -> object:
+    """The share of a table that a word tells, as 3/64. Raises ArgumentTypeError."""
+    from pertxogai.commands.variants import Part
+
+    number, _, count = word.partition("/")
+    if number.isdecimal() and count.isdecimal() and 1 <= int(number) <= int(count):
+        return Part(int(number), int(count))
+    raise argparse.ArgumentTypeError(f"{word!r} is no share of a table: write one as 3/64")
+
+
 def _judge(options: argparse.Namespace) -> Exit:
     from pertxogai.commands.judging import judge_file
 
@@ -229,6 +271,21 @@ def _complete(options: argparse.Namespace) -> Exit:
     from pertxogai.commands.completing import complete_file
 
     return complete_file(options)
+
+
+def _range(options: argparse.Namespace) -> Exit:
+    from pertxogai.search import check_libraries
+
+    check_libraries()
+    from pertxogai.commands.range import tell_ranges
+
+    return tell_ranges(options)
+
+
+def _family(options: argparse.Namespace) -> Exit:
+    from pertxogai.commands.family import judge_family
+
+    return judge_family(options)
 
 
 def _fit(options: argparse.Namespace) -> Exit:

@@ -47,6 +47,11 @@ def axes_of(drawing: Drawing, reading: Reading = READINGS[0]) -> Axes:
     return Interpretation.of(_read(lowered(drawing), reading)).axes
 
 
+def interpreted(drawing: Drawing, reading: Reading) -> Interpretation:
+    """How a drawing is spelled by one reading."""
+    return Interpretation.of(_read(lowered(drawing), reading))
+
+
 def axes_said(drawing: Drawing) -> Axes:
     """What a drawing says of x and y, before a reading takes some of it otherwise."""
     return settled_axes(_with_meetings(lowered(drawing)))

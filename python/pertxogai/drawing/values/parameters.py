@@ -46,7 +46,10 @@ class NamedValue:
 
     def on(self, drawing: Drawing, number: Fraction) -> Drawing:
         """The drawing with another number for it, in its unit. Raises DrawingUnsound."""
-        return with_values(drawing, {self.name: expression_of(number, self.unit)})
+        try:
+            return with_values(drawing, {self.name: expression_of(number, self.unit)})
+        except WordFault as fault:
+            raise DrawingUnsound(f"value {self.name}", fault.word, fault.what) from None
 
 
 @dataclass(frozen=True)
@@ -95,7 +98,8 @@ def parameters(drawing: Drawing) -> tuple[Parameter, ...]:
 
 
 def expression_of(number: Fraction, unit: Unit) -> Expression:
-    """A number with its unit, as it is written: to twenty digits."""
+    """A number with its unit, as it is written: to twenty digits. Raises WordFault at one beyond
+    those that are read."""
     return read_expression(decimal_text(number) + unit.value)
 
 

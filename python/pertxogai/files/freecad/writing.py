@@ -162,8 +162,8 @@ def _dimensions(path: Path, kept: Kept,
         node, more = nodes[each.number - 1], float(each.new - each.old)
         if each.number in bound and not each.follows:
             name = node.get("Name", "") or f"constraint {each.number}"
-            raise FileRefusal(f"{path}: FreeCAD sets {name} by an expression that isn't read, so no "
-                              "copy has another value: change it there")
+            raise FileRefusal(f"{path}: FreeCAD sets {name} by an expression that isn't read, so "
+                              "no copy has another value: change it there")
         value = float(node.get("Value", "0")) + (math.radians(more) if each.is_angle else more)
         yield node.begin, {"Value": f"{value:.{_DIGITS}f}"}
 

@@ -1,0 +1,106 @@
+"""The command `range`."""
+from __future__ import annotations
+
+import argparse
+import json
+from collections.abc import Iterator, Sequence
+
+from pertxogai.commands.judging import chosen, made_of
+from pertxogai.commands.solvers import solver_of
+from pertxogai.drawing import VALUED, Drawing, Parameter
+from pertxogai.exits import CommandError, Exit
+from pertxogai.files.kinds import DesignerDrawing, Input, read_inputs
+from pertxogai.files.printable import printable
+from pertxogai.output.ranges_text import range_json, ranges_lines
+from pertxogai.program import Solver
+from pertxogai.ranging import NoRange, Range, Ranging
+
+
+def tell_ranges(options: argparse.Namespace) -> Exit:
+    """Prints the ranges of each sketch of a file that is good: of the values and dimensions that
+    are named, or of all. Raises CommandError, InputRefused, FileRefusal and ProgramError."""
+    drawings = _drawings(options)
+    program = solver_of(options)
+    told: list[dict[str, object]] = []
+    ends = Exit.GOOD
+    for found in drawings:
+        try:
+            ranges = tuple(_ranges(found, program, options))
+        except NoRange as why:
+            ends = Exit.NOT_GOOD
+            told.append({"name": found.name, "ranges": [], "why": str(why)})
+            _print(options, [f"{found.name}: no ranges: {why}"])
+            continue
+        told.append({"name": found.name,
+                     "ranges": [range_json(found.drawing, each) for each in ranges]})
+        _print(options, ranges_lines(found.name, found.drawing, ranges))
+    if options.json:
+        print(json.dumps({"sketches": told}, indent=2))
+    return ends
+
+
+def _drawings(options: argparse.Namespace) -> list[DesignerDrawing]:
+    """The drawings that are asked about. Raises CommandError, InputRefused and FileRefusal."""
+    if options.freeze:
+        raise CommandError("--freeze has no ranges: give the circles their sizes")
+    inputs = read_inputs(options.file)
+    if options.sketch is not None:
+        inputs = (chosen(inputs, options.sketch),)
+    return [_drawing(each, options) for each in inputs]
+
+
+def _print(options: argparse.Namespace, lines: Iterator[str] | Sequence[str]) -> None:
+    if not options.json:
+        print(*map(printable, lines), sep="\n", flush=True)
+
+
+def _drawing(found: Input, options: argparse.Namespace) -> DesignerDrawing:
+    if not isinstance(found, DesignerDrawing):
+        raise CommandError(f"{options.file}: a sketch of the language has no ranges: open it on "
+                           "the board, and save it as a drawing")
+    return found
+
+
+def _ranges(found: DesignerDrawing, program: Solver,
+            options: argparse.Namespace) -> Iterator[Range]:
+    with made_of(found):
+        ranging = Ranging.of(found.drawing, program, options.within, found.left_out)
+        for each in _asked_for(found.drawing, ranging.parameters(), options.names):
+            yield ranging.range_of(each)
+
+
+def _asked_for(drawing: Drawing, known: Sequence[Parameter],
+               names: Sequence[str]) -> Sequence[Parameter]:
+    """The parameters of these names, or all. A dimension is named by its own name, by its place, as
+    `7`, or as it is called. Raises CommandError."""
+    if not names:
+        return known
+    return [_named(drawing, known, name) for name in names]
+
+
+def _named(drawing: Drawing, known: Sequence[Parameter], name: str) -> Parameter:
+    number = f"constraint {name.removeprefix('constraint ')} ("
+    found = [each for each in known
+             if each.called(drawing) == name or each.called(drawing).startswith(number)]
+    if len(found) > 1:
+        raise CommandError(f"{name!r} is a value and a dimension: give the dimension another name")
+    if found:
+        return found[0]
+    told_by = _told_by(drawing, name)
+    if told_by:
+        raise CommandError(f"{name!r} has no range of its own: it follows from "
+                           f"{', '.join(told_by)}")
+    names = ", ".join(each.called(drawing) for each in known)
+    raise CommandError(f"{name!r} is no value and no dimension that has a range: write one of "
+                       f"{names or 'none, since there is none'}")
+
+
+def _told_by(drawing: Drawing, name: str) -> tuple[str, ...]:
+    """The values that a value or a dimension of a name is told by; none where it isn't so told."""
+    for value in drawing.values:
+        if value.name == name:
+            return value.expression.names
+    for number, each in enumerate(drawing.constraints, start=1):
+        if name in (each.name, str(number), drawing.called(number)) and isinstance(each, VALUED):
+            return each.expression.names if each.expression is not None else ()
+    return ()

@@ -1,0 +1,196 @@
+"""The range of each value and dimension of a good drawing."""
+from __future__ import annotations
+
+from collections.abc import Iterator, Sequence
+from dataclasses import dataclass
+from fractions import Fraction
+
+from pertxogai.drawing import (
+    Drawing, DrawingUnsound, Parameter, Sense, Unit, XDistance, YDistance, parameters)
+from pertxogai.drawing.checks import MOST_UM
+from pertxogai.drawing.numbers import MOST_MM
+from pertxogai.drawing.values.parameters import Dimension, NamedValue
+from pertxogai.judging.measure import Limit
+from pertxogai.judging.measure.solution import Solution
+from pertxogai.program import Solver
+from pertxogai.ranging.faults import Fault, FaultKind
+from pertxogai.ranging.passage import Passage
+from pertxogai.ranging.search import Border, Search
+from pertxogai.ranging.spans import is_smooth
+from pertxogai.ranging.things import Placement
+from pertxogai.ranging.way import Way
+
+STEPS = {Unit.MM: 1_000, Unit.PLAIN: 1_000, Unit.DEGREES: 10_000}
+"""Ends are told to so many parts of the unit: to a micrometre, to a ten-thousandth of a degree."""
+MOST_STEPS = 10 ** 9
+"""A small value without a unit is told to a thousandth of it, and to no smaller part of one."""
+
+MOST_NUMBER = 9_999_999
+"""No number of an expression is greater."""
+
+
+@dataclass(frozen=True)
+class End:
+    """An end of a range: the last number with which the drawing stays as it is, in the unit of what
+    has the range, and why it doesn't with the next."""
+
+    at: Fraction
+    fault: Fault
+
+
+@dataclass(frozen=True)
+class Range:
+    """How far a value or a dimension may go. tried: how many numbers were tried.
+    is_clear: whether by numbers nothing crosses between these."""
+
+    of: Parameter
+    low: End
+    high: End
+    tried: int
+    is_clear: bool
+
+    @property
+    def step(self) -> Fraction:
+        """To how much the ends are told, in the unit."""
+        return Fraction(1, _steps(self.of))
+
+
+@dataclass(frozen=True)
+class Ranging:
+    """A good drawing, of which the ranges are asked for."""
+
+    drawing: Drawing
+    way: Way
+
+    @staticmethod
+    def of(drawing: Drawing, program: Solver, limit: Limit = Limit(),
+           not_drawn: tuple[str, ...] = ()) -> Ranging:
+        """not_drawn: what its file has and the drawing can't say. Raises NoRange where the drawing
+        isn't good, and as `judge_at_once`."""
+        return Ranging(drawing, Way.of(drawing, program, limit, not_drawn))
+
+    def parameters(self) -> tuple[Parameter, ...]:
+        """What has a range: each value, and each dimension, that follows from no value."""
+        return parameters(self.drawing)
+
+    def range_of(self, of: Parameter) -> Range:
+        """The range of one. Raises ProgramError."""
+        numbers = _Numbers(self, of)
+        search = Search(numbers.fault, numbers.present, numbers.low, numbers.high, numbers.beyond,
+                        numbers.is_clear, numbers.at_end)
+        low, high = search.border(False), search.border(True)
+        return Range(of, numbers.end(low), numbers.end(high), search.asked,
+                     low.is_clear and high.is_clear)
+
+    def ranges(self) -> Iterator[Range]:
+        """The range of each. Raises ProgramError."""
+        return map(self.range_of, self.parameters())
+
+    def fault(self, of: Parameter, number: Fraction) -> Fault | None:
+        """Why the drawing isn't as it is with another number for one, in its unit, by whichever way
+        it is told; None where it is. Raises ProgramError."""
+        found = self.found_for(of, number)
+        return found if isinstance(found, Fault) else None
+
+    def found_for(self, of: Parameter, number: Fraction) -> Way | Fault:
+        """The way in which the drawing is good with another number for one, or why there is none.
+        Raises ProgramError."""
+        other = self.drawing_with(of, number)
+        return other if isinstance(other, Fault) else self.way.found_for(other)
+
+    def drawing_with(self, of: Parameter, number: Fraction) -> Drawing | Fault:
+        """The drawing with another number for one, or why there is none."""
+        try:
+            return of.on(self.drawing, number)
+        except DrawingUnsound as unsound:
+            return Fault(FaultKind.UNSOUND, str(unsound))
+
+
+class _Numbers:
+    """The numbers that a parameter may have, as whole numbers of steps from the one next to 0 that
+    is a whole number of them away from the present one."""
+
+    def __init__(self, ranging: Ranging, of: Parameter) -> None:
+        self._ranging, self._of = ranging, of
+        self._steps = _steps(of)
+        self.present = round(of.present * self._steps)
+        self._rest = of.present - Fraction(self.present, self._steps)
+        low, high = _limits(ranging.drawing, of)
+        self.low, self.high = min(low, self.present), max(high, self.present)
+        self._things = ranging.way.things
+        self._placements = {self.present: self._things.placed(ranging.way.solution)}
+        self._ways = [ranging.way]
+
+    def _number(self, steps: int) -> Fraction:
+        return Fraction(steps, self._steps) + self._rest
+
+    def fault(self, number: int) -> Fault | None:
+        """What is wrong with a number, by all ways that are known; the last of them says."""
+        drawing = self._ranging.drawing_with(self._of, self._number(number))
+        if isinstance(drawing, Fault):
+            return drawing
+        fault: Fault | None = None
+        for way in self._ways:
+            found = way.placed(drawing)
+            if isinstance(found, Solution):
+                self._placements[number] = self._things.placed(found)
+                return None
+            fault = found
+        return fault
+
+    def at_end(self, number: int) -> Fault | None:
+        """What is wrong with a number, by whichever way; one that is found is known from now on."""
+        found = self._ranging.found_for(self._of, self._number(number))
+        if isinstance(found, Fault):
+            return found
+        self._ways.append(found)
+        self._placements[number] = self._things.placed(found.solution)
+        return None
+
+    def is_clear(self, numbers: Sequence[int]) -> bool:
+        """Whether by numbers nothing crosses on the way through some good numbers, on which all
+        expressions go smoothly."""
+        if isinstance(self._of, NamedValue):
+            low, high = sorted(map(self._number, (numbers[0], numbers[-1])))
+            if not is_smooth(self._ranging.drawing, self._of.name, low, high):
+                return False
+        placements: list[Placement] = [self._placements[each] for each in numbers]
+        return Passage.of(self._things, numbers, placements).is_clear()
+
+    def beyond(self, number: int) -> Fault:
+        """What is wrong with a number beyond the limits."""
+        if not isinstance(self._of, Dimension):
+            return Fault(FaultKind.LIMIT, f"no number is tried beyond {MOST_NUMBER:,}")
+        if self._of.unit is Unit.DEGREES:
+            return Fault(FaultKind.LIMIT, "it is no angle of two lines that cross")
+        if abs(number) > MOST_UM:
+            return Fault(FaultKind.LIMIT, f"no length goes beyond {MOST_MM:,} mm")
+        told = "no length is below 0.001 mm" if self.low else "without a sign it isn't below 0"
+        return Fault(FaultKind.LIMIT, told)
+
+    def end(self, border: Border[Fault]) -> End:
+        """An end of the range."""
+        return End(self._number(border.good), border.fault)
+
+
+def _steps(of: Parameter) -> int:
+    """Into how many steps the unit of a parameter is parted."""
+    steps = STEPS[of.unit]
+    while of.unit is Unit.PLAIN and 0 < abs(of.present) * steps < 1_000 and steps < MOST_STEPS:
+        steps *= 10
+    return steps
+
+
+def _limits(drawing: Drawing, of: Parameter) -> tuple[int, int]:
+    """The least and the greatest number that a parameter may have, in steps."""
+    steps = _steps(of)
+    if not isinstance(of, Dimension):
+        return -MOST_NUMBER * steps, MOST_NUMBER * steps
+    if of.unit is Unit.DEGREES:
+        half_turn = 180 * steps
+        half_turns = round(of.present * steps) // half_turn
+        return half_turns * half_turn + 1, (half_turns + 1) * half_turn - 1
+    dimension = drawing.constraints[of.number - 1]
+    if not isinstance(dimension, XDistance | YDistance):
+        return 1, MOST_UM
+    return (-MOST_UM if dimension.sense is Sense.SIGNED else 0), MOST_UM

@@ -1,0 +1,185 @@
+"""How far a number may go: to the limit where that is good; else by doubling away from the present
+one, and halving between the last that is good and the first that isn't. Some between are tried, and
+more where something may cross."""
+from __future__ import annotations
+
+from collections.abc import Callable, Iterator, Sequence
+from dataclasses import dataclass, field
+from typing import Generic, TypeVar
+
+Fault = TypeVar("Fault")
+
+PROBES = 8
+"""Numbers that are tried evenly between the present one and each end, as far as the present one
+reaches four times."""
+FAR = 8
+"""How many times further each number is that is tried beyond, up to the end."""
+FIRST = 16
+"""The first step is a part of the present number: one in so many."""
+COARSE = 1000
+"""Ends are looked for at multiples of this first, as at whole millimetres."""
+MOST_ROUNDS = 8
+"""So many times a number at which all looks to end may turn out to be good."""
+MOST_TRIED = 500
+"""No more numbers are tried for an end because something may cross between them."""
+
+
+@dataclass(frozen=True)
+class Border(Generic[Fault]):
+    """The last good whole number one way, and what is wrong with the next. is_clear: whether by
+    numbers nothing crosses between the numbers that were tried up to it."""
+
+    good: int
+    fault: Fault
+    is_clear: bool
+
+
+@dataclass
+class Search(Generic[Fault]):
+    """Looks for the two borders about a present whole number that is good. fault: what is wrong
+    with a number; None where it is good. low, high: the least and the greatest number that may be
+    tried. beyond: what is wrong with those beyond. is_clear: whether nothing crosses between some
+    good numbers, in their order. at_end: what is wrong with a number at which all looks to end,
+    asked by more than `fault` asks; None where it is good."""
+
+    fault: Callable[[int], Fault | None]
+    present: int
+    low: int
+    high: int
+    beyond: Callable[[int], Fault]
+    is_clear: Callable[[Sequence[int]], bool]
+    at_end: Callable[[int], Fault | None]
+    known: dict[int, Fault | None] = field(default_factory=dict)
+    asked: int = 0
+    """How many numbers were tried."""
+    _asked_before: int = 0
+
+    def __post_init__(self) -> None:
+        if not self.low <= self.present <= self.high:
+            raise ValueError(f"{self.present} isn't from {self.low} to {self.high}")
+        self.known[self.present] = None
+
+    def border(self, up: bool) -> Border[Fault]:
+        """The border above, or below."""
+        way, rounds, self._asked_before = 1 if up else -1, 0, self.asked
+        good, bad = self._apart(self.present, way)
+        while True:
+            good, bad = self._halved(good, bad)
+            is_clear, near = self._way_to(good)
+            if near is not None:
+                good, bad = self._last_good_before(near), near
+                continue
+            rounds += 1
+            fault = self._at_end(bad) if rounds < MOST_ROUNDS else self._fault(bad)
+            if fault is not None:
+                return Border(good, fault, is_clear)
+            good, bad = self._apart(bad, way)
+
+    def _at_end(self, number: int) -> Fault | None:
+        """What is wrong with a number at which all looks to end. Where nothing is, it is good, and
+        those that weren't are asked anew."""
+        fault = self._fault(number) if self._is_beyond(number) else self.at_end(number)
+        if fault is None:
+            self.known = {each: None for each, why in self.known.items() if why is None}
+            self.known[number] = None
+        return fault
+
+    def _is_beyond(self, number: int) -> bool:
+        return not self.low <= number <= self.high
+
+    def _fault(self, number: int) -> Fault | None:
+        if self._is_beyond(number):
+            return self.beyond(number)
+        if number not in self.known:
+            self.asked += 1
+            self.known[number] = self.fault(number)
+        return self.known[number]
+
+    def _apart(self, good: int, way: int) -> tuple[int, int]:
+        """A number that is good, from one on that is, and one further that isn't."""
+        end = self.high if way > 0 else self.low
+        if end == good or not self._fault(end):
+            return end, end + way
+        step = max(1, abs(good) // FIRST)
+        while (end - good) * way > step and not self._fault(good + way * step):
+            good, step = good + way * step, 2 * step
+        return good, min(good + way * step, end, key=lambda it: it * way)
+
+    def _halved(self, good: int, bad: int) -> tuple[int, int]:
+        """Two numbers next to each other between them, of which one is good: at multiples of what
+        is coarse first, since most ends lie by one."""
+        while abs(bad - good) > COARSE:
+            good, bad = self._nearer(good, bad, _coarse_middle(good, bad))
+        way = 1 if bad > good else -1
+        for near in (bad - way, good + way):
+            if abs(bad - good) > 1:
+                good, bad = self._nearer(good, bad, near)
+        while abs(bad - good) > 1:
+            good, bad = self._nearer(good, bad, (good + bad) // 2)
+        return good, bad
+
+    def _nearer(self, good: int, bad: int, between: int) -> tuple[int, int]:
+        """The two with a number between them in the place of one."""
+        return (good, between) if self._fault(between) else (between, bad)
+
+    def _way_to(self, good: int) -> tuple[bool, int | None]:
+        """Whether the way to a good number is clear; else a number on it that isn't good, where
+        one is found."""
+        for each in self._probes(good):
+            if self._fault(each):
+                return False, each
+        return self._between(self.present, good)
+
+    def _probes(self, good: int) -> Iterator[int]:
+        """Some numbers between the present one and a good one, the nearest first."""
+        way, room = (1 if good > self.present else -1), abs(good - self.present)
+        near = min(room, 4 * abs(self.present) + 4)
+        steps = [near * each // (PROBES + 1) for each in range(1, PROBES + 1)]
+        while near < room:
+            steps.append(near)
+            near *= FAR
+        return (self.present + way * step for step in steps if 0 < step < room)
+
+    def _between(self, near: int, far: int) -> tuple[bool, int | None]:
+        """The same of the way between two good numbers: more are tried where it isn't clear."""
+        if abs(far - near) < 2:
+            return True, None
+        middle = self._middle(near, far)
+        for each in (middle, self._middle(near, middle), self._middle(middle, far)):
+            if each not in self.known and self.asked - self._asked_before >= MOST_TRIED:
+                return False, None
+            if self._fault(each):
+                return False, each
+        if self.is_clear([near, *self._tried_between(near, far), far]):
+            return True, None
+        is_near_clear, found = self._between(near, middle)
+        if found is not None:
+            return False, found
+        is_far_clear, found = self._between(middle, far)
+        return is_near_clear and is_far_clear, found
+
+    def _tried_between(self, near: int, far: int) -> list[int]:
+        """The good numbers that were tried between two others, in the order of these."""
+        low, high = sorted((near, far))
+        found = sorted(each for each, fault in self.known.items()
+                       if low < each < high and fault is None)
+        return found if near == low else found[::-1]
+
+    def _middle(self, near: int, far: int) -> int:
+        """A number between two others to try next: one that was, if it lies well between them."""
+        middle = (near + far) // 2
+        tried = self._tried_between(near, far)
+        nearest = min(tried, key=lambda each: abs(each - middle), default=middle)
+        return nearest if abs(nearest - middle) <= abs(far - near) // 4 else middle
+
+    def _last_good_before(self, number: int) -> int:
+        """The nearest good number between the present one and another."""
+        return [self.present, *self._tried_between(self.present, number)][-1]
+
+
+def _coarse_middle(good: int, bad: int) -> int:
+    """A number in the middle between two: a multiple of what is coarse, where one lies there."""
+    low, high = sorted((good, bad))
+    middle = (low + high) // 2
+    coarse = round(middle / COARSE) * COARSE
+    return coarse if low < coarse < high else middle

@@ -1,0 +1,201 @@
+"""The edges and rims of a drawing that may come to cross, in several placements, as pieces in
+floats: whole circles, and chords of edges and arcs."""
+from __future__ import annotations
+
+from collections.abc import Collection, Iterator
+from dataclasses import dataclass
+from itertools import combinations
+from math import atan2, ceil, cos, hypot, pi, sin
+from typing import TypeAlias
+
+import numpy as np
+from numpy.typing import NDArray
+
+from pertxogai.drawing import (
+    ORIGIN, X_AXIS, Y_AXIS, Arc, Circle, Constraint, Distance, Drawing, PointLineDistance, PointOn,
+    PointRef, Segment, Tangent, Which)
+from pertxogai.exact import between, cross, dot
+from pertxogai.judging.departures import Departure, DepartureKind
+from pertxogai.judging.edges import Chord, Edge, Edges
+from pertxogai.judging.measure.solution import Solution
+from pertxogai.judging.rims import Rim, Round
+
+Array: TypeAlias = NDArray[np.float64]
+Indices: TypeAlias = NDArray[np.intp]
+Piece: TypeAlias = tuple[float, float, float, float, float, float]
+"""A chord from x, y to x, y, or a circle round a centre that stands twice; the radius of a circle,
+else 0; how far an arc bulges beyond its chord. All in nm."""
+
+AXES = tuple(
+    Edge(name, (ORIGIN, ORIGIN), Chord((0, 0), far), Chord((0, 0), far))
+    for name, far in ((X_AXIS.name, (10 ** 12, 0)), (Y_AXIS.name, (0, 10 ** 12))))
+"""The axes, as long as the greatest length."""
+
+CHORD_TURN = pi / 24
+"""A chord of an arc as it is drawn turns by no more."""
+
+
+@dataclass(frozen=True)
+class Placement:
+    """One placement. ends: of each piece the two ends, in nm; radius, bulge: as a Piece has them.
+    runs: how far each edge runs its drawn way, in nm, and how far each two straight things that go
+    through one point are from one line."""
+
+    ends: Array
+    radius: Array
+    bulge: Array
+    runs: Array
+
+
+@dataclass(frozen=True)
+class Things:
+    """What of a drawing may come to cross or to turn about. starts: where the pieces of each thing
+    begin. pairs: the places of two things that are drawn apart and end nowhere together. known:
+    what lies otherwise than it is drawn from the beginning. is_free: whether nothing ties it to the
+    datum's directions, so that no edge has a drawn way."""
+
+    drawing: Drawing
+    known: Collection[Departure]
+    is_free: bool
+    counts: tuple[int, ...]
+    pairs: Indices
+
+    @staticmethod
+    def of(drawing: Drawing, solution: Solution, known: Collection[Departure],
+           is_free: bool) -> Things:
+        """The things of a drawing, of which one placement is known. Raises MissingPlace."""
+        edges = Edges(drawing, solution)
+        things: list[Edge | Rim] = [*_outline(edges), *_rims(drawing, solution)]
+        counts = tuple(_count(each.drawn) for each in things)
+        pairs = [places for places in combinations(range(len(things)), 2)
+                 if _may_cross(edges, things[places[0]], things[places[1]], known)]
+        return Things(drawing, known, is_free, counts, np.array(pairs, np.intp).reshape(-1, 2))
+
+    def starts(self) -> Indices:
+        """The place of the first piece of each thing."""
+        return np.cumsum([0, *self.counts[:-1]], dtype=np.intp)
+
+    def placed(self, solution: Solution) -> Placement:
+        """A placement of all. Raises MissingPlace."""
+        edges = Edges(self.drawing, solution)
+        things: list[Edge | Rim] = [*_outline(edges), *_rims(self.drawing, solution)]
+        pieces = np.array([piece for each, count in zip(things, self.counts)
+                           for piece in _pieces(each.placed, count)], float).reshape(-1, 6)
+        turns = (_turn(*each) for each in self._crossing(edges))
+        runs = np.array([*self._runs(edges), *turns], float)
+        return Placement(pieces[:, :4].reshape(-1, 2, 2), pieces[:, 4], pieces[:, 5], runs)
+
+    def _runs(self, edges: Edges) -> Iterator[float]:
+        """How far each edge runs its drawn way."""
+        for shape in () if self.is_free else self.drawing.geometry:
+            if isinstance(shape, Segment):
+                edge = edges.of_shape(shape)
+                drawn = edge.drawn.way
+                yield float(dot(drawn, edge.placed.way)) / (hypot(*drawn) or 1)
+
+    def _straight(self, edges: Edges) -> list[Edge]:
+        """What goes straight from point to point: segments, and the ways of told distances."""
+        told = (each for each in self.drawing.constraints if isinstance(each, Distance))
+        shapes = (each for each in self.drawing.geometry if isinstance(each, Segment))
+        return [*map(edges.of_shape, shapes), *map(edges.of_distance, told)]
+
+    def _crossing(self, edges: Edges) -> Iterator[tuple[Edge, Edge]]:
+        """Each two straight things that locate one point: those that end there, and the lines that
+        it lies on or at a distance from, as the centre of a circle that touches them."""
+        straight, leader = self._straight(edges), self.drawing.meetings.leader
+        lines = {each.name: each for each in (*straight, *AXES)}
+        through: dict[PointRef, dict[str, Edge]] = {}
+        for edge in straight:
+            for end in edges.leaders(edge):
+                through.setdefault(end, {})[edge.name] = edge
+        for each in self.drawing.constraints:
+            for line, point in _lines_by_points(each):
+                if line in lines:
+                    through.setdefault(leader(point), {})[line] = lines[line]
+        for met in through.values():
+            yield from combinations(met.values(), 2)
+
+
+def _lines_by_points(said: Constraint) -> Iterator[tuple[str, PointRef]]:
+    """The names of the lines, or of circles, by which a constraint locates points, and these."""
+    match said:
+        case PointOn(point, curve) | PointLineDistance(point, curve):
+            yield curve.name, point
+        case Tangent(first, second):
+            yield first.name, PointRef(second.name, Which.CENTRE)
+            yield second.name, PointRef(first.name, Which.CENTRE)
+
+
+def _turn(one: Edge, other: Edge) -> float:
+    """How far the end of the shorter of two edges that meet lies aside of the longer one."""
+    longest = max(hypot(*one.placed.way), hypot(*other.placed.way)) or 1
+    return float(cross(one.placed.way, other.placed.way)) / longest
+
+
+def _outline(edges: Edges) -> list[Edge]:
+    return [edges.of_shape(shape) for shape in edges.drawing.geometry
+            if isinstance(shape, Segment) and not shape.construction]
+
+
+def _rims(drawing: Drawing, solution: Solution) -> list[Rim]:
+    return [Rim.of(drawing, solution, shape) for shape in drawing.geometry
+            if isinstance(shape, Circle | Arc) and not shape.construction]
+
+
+def _may_cross(edges: Edges, one: Edge | Rim, other: Edge | Rim,
+               known: Collection[Departure]) -> bool:
+    """Whether two things that come to cross would be a departure: they are drawn apart, and don't
+    end in one point."""
+    if not _ends(edges, one).isdisjoint(_ends(edges, other)):
+        return False
+    names = one.name, other.name
+    if Departure(DepartureKind.CROSSES, names) in known:
+        return False
+    return not _cross(one.drawn, other.drawn)
+
+
+def _ends(edges: Edges, thing: Edge | Rim) -> frozenset[object]:
+    if isinstance(thing, Edge):
+        return frozenset(edges.leaders(thing))
+    if thing.drawn.ends is None:
+        return frozenset()
+    return frozenset(map(edges.drawing.meetings.leader, thing.ends()))
+
+
+def _cross(one: Chord | Round, other: Chord | Round) -> bool:
+    if isinstance(other, Chord):
+        return isinstance(one, Chord) and one.crosses(other)
+    return other.is_cut_by(one) if isinstance(one, Chord) else other.crosses(one)
+
+
+def _count(drawn: Chord | Round) -> int:
+    """Of how many pieces a thing is."""
+    if isinstance(drawn, Chord) or drawn.ends is None:
+        return 1
+    return max(1, ceil(_sweep(drawn)[1] / CHORD_TURN))
+
+
+def _sweep(arc: Round) -> tuple[float, float]:
+    """The direction in which an arc starts, and by how much it turns from there, in radians."""
+    assert arc.ends is not None
+    first, last = (between(arc.centre, end) for end in arc.ends)
+    turn = atan2(float(cross(first, last)), float(dot(first, last)))
+    return atan2(float(first[1]), float(first[0])), turn if turn > 0 else turn + 2 * pi
+
+
+def _pieces(thing: Chord | Round, count: int) -> Iterator[Piece]:
+    """The pieces of a placed thing."""
+    if isinstance(thing, Chord):
+        (left, low), (right, high) = thing.start, thing.end
+        yield float(left), float(low), float(right), float(high), 0.0, 0.0
+        return
+    x, y = map(float, thing.centre)
+    if thing.ends is None:
+        yield x, y, x, y, float(thing.radius), 0.0
+        return
+    start, sweep = _sweep(thing)
+    radius, part = float(thing.radius), sweep / count
+    turns = [start + part * each for each in range(count + 1)]
+    spots = [(x + radius * cos(turn), y + radius * sin(turn)) for turn in turns]
+    for first, last in zip(spots, spots[1:]):
+        yield *first, *last, 0.0, radius * (1 - cos(part / 2))

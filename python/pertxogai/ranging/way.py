@@ -1,0 +1,187 @@
+"""The one way in which a good drawing is told to the program, by which it is asked with other
+numbers."""
+from __future__ import annotations
+
+from collections.abc import Callable
+from dataclasses import dataclass, replace
+from functools import partial
+from typing import TypeVar
+
+from pertxogai.drawing import Drawing, Segment
+from pertxogai.judging import (
+    DrawingRefused, JudgedDrawing, Judgement, Names, Question, Trial, judge_at_once,
+    reasons_against)
+from pertxogai.judging.departures import Departure, warnings
+from pertxogai.judging.edges import Edges
+from pertxogai.judging.faults import failure
+from pertxogai.judging.limits import check_fits
+from pertxogai.judging.measure import Deviation, Limit
+from pertxogai.judging.measure.measuring import measure
+from pertxogai.judging.measure.solution import Solution
+from pertxogai.judging.mirrored import mirrored
+from pertxogai.judging.printed import is_tied
+from pertxogai.judging.settled import settled
+from pertxogai.judging.trials import answered, finer, placed, written_by
+from pertxogai.judging.within import Wider
+from pertxogai.language import NotHeld, Refusal
+from pertxogai.program import Solver
+from pertxogai.program.reports import Fault as ProgramFault, Solved, read_plan
+from pertxogai.ranging.faults import (
+    Fault, FaultKind, of_departures, of_deviation, of_failure, of_gone, of_mirrored, of_reason,
+    of_surplus, of_verdict)
+from pertxogai.ranging.things import Things
+from pertxogai.spelling import READINGS, Reading, Style
+from pertxogai.spelling.reading import interpreted
+
+Found = TypeVar("Found")
+
+
+class NoRange(Exception):
+    """A drawing, or something of it, has no range. The message is one line, and says why."""
+
+
+@dataclass(frozen=True)
+class Way:
+    """A good drawing, where it is placed, what of it lies otherwise than it is drawn, what may come
+    to cross, and how it is told: by which reading and style. reading: None where no single one will
+    do, as where a value was read off a placed part, so that all ways are tried for each number."""
+
+    drawing: Drawing
+    program: Solver
+    limit: Limit
+    solution: Solution
+    known: frozenset[Departure]
+    things: Things
+    style: Style
+    reading: Reading | None
+
+    @staticmethod
+    def of(drawing: Drawing, program: Solver, limit: Limit = Limit(),
+           not_drawn: tuple[str, ...] = ()) -> Way:
+        """The way of a sound drawing. not_drawn: what its file has and it can't say. Raises NoRange
+        where it isn't good, and as `judge_at_once`."""
+        program = Wider(program, limit)
+        judged = judge_at_once(drawing, program, limit=limit)
+        reasons = reasons_against(JudgedDrawing("", drawing, judged, not_drawn, limit=limit))
+        if reasons:
+            raise NoRange(f"it isn't good, so nothing of it has a range: {reasons[0].text}")
+        assert judged.solution is not None
+        known = frozenset(judged.warnings)
+        things = Things.of(drawing, judged.solution, known, _is_free(judged.asked))
+        way = Way(drawing, program, limit, judged.solution, known, things, judged.style,
+                  _reading(judged))
+        return replace(way, reading=None) if isinstance(way.placed(drawing), Fault) else way
+
+    def placed(self, drawing: Drawing) -> Solution | Fault:
+        """Where the drawing with another number lies, or why it isn't as this one is. Raises
+        ProgramError."""
+        if self.reading is None:
+            return self._placed_by_all(drawing)
+        return _unless_refused(partial(self._by_one, drawing, self.reading))
+
+    def found_for(self, drawing: Drawing) -> Way | Fault:
+        """The way in which the drawing with another number is good and as this one is, found as
+        `judge` finds it; or why there is none. Raises ProgramError."""
+        return _unless_refused(partial(self._by_all, drawing))
+
+    def _placed_by_all(self, drawing: Drawing) -> Solution | Fault:
+        found = self.found_for(drawing)
+        return found if isinstance(found, Fault) else found.solution
+
+    def _by_one(self, drawing: Drawing, reading: Reading) -> Solution | Fault:
+        check_fits(drawing)
+        spellings = interpreted(drawing, reading)
+        axes = spellings.axes
+        spelled = spellings.spelled(self.style)
+        names = Names(self.drawing, spelled, axes.facts.refs)
+        if axes.surplus() or axes.conflicts():
+            return self._placed_by_all(drawing)
+        trial = placed(answered(spellings.rails(self.style), spelled, self.program), self.program)
+        if isinstance(trial.solved, Solved):
+            return self._of_places(drawing, trial, trial.solved)
+        if trial.solved is None:
+            return of_verdict(trial.verdict.value)
+        return self._of_failure(names, trial.solved)
+
+    def _of_places(self, drawing: Drawing, trial: Trial, solved: Solved) -> Solution | Fault:
+        """What is told of the places; where something is wrong, also by finer angles."""
+        found = self._of_placed(drawing, trial, solved)
+        if isinstance(found, Solution):
+            return found
+        fine = finer(Question(drawing, self.program, self.limit), trial)
+        if fine is trial or not isinstance(fine.solved, Solved):
+            return found
+        return self._of_placed(drawing, fine, fine.solved)
+
+    def _of_placed(self, drawing: Drawing, trial: Trial, solved: Solved) -> Solution | Fault:
+        found = settled(drawing, trial, solved)
+        off = next(self.limit.beyond(measure(drawing, found.solution)), None)
+        if off is not None:
+            return self._of_deviation(off, found.solution)
+        if found.unsized:
+            return Fault(FaultKind.UNSIZED, f"no size is given for {', '.join(found.unsized)}")
+        departures = [each for each in warnings(drawing, found.solution, _is_free(trial))
+                      if each not in self.known]
+        if departures:
+            return of_departures(departures)
+        turned = next(iter(mirrored(drawing, found.solution)), None)
+        return found.solution if turned is None else of_mirrored(turned)
+
+    def _of_deviation(self, off: Deviation, solution: Solution) -> Fault:
+        """That a constraint isn't met, or that there are edges without a length there."""
+        edges = Edges(self.drawing, solution)
+        gone = [each.name for each in self.drawing.geometry
+                if isinstance(each, Segment) and not any(edges.of_shape(each).placed.way)]
+        return of_gone(gone) if gone else of_deviation(off, off.called(self.drawing))
+
+    def _of_failure(self, names: Names, fault: ProgramFault) -> Fault:
+        plan = read_plan(written_by(self.program, "plan", names.spelled.sketch.text()))
+        return of_failure(failure(names, fault, plan))
+
+    def _by_all(self, drawing: Drawing) -> Way | Fault:
+        """By whichever way is well and placed."""
+        judged = judge_at_once(drawing, self.program, limit=self.limit)
+        if judged.failure is not None:
+            return of_failure(judged.failure)
+        if judged.surplus:
+            return of_surplus([self.drawing.called(each.number) for each in judged.surplus])
+        if judged.solution is None:
+            return of_verdict(judged.verdict.value)
+        departures = [each for each in judged.warnings if each not in self.known]
+        if departures:
+            return of_departures(departures)
+        reasons = reasons_against(JudgedDrawing("", drawing, judged, limit=self.limit))
+        if reasons:
+            off = reasons[0].off
+            return self._of_deviation(off, judged.solution) if off else of_reason(reasons[0])
+        return replace(self, solution=judged.solution, style=judged.style,
+                       reading=_reading(judged))
+
+
+def _unless_refused(act: Callable[[], Found | Fault]) -> Found | Fault:
+    """What is found, or why the drawing, or what is told of it, is refused."""
+    try:
+        return act()
+    except DrawingRefused as refused:
+        return Fault(FaultKind.UNSOUND, str(refused))
+    except NotHeld as refused:
+        return Fault(FaultKind.UNSOUND, f"a sum of dimensions goes too far: {refused}")
+    except Refusal as refused:
+        return Fault(FaultKind.LIMIT, f"the program takes no such sketch ({refused})")
+
+
+def _is_free(trial: Trial) -> bool:
+    """Whether nothing ties a drawing to the datum's directions."""
+    return not is_tied(trial.axes, trial.spelled)
+
+
+def _reading(judged: Judgement) -> Reading | None:
+    """The reading by which a drawing is well."""
+    asked = judged.asked
+    if asked.grown or asked.frozen:
+        return None
+    for reading in READINGS:
+        axes = interpreted(judged.names.drawing, reading).axes
+        if axes.facts == asked.axes.facts and axes.equations == asked.axes.equations:
+            return reading
+    return None
