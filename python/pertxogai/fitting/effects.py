@@ -147,7 +147,7 @@ def _moves(one: _One, offs: Iterable[Fraction], base: Reading) -> bool:
 def _reading_near(one: _One, where: Fraction, width: Fraction) -> Reading:
     """What is measured there, or by a little beside it: where two bars lie in one line, a drawing
     may have no places. Raises Unplaced where it has none beside it either."""
-    for beside in (0, width * BESIDE, -width * BESIDE):
+    for beside in (Fraction(0), width * BESIDE, -width * BESIDE):
         try:
             return one.reading(where + beside)
         except Unplaced as fault:

@@ -31,8 +31,9 @@ class Unplaced(Exception):
 @dataclass(frozen=True)
 class Case:
     """A drawing as it is placed. values: what each check measures, in millionths of a millimetre or
-    a degree, the lesser end of two segments; highs: the same by the greater end. ways: the way of each check that measures the distance of two points; None of each
-    other. off_nm: how far that constraint is off which is off most."""
+    a degree, the lesser end of two segments; highs: the same by the greater end. ways: the way of
+    each check that measures the distance of two points; None of each other. off_nm: how far that
+    constraint is off which is off most."""
 
     values: tuple[int, ...]
     highs: tuple[int, ...]

@@ -79,8 +79,9 @@ def check_lines(drawing: Drawing, found: CheckedFit | UnknownFit) -> Iterator[st
         why = "the check isn't monotone" if found.worst.turning else "the segments tilt"
         yield f"root sum square  not told, since {why}"
     if found.worst.turning:
-        yield (f"at worst not monotone in {_named(drawing, found.turning_numbers)}; by numbers, from "
-               f"the single effects: {_range(found.reckoned, unit)}")
+        named = _named(drawing, found.turning_numbers)
+        yield (f"at worst not monotone in {named}; by numbers, from the single effects: "
+               f"{_range(found.reckoned, unit)}")
     if not found.shares:
         yield "no dimension moves it alone"
 
@@ -103,8 +104,8 @@ def _lines_of_all(found: Fit) -> Iterator[str]:
     if len(found.unplaced) > MOST_NAMED:
         yield f"  and {len(found.unplaced) - MOST_NAMED} more such cases"
     if found.loose_nm:
-        yield (f"  the constraints are met within {found.loose_nm} nm in these cases, and no check is"
-               " more exact")
+        yield (f"  the constraints are met within {found.loose_nm} nm in these cases, and no check"
+               " is more exact")
     if found.idle:
         words = [f"{words_of_dimension(found.drawing, each)}{_general(each)}"
                  for each in found.idle]
