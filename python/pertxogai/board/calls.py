@@ -9,6 +9,7 @@ from typing import cast
 
 from pertxogai.board import protocol
 from pertxogai.board.board_drawing import BoardDrawing, NotPlaced
+from pertxogai.board.checks import checks_shown
 from pertxogai.board.dragging import Drags
 from pertxogai.board.document import read_document, write_document
 from pertxogai.board.drawing_json import sight_of
@@ -24,13 +25,14 @@ from pertxogai.board.overlap import Overlapping
 from pertxogai.board.panel import Asides, Untold, lines_shown
 from pertxogai.board.proposals import proposals_shown
 from pertxogai.board.protocol import (
-    Answer, ChangedDrawing, Completed, Dragged, Dxf, Edited, Judged, Offered, Opened, OtherShape,
-    Planned, Svg, Trouble, Verified, Weighed)
+    Answer, ChangedDrawing, Completed, Dragged, Dxf, Edited, Fitted, Judged, Offered, Opened,
+    OtherShape, Planned, Svg, Trouble, Verified, Weighed)
 from pertxogai.completing import complete
 from pertxogai.drawing import Drawing, DrawingRefusal, DrawingUnsound, Place, WordFault, checked
 from pertxogai.files.contents import FileRefusal
 from pertxogai.exits import MissingLibrary
 from pertxogai.files.kinds import InputRefused
+from pertxogai.fitting import fit
 from pertxogai.judging import CountedDrawing, DrawingRefused, with_counts
 from pertxogai.judging.edited import EditedDrawing
 from pertxogai.judging.good import reasons_against
@@ -204,6 +206,13 @@ def _complete(desk: Desk, given: Fields) -> Completed:
     return proposals_shown(judged.drawing, found, judged.shown())
 
 
+def _fit(desk: Desk, given: Fields) -> Fitted:
+    """What comes of the checks of a drawing."""
+    judged = desk.judged(given.text("text"))
+    found = fit(judged.drawing, desk.attending, judged.judgement.limit)
+    return checks_shown(judged.drawing, found, judged.shown())
+
+
 def _plan(desk: Desk, given: Fields) -> Planned:
     """The construction, step by step."""
     return {"construction": desk.judged(given.text("text")).construction().shown()}
@@ -300,6 +309,6 @@ def _open(desk: Desk, given: Fields) -> Opened:
 
 CALLS: Mapping[str, Callable[[Desk, Fields], Answer]] = {
     "judge": _judge, "edit": _edit, "drag": _drag, "offers": _offers, "weigh": _weigh,
-    "complete": _complete, "plan": _plan, "flips": _flips, "redraw": _redraw, "verify": _verify,
-    "dxf": _dxf, "svg": _svg, "program-dxf": _program_dxf, "open": _open,
+    "complete": _complete, "fit": _fit, "plan": _plan, "flips": _flips, "redraw": _redraw,
+    "verify": _verify, "dxf": _dxf, "svg": _svg, "program-dxf": _program_dxf, "open": _open,
 }

@@ -615,6 +615,43 @@ class Completed(Answer, total=False):
     why: str
 
 
+CheckAnswer = Literal["fits", "unsure", "beyond"]
+
+
+class Contribution(TypedDict):
+    """What a dimension, by the number of its constraint, gives to a check: how much to either side,
+    and how many percent of what all give."""
+
+    number: int
+    words: str
+    gives: str
+    percent: float
+
+
+class Checked(TypedDict):
+    """What comes of a check, by its place, from 1: whether it fits, with a sign that tells that
+    without colours; its worst case; what is told of it, in lines; which dimension gives how much,
+    the greatest first; its marks."""
+
+    number: int
+    name: str
+    words: str
+    answer: CheckAnswer
+    sign: str
+    worst: str
+    lines: list[str]
+    gives: list[Contribution]
+    marks: list[Mark]
+
+
+class Fitted(Answer, total=False):
+    """What comes of the checks of a drawing. why: why nothing is known, or which cases have no
+    places."""
+
+    checks: list[Checked]
+    why: list[str]
+
+
 class ElementJson(TypedDict):
     """An element of the construction: a point at a place, or a line through one, a way."""
 
@@ -751,6 +788,7 @@ CALLS: Mapping[str, tuple[type, type]] = {
     "offers": (AboutNames, Offered),
     "weigh": (About, Weighed),
     "complete": (About, Completed),
+    "fit": (About, Fitted),
     "plan": (About, Planned),
     "flips": (AboutSteps, OtherShape),
     "redraw": (AboutSteps, Edited),

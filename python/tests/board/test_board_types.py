@@ -102,7 +102,7 @@ def test_answers_are_of_their_types(path: Path, program: Program) -> None:
         "judge": {}, "edit": {"edit": edit, "knows": True},
         "drag": {"drag": "a", "names": [name], "begin": {"x": 0, "y": 0}, "x": 1, "y": 1,
                  "begins": True, "turns": False}, "offers": {"names": [name]},
-        "weigh": {}, "complete": {}, "plan": {}, "flips": {"steps": [1]}, "redraw": {"steps": []}, "verify": {},
+        "weigh": {}, "complete": {}, "fit": {}, "plan": {}, "flips": {"steps": [1]}, "redraw": {"steps": []}, "verify": {},
         "svg": {"name": path.stem}, "program-dxf": {}}
     for call, more in given.items():
         gives = protocol.CALLS[call][1]

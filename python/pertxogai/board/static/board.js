@@ -2,7 +2,7 @@
 /** The board: the drawing as SVG, faint as drawn beneath what is placed, with its marks. */
 import { svg, nodeOf } from './nodes.js';
 import { View } from './view.js';
-import { Marks, markMade, proposedMade, toldPlaces } from './marks.js';
+import { Marks, markMade, proposedMade, checkMade, toldPlaces } from './marks.js';
 import { Layer } from './layer.js';
 import { Shown } from './shown.js';
 import { awayFrom, kindOf, pathOf, shapeMade, pointMade, stillMade, moveMade, middleOf, line, ring }
@@ -17,8 +17,8 @@ import { awayFrom, kindOf, pathOf, shapeMade, pointMade, stillMade, moveMade, mi
 /** @typedef {import('./protocol').Mark} Mark */
 /** @typedef {import('./protocol').Shape} Shape */
 
-const LAYERS = ['grid', 'drawn', 'edges', 'other', 'proposed', 'marks', 'dots', 'moves', 'names',
-  'joints', 'faults'];
+const LAYERS = ['grid', 'drawn', 'edges', 'other', 'proposed', 'checks', 'marks', 'dots', 'moves',
+  'names', 'joints', 'faults'];
 /** Pixels within which a click is one on the edge itself. */
 const NEAR = 3.5;
 /** Pixels within which an edge is the one that is meant, where no sign lies on it. */
@@ -75,6 +75,11 @@ export class Board {
    * @type {PlacedMark[]}
    */
   proposedAt = [];
+  /**
+   * What must fit, and the number of that which is open.
+   * @type {{ checks: import('./protocol').Checked[], open: number }}
+   */
+  checks = { checks: [], open: 0 };
   /**
    * Where its upper left corner lay on the page.
    * @type {Place | null}
@@ -150,6 +155,7 @@ export class Board {
       edges: isStill ? null : shapes.map((shape) => this.edge(shape)),
       other: this.other ? stillMade(shapes, this.other, plane) : [],
       proposed: this.proposedMarks(marks),
+      checks: this.checkMarks(marks),
       marks: this.marks(marks, judgement),
       dots: isStill ? null : this.overlay ? [] : this.dots(shapes),
       moves: this.moves(judgement),
@@ -402,6 +408,31 @@ export class Board {
     places.all(drags ? [] : marks);
     this.proposedAt = places.all(overlay || drags ? [] : proposed);
     return this.proposedAt.map(proposedMade);
+  }
+
+  /**
+   * Shows what must fit, beside the marks of what is asked.
+   * @param {import('./protocol').Checked[]} checks
+   * @param {number} open
+   */
+  check(checks, open) {
+    this.checks = { checks, open };
+    this.draw();
+  }
+
+  /**
+   * The marks of what must fit, where no others stand, no step is shown, and nothing is dragged.
+   * Null where all are shown so already.
+   * @param {Mark[]} marks
+   */
+  checkMarks(marks) {
+    const { plane: { scale, x, y }, checks: { checks, open }, overlay, drags } = this;
+    if (this.isSame('checks', [scale, x, y, drags || marks, checks, open, overlay])) return null;
+    const places = new Marks(this.plane);
+    places.all(drags ? [] : marks);
+    const shown = overlay || drags ? [] : checks.flatMap((each) => each.marks);
+    return places.all(shown).map((mark, key) => checkMade(
+      mark, key, checks[mark.number - 1], mark.number === open));
   }
 
   /**

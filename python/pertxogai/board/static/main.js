@@ -12,6 +12,7 @@ import { Hand, isTool } from './tools.js';
 import { Offers } from './offers.js';
 import { Verdict } from './verdict.js';
 import { Proposals } from './proposals.js';
+import { Checks } from './checks.js';
 import { Texts } from './texts.js';
 import { Asked } from './asked.js';
 import { Steps } from './steps.js';
@@ -58,6 +59,7 @@ export class Page {
       }
     });
     this.proposals = new Proposals(paper, this.board);
+    this.checks = new Checks(paper, this.board);
     this.texts = new Texts(paper);
     this.asked = new Asked(paper, selection, this.offers);
     this.steps = new Steps(paper, this.board);

@@ -383,6 +383,23 @@ export function proposedMade({ number, sign, path, text, line, at: [x, y] }, key
 }
 
 /**
+ * A placed mark of what must fit: a button, with what is told of it where a hand rests on it.
+ * @param {PlacedMark} mark
+ * @param {number} key
+ * @param {import('./protocol').Checked} checked
+ * @param {boolean} isOpen
+ * @returns {import('./page').Keyed}
+ */
+export function checkMade({ number, path, text, at: [x, y], isOpen: open }, key, checked, isOpen) {
+  const { name, words, answer, lines } = checked;
+  return [key, 'g', { class: `checkmark ${answer}`, 'data-check': number, role: 'button',
+    tabindex: 0, 'aria-expanded': isOpen, 'aria-label': `check ${name}: ${lines.join('; ')}` },
+  ['title', {}, `${name}: ${words}\n${lines.join('\n')}`],
+  path && ['path', { class: open ? 'mark open' : 'mark', d: path }],
+  ['text', { x, y, class: 'value' }, text]];
+}
+
+/**
  * The box of two places, with so much around: left, right, low, high.
  * @param {Place} one
  * @param {Place} other

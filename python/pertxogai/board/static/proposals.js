@@ -4,8 +4,8 @@
  * list.
  */
 import { html, byId } from './nodes.js';
+import { Behind } from './behind.js';
 import { Layer } from './layer.js';
-import { Stopped } from './calls.js';
 import { typed } from './dialogs.js';
 
 /** @typedef {import('./protocol').Judged} Judged */
@@ -15,8 +15,6 @@ import { typed } from './dialogs.js';
  * @typedef {{ text: string | null, proposals: Proposed[], why: string }} Found
  */
 
-/** Milliseconds without a change after which it is asked what is missing. */
-const REST = 300;
 /** @type {Found} */
 const NONE = { text: null, proposals: [], why: '' };
 
@@ -25,13 +23,6 @@ export class Proposals {
   found = NONE;
   node = byId('proposed');
   layer = new Layer(byId('proposals'), html);
-  /**
-   * What waits until nothing has changed for a while.
-   * @type {number | undefined}
-   */
-  timer = undefined;
-  /** What is asked, one after the other. */
-  asked = Promise.resolve();
 
   /**
    * @param {import('./paper.js').Paper} paper
@@ -40,6 +31,10 @@ export class Proposals {
   constructor(paper, board) {
     this.paper = paper;
     this.board = board;
+    const ask = (/** @type {string} */ text) => paper.about('complete', { text });
+    this.behind = new Behind(paper, ask, (text, { proposals, why }) => {
+      if (proposals) this.show({ text, proposals, why: why ?? '' });
+    });
     paper.when('answer', (answer) => this.later(answer));
     paper.when('begin', () => this.show(NONE));
     board.node.addEventListener('proposed', (event) => {
@@ -59,30 +54,7 @@ export class Proposals {
     const { text, live } = this.paper;
     const isKnown = this.found.text === text;
     if (!isKnown || live) this.show(NONE);
-    clearTimeout(this.timer);
-    if (lacks(judgement) && !refused && !live && !isKnown) {
-      this.timer = window.setTimeout(() => this.askBehind(text), REST);
-    }
-  }
-
-  /**
-   * Asks once the answer before has come, so that there is room for all else.
-   * @param {string} text
-   */
-  askBehind(text) {
-    const ask = () => this.ask(text);
-    this.asked = this.asked.then(ask, ask);
-  }
-
-  /**
-   * Asks what completes a text, and shows it, while that stands.
-   * @param {string} text
-   */
-  async ask(text) {
-    const stands = () => this.paper.text === text && !this.paper.live;
-    const found = stands() ? await this.paper.about('complete', { text }).catch(ended) : null;
-    if (!found?.proposals || !stands()) return;
-    this.show({ text, proposals: found.proposals, why: found.why ?? '' });
+    this.behind.later(lacks(judgement) && !refused && !live && !isKnown ? text : null);
   }
 
   /**
@@ -158,14 +130,4 @@ function row({ number, line, fixes, ties }) {
   const title = `fixes ${fixes.join(', ')}; click adds it, Enter asks for another value`;
   return [number, 'li', { class: ties ? 'ties' : '' },
     ['button', { 'data-proposed': number, title }, line]];
-}
-
-/**
- * Passes over that the server is stopped, which the page tells by itself.
- * @param {unknown} error
- * @returns {null}
- */
-function ended(error) {
-  if (!(error instanceof Stopped)) throw error;
-  return null;
 }

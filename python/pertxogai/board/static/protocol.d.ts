@@ -591,6 +591,46 @@ export interface Completed {
   why?: string;
 }
 
+/**
+ * What a dimension, by the number of its constraint, gives to a check: how much to either side,
+ * and how many percent of what all give.
+ */
+export interface Contribution {
+  number: number;
+  words: string;
+  gives: string;
+  percent: number;
+}
+
+/**
+ * What comes of a check, by its place, from 1: whether it fits, with a sign that tells that
+ * without colours; its worst case; what is told of it, in lines; which dimension gives how much,
+ * the greatest first; its marks.
+ */
+export interface Checked {
+  number: number;
+  name: string;
+  words: string;
+  answer: 'fits' | 'unsure' | 'beyond';
+  sign: string;
+  worst: string;
+  lines: string[];
+  gives: Contribution[];
+  marks: Mark[];
+}
+
+/**
+ * What comes of the checks of a drawing. why: why nothing is known, or which cases have no
+ * places.
+ */
+export interface Fitted {
+  trouble?: Trouble;
+  refused?: Refused;
+  ms?: number;
+  checks?: Checked[];
+  why?: string[];
+}
+
 /** An element of the construction: a point at a place, or a line through one, a way. */
 export interface ElementJson {
   called: string;
@@ -758,6 +798,7 @@ export interface Calls {
   'offers': { given: AboutNames; gives: Offered };
   'weigh': { given: About; gives: Weighed };
   'complete': { given: About; gives: Completed };
+  'fit': { given: About; gives: Fitted };
   'plan': { given: About; gives: Planned };
   'flips': { given: AboutSteps; gives: OtherShape };
   'redraw': { given: AboutSteps; gives: Edited };
