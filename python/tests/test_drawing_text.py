@@ -187,7 +187,7 @@ REFUSED = [
     ("fly Bottom", "fly", "write one of point, segment, circle"),
     ("drawing 1", "drawing", "only its first line"),
     ("end", "end", "leave it out"),
-    ("tan Bottom Hole", "tan", "begins a line"),
+    ("tan Bottom Hole", "tan", "begins no line"),
     ("point C 0", "0", "a number for y is missing behind it"),
     ("point C", "C", "a number for x is missing behind it"),
     ("point", "point", "a name is missing behind it"),
