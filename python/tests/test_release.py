@@ -221,6 +221,18 @@ def test_each_file_is_in_one_package(dist: Path) -> None:
         f"{library}.a", f"{library}.so", f"{library}.so.1"}
 
 
+def test_the_development_package_has_the_link_that_the_linker_follows(dist: Path, tmp_path: Path) -> None:
+    """With the two packages of the library alone a program is linked to the shared one."""
+    for name in ("libpertxogai-sketch1", "libpertxogai-sketch-dev"):
+        done("dpkg-deb", "-x", dist / f"{name}_{__version__}_amd64.deb", tmp_path)
+    folder = tmp_path / "usr/lib/x86_64-linux-gnu"
+    assert os.readlink(folder / "libsketch.so") == "libsketch.so.1"
+    assert "libsketch" not in done("dpkg-deb", "-c", dist / f"pertxogai_{__version__}_amd64.deb")
+    built = tmp_path / "places"
+    done("cc", TOP / "c/examples/places.c", "-I", tmp_path / "usr/include", "-L", folder, "-lsketch", "-o", built)
+    assert "NEEDED               libsketch.so.1\n" in done("objdump", "-p", built)
+
+
 def test_the_library_says_its_interface(installed: Path) -> None:
     header = (installed / "usr/include/sketch.h").read_text()
     assert f'#define SKETCH_VERSION "{__version__}"\n' in header

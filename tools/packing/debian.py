@@ -94,8 +94,9 @@ MAIN = Package(
     "Depends: libc6 (>= {c}), python3 (>= 3.11)\n"
     "Recommends: python3-ezdxf, python3-flask, python3-numpy, python3-scipy\n"
     "Suggests: libpertxogai-sketch1\nConflicts: sketch", (f"{USR}/*",))
-BY_NEED = (RUNTIME, DEVELOPMENT, MAIN)
-"""The packages, each of which takes what those before it have left."""
+BY_NEED = (DEVELOPMENT, RUNTIME, MAIN)
+"""The packages, each of which takes what those before it have left: the link libsketch.so before the file that it leads
+to, since a pattern doesn't match a link that leads nowhere."""
 
 
 def c_library(*built: Path) -> str:
