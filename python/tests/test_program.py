@@ -336,3 +336,16 @@ def test_a_library_that_is_none(monkeypatch, tmp_path) -> None:
         Library.find()
     monkeypatch.setenv("PERTXOGAI_SKETCH", script(tmp_path, "echo"))
     assert isinstance(quickest(), Program)
+
+
+@pytest.mark.parametrize("folder, advice", [
+    ("clone/crates", "build it by ./sketch prove"), ("lib/crates", "install the Debian package pertxogai")])
+def test_what_to_do_without_a_program_fits_where_the_package_lies(
+        folder: str, advice: str, tmp_path: Path, monkeypatch: pytest.MonkeyPatch) -> None:
+    """In a clone it is built; a wheel or a Debian package has nothing to build."""
+    (tmp_path / "clone/crates").mkdir(parents=True)
+    monkeypatch.delenv("PERTXOGAI_SKETCH", raising=False)
+    monkeypatch.setenv("PATH", str(tmp_path))
+    monkeypatch.setattr("pertxogai.program.running.BUILD", tmp_path / folder / "sketch/out/sketch")
+    with pytest.raises(MissingProgram, match=advice):
+        Program.find()

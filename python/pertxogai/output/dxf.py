@@ -27,7 +27,7 @@ def dxf_text(marks: Iterable[Mark], release: Release = Release.R2010) -> str:
     except ImportError:
         raise MissingLibrary(
             "ezdxf is missing, which writes DXF: apt-get install python3-ezdxf, and run it by"
-            " /usr/bin/python3"
+            " /usr/bin/python3; or pip install ezdxf"
         ) from None
     document = new(release.value, setup=["linetypes"])
     document.units = MILLIMETRES

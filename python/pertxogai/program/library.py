@@ -37,10 +37,10 @@ class Library:
         if not named:
             named = str(BUILD) if BUILD.is_file() else ctypes.util.find_library("sketch")
         if named is None:
+            here = (f"{BUILD} isn't built; build it by c/build" if BUILD.parents[1].is_dir()
+                    else "install the Debian package libpertxogai-sketch1")
             raise MissingProgram(
-                f"no library: {BUILD} isn't built; build it by c/build, name one by {VARIABLE}, or"
-                " use the program"
-            )
+                f"no library: {here}, name one by {VARIABLE}, or use the program")
         try:
             call = ctypes.CDLL(named).sketch_answer
         except (OSError, AttributeError) as error:

@@ -83,10 +83,7 @@ class Program:
             named = str(BUILD)
         found = shutil.which(named or "sketch")
         if found is None and named is None:
-            raise MissingProgram(
-                f"no program: {BUILD} isn't built and `sketch` isn't on the path; build it by"
-                f" ./sketch prove, or name one by {VARIABLE}"
-            )
+            raise MissingProgram(f"no program: {_where_to_get_it()}, or name one by {VARIABLE}")
         if found is None:
             raise MissingProgram(
                 f"{named} is no program that can be run: look at its name and its rights"
@@ -109,6 +106,14 @@ class Program:
                 f"{self.path} {' '.join(words)} {ended.how()}: it isn't the program `sketch`, or"
                 f" ran into a limit ({self.memory_mib} MiB)"
             ) from None
+
+
+def _where_to_get_it() -> str:
+    """What to do where there is no program: in a clone of the repository, and elsewhere."""
+    if BUILD.parents[2].is_dir():
+        return f"{BUILD} isn't built and `sketch` isn't on the path; build it by ./sketch prove"
+    return ("`sketch` isn't on the path; install the Debian package pertxogai or the tarball of a"
+            " release")
 
 
 def _memory_mib() -> int | None:

@@ -49,6 +49,8 @@ def check_libraries() -> None:
     """Raises MissingLibrary where numpy or scipy is missing."""
     missing = [name for name in ("numpy", "scipy") if find_spec(name) is None]
     if missing:
+        are = "are" if len(missing) > 1 else "is"
         raise MissingLibrary(
-            f"{' and '.join(missing)} is missing, by which the search reckons: apt-get install "
-            f"{' '.join(f'python3-{name}' for name in missing)}, and run it by /usr/bin/python3")
+            f"{' and '.join(missing)} {are} missing, which the search needs: apt-get install "
+            f"{' '.join(f'python3-{name}' for name in missing)}, and run it by /usr/bin/python3; "
+            f"or pip install {' '.join(missing)}")
