@@ -191,3 +191,33 @@ def test_an_outline_that_begins_on_the_edge_of_another_is_on_no_side_of_it(progr
             "length BRight 20\ny BBottom.start 5\n")
     told = [each.text() for each in judge(read_drawing(text), program).warnings]
     assert not any("other side" in each for each in told)
+
+
+ECCENTRIC = """circle Disc 0 0 20
+circle Bore 1 0 6
+coincident Disc Origin
+on Bore XAxis
+radius Disc 20
+radius Bore 6
+x Bore {x}
+"""
+FLANGE = """circle Disc 0 0 20
+rectangle Key -2 -2 2 2
+coincident Disc Origin
+radius Disc 20
+length KeyBottom 4
+length KeyRight 4
+x KeyBottom.start {x}
+y KeyBottom.start -2
+"""
+
+
+@pytest.mark.parametrize(("text", "x", "told"), [
+    # The centre of Disc lies in what Disc goes round, or doesn't: Disc never lies in it.
+    (ECCENTRIC, "3", []), (ECCENTRIC, "10", []),
+    (ECCENTRIC, "40", ["Bore is drawn on the other side of the outline, at Disc"]),
+    (FLANGE, "-1", []), (FLANGE, "+5", []), (FLANGE, "-9", []),
+    (FLANGE, "+40", ["KeyBottom is drawn on the other side of the outline, at Disc"])])
+def test_a_circle_that_goes_round_something_does_not_lie_in_it(program, text, x, told):
+    found = judge(read_drawing(text.format(x=x)), program)
+    assert [each.text() for each in found.warnings] == told

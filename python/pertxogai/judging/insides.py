@@ -3,6 +3,7 @@ from __future__ import annotations
 
 from collections.abc import Iterator, Sequence
 from dataclasses import dataclass
+from itertools import permutations
 
 from pertxogai.classes import Classes
 from pertxogai.drawing import PointRef
@@ -19,11 +20,36 @@ class Loop:
     edges: tuple[Edge, ...]
     rims: tuple[Rim, ...]
 
-    def places(self) -> tuple[Vector, Vector]:
-        """A place of it, drawn and placed: the centre of a circle, the start of an edge."""
-        if not self.edges:
-            return self.rims[0].drawn.centre, self.rims[0].placed.centre
-        return self.edges[0].drawn.start, self.edges[0].placed.start
+    def place(self, is_placed: bool) -> Vector:
+        """The centre of a circle, the first end of an outline, as it is drawn or placed."""
+        circle = self._circle(is_placed)
+        return self._end(is_placed) if circle is None else circle.centre
+
+    def lies_within(self, other: Loop, is_placed: bool) -> bool:
+        """Whether it lies within another that it doesn't cross, as both are drawn or placed."""
+        return (other.has(self.place(is_placed), is_placed)
+                and not self._goes_round(other, is_placed))
+
+    def is_unsure(self, other: Loop, is_placed: bool) -> bool:
+        """Whether that isn't known, since a place by which it is known lies on an outline."""
+        if other.is_on(self.place(is_placed), is_placed):
+            return True
+        return other._circle(is_placed) is None and self.is_on(other._end(is_placed), is_placed)
+
+    def _goes_round(self, other: Loop, is_placed: bool) -> bool:
+        """Whether it is a circle round another, whose centre so may lie within that."""
+        mine, its = self._circle(is_placed), other._circle(is_placed)
+        if mine is None or its is not None:
+            return mine is not None and its is not None and its.radius <= mine.radius
+        return square(between(mine.centre, other._end(is_placed))) < mine.radius ** 2
+
+    def _circle(self, is_placed: bool) -> Round | None:
+        return next((each for each in self._rims(is_placed) if each.ends is None), None)
+
+    def _end(self, is_placed: bool) -> Vector:
+        """Where the first edge or arc of an outline begins."""
+        arcs = (each.ends for each in self._rims(is_placed) if each.ends is not None)
+        return next(start for start, _ in (*self._ways(is_placed), *arcs))
 
     def has(self, spot: Vector, is_placed: bool) -> bool:
         """Whether a place lies within it, as it is drawn or placed."""
@@ -50,12 +76,10 @@ def leavers(edges: Edges, outline: Sequence[Edge],
     """Each circle or closed outline that lies on the other side of another outline than it is
     drawn, and the name of that one's first edge. What lies on that one is on no side of it."""
     loops = [*_loops(edges, outline, rims)]
-    for thing in loops:
-        drawn, placed = thing.places()
-        for loop in loops:
-            if loop is not thing and loop.has(drawn, False) is not loop.has(placed, True):
-                if not loop.is_on(drawn, False) and not loop.is_on(placed, True):
-                    yield thing.name, loop.name
+    for thing, loop in permutations(loops, 2):
+        if thing.lies_within(loop, False) is not thing.lies_within(loop, True):
+            if not any(thing.is_unsure(loop, each) for each in (False, True)):
+                yield thing.name, loop.name
 
 
 def _loops(edges: Edges, outline: Sequence[Edge], rims: Sequence[Rim]) -> Iterator[Loop]:
