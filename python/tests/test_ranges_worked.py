@@ -196,6 +196,14 @@ distance C S 10
 distance C T 10
 radius C 1
 """
+ECCENTRIC = """circle Disc 0 0 20
+circle Bore 3 0 6
+coincident Disc Origin
+on Bore XAxis
+radius Disc 20
+Size: radius Bore 6
+Off: x Bore 3
+"""
 STEM = "value V 45\nsegment S Origin 40 0\nhorizontal S\nlength S "
 ARM = """segment S Origin 40 0
 segment T Origin -20 20
@@ -260,6 +268,9 @@ def range_of(text: str, name: str) -> Range:
     (LEVER, "Begin", "0.001", "19.999"),
     # At 30 the two edges are parallel, and no place is 10 from both.
     (BESIDE_TWO, "Up", "30.001", "1000000"),
+    # The bore stays within the disc, whose centre may lie in it or not.
+    (ECCENTRIC, "Size", "0.001", "17.001"),
+    (ECCENTRIC, "Off", "0", "14.001"),
     # 1000/0.001 is the greatest length, 1000/1000000 the least.
     (STEM + "1000/(V-20)\n", "V", "20.001", "1000020"),
     # sqrt(30*30 - 900) is no length, and sqrt(1000000*1000000 - 900) is less than the greatest.
