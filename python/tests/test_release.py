@@ -233,6 +233,13 @@ def test_the_development_package_has_the_link_that_the_linker_follows(dist: Path
     assert "NEEDED               libsketch.so.1\n" in done("objdump", "-p", built)
 
 
+@pytest.mark.parametrize("name", ["LICENSE-APACHE", "LICENSE-MIT"])
+def test_the_add_on_has_the_repository_s_licences(name: str) -> None:
+    """As files of its own: the kit takes no links in a repository."""
+    copied = TOP / "freecad" / name
+    assert not copied.is_symlink() and copied.read_bytes() == (TOP / name).read_bytes()
+
+
 def test_the_library_says_its_interface(installed: Path) -> None:
     header = (installed / "usr/include/sketch.h").read_text()
     assert f'#define SKETCH_VERSION "{__version__}"\n' in header
