@@ -64,6 +64,12 @@ def test_a_file_that_is_replaced_is_waited_for(tmp_path: Path) -> None:
     assert counted(path, script) == [1, 5]
 
 
+def heeding() -> None:
+    """Ctrl+C ends the process also where the tests were started in the background, by a shell that
+    has them pass over it."""
+    signal.signal(signal.SIGINT, signal.SIG_DFL)
+
+
 @contextmanager
 def watched(path: Path, program: Program) -> Iterator[subprocess.Popen[str]]:
     """A running `./pertxogai watch`."""
@@ -71,7 +77,7 @@ def watched(path: Path, program: Program) -> Iterator[subprocess.Popen[str]]:
                    "PERTXOGAI_SKETCH": program.path}
     words = [sys.executable, "-m", "pertxogai", "watch", str(path), "--no-search"]
     with subprocess.Popen(words, stdout=subprocess.PIPE, stderr=subprocess.PIPE, text=True,
-                          env=environment) as process:
+                          env=environment, preexec_fn=heeding) as process:
         try:
             yield process
         finally:
