@@ -22,7 +22,7 @@ from pertxogai.commands import main
 
 sys.exit(main())
 """
-MAINTAINER = "The Pertxogai authors (write to the issue page of the repository)"
+MAINTAINER = "The Pertxogai authors (write to the place where you got this package)"
 CONTROL = """Package: {name}
 Version: {version}
 Architecture: amd64
@@ -39,7 +39,9 @@ License: MIT OR Apache-2.0
 You may choose either. The text of Apache-2.0 is in /usr/share/common-licenses/Apache-2.0, that of MIT is:
 
 {mit}
-What follows is about code of others.
+This is the licence of the sources. What is built of them also contains code of others. For one part of that, the
+standard library of the Rattle kit, no licence is known: ask before you pass the package on, or ship a product that is
+linked with the library.
 
 {licences}
 The package pertxogai has the texts in /usr/share/doc/pertxogai/licences; those of the LGPL 2.1 and of the GPL 3
