@@ -155,6 +155,8 @@ def test_the_installed_command_judges(installed: Path, tmp_path: Path) -> None:
     asked = "from pertxogai.program import Program; print(Program.find().path)"
     found = done(PYTHON, "-c", asked, env=here)
     assert found.strip() == str(installed / "usr/bin/sketch")
+    told = run("pertxogai", "complete", "triangle.sketch", env=here, cwd=tmp_path).stderr
+    assert told.endswith("a sketch of the language is completed by sketch complete\n")
 
 
 def test_the_installed_checkers_read_a_claim(installed: Path, tmp_path: Path) -> None:

@@ -6,13 +6,15 @@ import secrets
 from dataclasses import dataclass, field
 from enum import Enum
 
+from pertxogai.called import COMMAND
+
 
 class Ground(Enum):
     """Why a request is turned away; the value is told, and says what to do."""
 
-    HOST = "the Host isn't this board's: open the address that ./pertxogai page printed"
-    ORIGIN = "the request comes from another page: open the address that ./pertxogai page printed"
-    TOKEN = "the token of the address is wrong: open the address that ./pertxogai page printed"
+    HOST = f"the Host isn't this board's: open the address that {COMMAND} page printed"
+    ORIGIN = f"the request comes from another page: open the address that {COMMAND} page printed"
+    TOKEN = f"the token of the address is wrong: open the address that {COMMAND} page printed"
 
 
 @dataclass(frozen=True)

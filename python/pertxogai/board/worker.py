@@ -18,6 +18,7 @@ from time import monotonic
 
 from pertxogai.board import protocol
 from pertxogai.board.calls import Desk, trouble
+from pertxogai.called import COMMAND
 from pertxogai.program import Answer, Program, ProgramTimedOut
 
 MEBIBYTE = 1 << 20
@@ -58,7 +59,7 @@ class WithDeadline:
         except ProgramTimedOut:
             pass
         raise ProgramTimedOut(f"the call took over {self.seconds:g} s and was stopped: draw less "
-                              "at once, or judge the file by ./pertxogai judge")
+                              f"at once, or judge the file by {COMMAND} judge")
 
 
 def main(words: Sequence[str]) -> None:

@@ -16,6 +16,7 @@ from time import monotonic
 from typing import IO
 
 from pertxogai.board.calls import trouble
+from pertxogai.called import COMMAND
 
 MOST_AT_ONCE = 4
 GRACE = 2.0
@@ -83,7 +84,7 @@ class Worker:
             while b"\n" not in self.rest:
                 if not ready.select(max(0.0, ends - monotonic())):
                     raise WorkerLost(f"the call took over {self.seconds:g} s and was stopped: "
-                                     "draw less at once, or judge the file by ./pertxogai judge")
+                                     f"draw less at once, or judge the file by {COMMAND} judge")
                 self._take(pipe)
         line, _, rest = bytes(self.rest).partition(b"\n")
         self.rest = bytearray(rest)

@@ -6,6 +6,7 @@ import json
 from collections.abc import Mapping, Sequence
 from pathlib import Path
 
+from pertxogai.called import PROGRAM
 from pertxogai.commands.judging import chosen, made_of, program_of
 from pertxogai.completing import Completion, NoProposal, complete
 from pertxogai.drawing import write_drawing
@@ -44,7 +45,7 @@ def complete_file(options: argparse.Namespace) -> Exit:
 
 def _drawing(found: Input, path: Path) -> DesignerDrawing:
     if not isinstance(found, DesignerDrawing):
-        raise CommandError(f"{path}: a sketch of the language is completed by ./sketch complete")
+        raise CommandError(f"{path}: a sketch of the language is completed by {PROGRAM} complete")
     return found
 
 

@@ -7,6 +7,7 @@ from contextlib import contextmanager
 from dataclasses import replace
 from pathlib import Path
 
+from pertxogai.called import COMMAND
 from pertxogai.exits import CommandError, Exit, MissingLibrary
 from pertxogai.files.kinds import DesignerDrawing, Input, SketchText, kind_of, read_inputs
 from pertxogai.judging import (
@@ -154,5 +155,5 @@ def _write_placed(path: Path, out: Path, found: Sequence[Input],
     good = {key: it for key, it in known.items() if isinstance(it, GoodJudgement)}
     if not good:
         raise CommandError(
-            f"{path}: no sketch of it is good, so {out} isn't written: see ./pertxogai judge")
+            f"{path}: no sketch of it is good, so {out} isn't written: see {COMMAND} judge")
     kind.write(path, out, good)

@@ -5,6 +5,7 @@ from collections.abc import Iterator
 from dataclasses import dataclass
 from enum import Enum
 
+from pertxogai.called import COMMAND
 from pertxogai.drawing import Constraint, Drawing, line_of
 from pertxogai.judging import GoodJudgement
 from pertxogai.program.reports import Verdict
@@ -50,7 +51,7 @@ class WhyNot(Enum):
     """Why nothing is proposed; the values are told to a designer."""
 
     NOTHING = "nothing is missing"
-    OVER = "it is over-constrained: first remove a dimension that ./pertxogai judge lists"
+    OVER = f"it is over-constrained: first remove a dimension that {COMMAND} judge lists"
     NO_PLACES = "no positions were found that meet all of it"
     TOO_MUCH = "too much of it is free: dimension a part of it first"
     RIGID = "nothing of it can move (by numbers), though the program doesn't find it rigid"

@@ -3,6 +3,7 @@ from __future__ import annotations
 
 from collections.abc import Iterator, Sequence
 
+from pertxogai.called import COMMAND
 from pertxogai.completing import Completion, NoProposal, Proposal, WhyNot
 from pertxogai.judging.measure import Unit, amount_text, greatest
 
@@ -40,7 +41,7 @@ def _proposal_lines(name: str, found: Completion) -> Iterator[str]:
 def _but_not_good(found: NoProposal) -> str:
     """That what lacks nothing isn't good all the same."""
     if found.why is WhyNot.NOTHING and not found.is_good:
-        return ", but it isn't good: see ./pertxogai judge"
+        return f", but it isn't good: see {COMMAND} judge"
     return ""
 
 

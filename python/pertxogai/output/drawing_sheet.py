@@ -5,6 +5,7 @@ from __future__ import annotations
 from collections.abc import Iterator
 from dataclasses import dataclass
 
+from pertxogai.called import COMMAND
 from pertxogai.judging.finding import Finding
 from pertxogai.judging.good import GoodJudgement, good_of
 from pertxogai.judging.judged_drawing import CountedDrawing
@@ -86,7 +87,7 @@ class DrawingSheet:
                       for what in self.judged.judgement.left_out)]
         yield from left_out[:MOST_SHOWN]
         if len(left_out) > MOST_SHOWN:
-            yield f"and {len(left_out) - MOST_SHOWN} more: see ./pertxogai judge"
+            yield f"and {len(left_out) - MOST_SHOWN} more: see {COMMAND} judge"
 
     def _legend(self) -> Iterator[tuple[str, Ink]]:
         """What was judged, each piece in its colour."""

@@ -4,6 +4,7 @@ from __future__ import annotations
 from collections.abc import Iterator, Sequence
 from typing import TYPE_CHECKING
 
+from pertxogai.called import COMMAND
 from pertxogai.judging.good import Lack, reasons_against
 from pertxogai.judging.judged_drawing import CountedDrawing, JudgedDrawing
 from pertxogai.judging.measure import Unit, amount_text
@@ -25,7 +26,7 @@ ADVICE = {
     Lack.LEFT_OUT: "draw what was left out with shapes and constraints that are read",
     Lack.OFF: "correct what is off, or draw it nearer to the shape that you want",
     Lack.NO_SIZE: "add a radius or a diameter, or judge with --freeze",
-    Lack.MISSING: "add a dimension: ./pertxogai complete proposes some",
+    Lack.MISSING: f"add a dimension: {COMMAND} complete proposes some",
     Lack.MIRRORED: "draw it the way round that you want, or change a dimension",
 }
 """What to do where a drawing is placed and isn't good."""
@@ -190,7 +191,7 @@ def _by_triangles(judged: JudgedDrawing) -> Iterator[str]:
 def _proposed_lines(judged: JudgedDrawing) -> Iterator[str]:
     """What completes an open drawing."""
     if judged.proposed:
-        yield ("  what to do: add these lines, with which it is well (./pertxogai complete says "
+        yield (f"  what to do: add these lines, with which it is well ({COMMAND} complete says "
                "what each fixes)")
     yield from (f"    {line}" for line in judged.proposed)
 

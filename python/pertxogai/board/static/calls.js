@@ -4,9 +4,9 @@
 /** @typedef {import('./protocol').Calls} Calls */
 
 const STOPPED = 'The board’s server is stopped. Your drawing is kept in this browser: '
-  + 'start ./pertxogai page again.';
+  + 'start pertxogai page again.';
 const ANEW = 'The board’s server was started anew. Your drawing is kept in this browser: '
-  + 'open the address that ./pertxogai page printed.';
+  + 'open the address that pertxogai page printed.';
 /** How often a call is made again while four others are being answered. */
 const MOST_TURNS = 40;
 

@@ -69,7 +69,7 @@ export class Files {
     if (!file) return;
     const data = file.size > MOST_BYTES ? null : await base64(file);
     if (typeof data !== 'string') {
-      const large = 'has over 750 KB: judge it by ./pertxogai judge';
+      const large = 'has over 750 KB: judge it by pertxogai judge';
       const why = data === null ? large : 'can’t be read';
       this.paper.tell('trouble', `${file.name} ${why}`);
       return;
