@@ -119,11 +119,16 @@ def within(root: Path) -> dict[str, str]:
     }
 
 
-def test_the_pages_of_the_crates_lie_where_the_others_lead(tmp_path: Path) -> None:
+def test_each_link_of_a_release_leads_to_what_is_in_it(tmp_path: Path) -> None:
     stage_pages(tmp_path, TOP)
-    for page in (tmp_path / "docs" / "CRATES.md", tmp_path / "docs" / "CLAIMS.md"):
-        ends = re.findall(r"\]\(([^)#]*\.md)[^)]*\)", page.read_text())
-        assert len(ends) > 5 and all((page.parent / it).exists() for it in ends), page.name
+    pages = sorted(tmp_path.rglob("*.md"))
+    names = {str(it.relative_to(tmp_path)) for it in pages}
+    assert {"docs/CRATES.md", "python/RANGES.md", "crates/sk_cli/README.md"} <= names
+    for page in pages:
+        ends = re.findall(r"\]\(([^()#\s]+)", page.read_text())
+        lost = [it for it in ends if not re.match("[a-z]+:", it) and not (page.parent / it).exists()]
+        assert not lost, page
+    assert (tmp_path / "crates/sk_laws/src/law.rt").is_file()
 
 
 def test_a_release_has_a_tarball_a_package_a_wheel_and_checksums(dist: Path) -> None:

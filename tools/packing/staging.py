@@ -1,5 +1,6 @@
 """What of a release goes where."""
 import gzip
+import re
 import shutil
 from dataclasses import dataclass
 from pathlib import Path
@@ -13,11 +14,12 @@ HIGHLIGHTING = {
 }
 PAGES = (
     "README.md", "LICENSE-MIT", "LICENSE-APACHE", "CHANGELOG.md", "CONTRIBUTING.md", "SECURITY.md",
-    "CODE_OF_CONDUCT.md", "CITATION.cff", "docs", "examples", "licences", "checker/README.md", "c/examples",
-    "editors/README.md",
-    "python/README.md", "python/DRAWING.md", "python/pictures",
+    "CODE_OF_CONDUCT.md", "CITATION.cff", "docs", "examples", "licences", "c/examples", "python/README.md",
+    "python/examples",
 )
-TOOLS = ("refresh", "draw")
+"""What is read by people; all that these pages lead to is put beside them."""
+LINK = re.compile(r"\]\(([^()#\s]+)")
+TOOLS = ("refresh", "draw", "site")
 """Scripts of docs/ that are of use in the repository alone."""
 
 
@@ -72,10 +74,18 @@ def _stage_libraries(folder: Path, library: Path) -> None:
 
 
 def stage_pages(folder: Path, tree: Path) -> None:
-    """Puts what is read by people, and the pages of the crates that it leads to."""
-    crates = [str(it.relative_to(tree)) for it in sorted(tree.glob("crates/*/README.md"))]
-    for name in [*PAGES, *crates]:
-        put(tree / name, folder / name)
+    """Puts what is read by people, and all of the tree that it leads to, from page to page."""
+    top = tree.resolve()
+    left = [top / name for name in PAGES]
+    done: set[Path] = set()
+    while left:
+        source = left.pop()
+        if source in done or top not in source.parents or not source.exists():
+            continue
+        done.add(source)
+        put(source, folder / source.relative_to(top))
+        pages = source.rglob("*.md") if source.is_dir() else [source] if source.suffix == ".md" else []
+        left += [(page.parent / end).resolve() for page in pages for end in LINK.findall(page.read_text())]
 
 
 def _stage_flags(root: Path, places: Places, made: Made) -> None:
