@@ -15,6 +15,7 @@ import pytest
 from pertxogai.commands import main
 from pertxogai.drawing import read_drawing
 from pertxogai.fitting import Answer, CheckedFit, Fit, NoFit, UnknownFit, fit
+from pertxogai.output.fit_text import fit_lines
 from toleranced_drawings import tried
 
 FITS = Path(__file__).parent / "fits"
@@ -140,9 +141,9 @@ def test_what_moves_nothing_by_itself_may_with_others(program) -> None:
 
 
 @pytest.mark.parametrize("text, why", [
-    ("segment A 0 0 40 0\n", "nothing has to fit"),
+    ("segment A 0 0 40 0\n", "there is no check: add a line such as check Gap"),
     ("check G length A 39 .. 41\nsegment A 0 0 40 0\npoint P 3 3\nlength A 40 +-0.1\n",
-     "it isn't good as it is given"),
+     "with nominal dimensions it isn't good: "),
 ])
 def test_why_nothing_is_known(text, why, program) -> None:
     found = fit(read_drawing(text), program)
@@ -220,7 +221,7 @@ def test_a_gap_of_nothing_that_is_drawn_so_has_no_side(program) -> None:
     text = ("check Gap distance A.end W 0 ..\nsegment W 20 -5 20 5\nfixed W\n" + BAR
             + "length A 20 +0-0.1\n")
     (gap,) = checked(text, program).checks
-    assert isinstance(gap, UnknownFit) and "draw it to the side" in gap.why
+    assert isinstance(gap, UnknownFit) and "draw it on the side" in gap.why
 
 
 @pytest.mark.parametrize("degrees", [0, 30, 37])
@@ -296,10 +297,18 @@ def test_the_lines_and_the_status(capsys, program, monkeypatch) -> None:
     status, lines = told(capsys, "fit", FITS / "row-of-blocks.drawing")
     assert status == 1
     assert "    worst case       0.25 to 0.95 mm: 0.05 too large" in lines.splitlines()
-    assert ("    tighten first: length A 20 +-0.1; at +-0.05 it alone is enough, as placed"
-            in lines.splitlines())
-    assert "isn't proved" in lines
+    assert ("    tighten first: length A 20 +-0.1; tightened alone to +-0.05 it is enough, as "
+            "placed" in lines.splitlines())
+    assert "which was sampled, not proved" in lines
     assert told(capsys, "fit", FITS / "lever.drawing")[0] == 0
+
+
+def test_what_is_said_beside_the_numbers(program) -> None:
+    # The bar is level, however long it is.
+    found = checked(f"check Rise y A.end -0.1 .. +0.1\n{BAR}length A 20 +-0.1\n", program)
+    lines = list(fit_lines("bar", found))
+    assert "    no single dimension changes it" in lines
+    assert "  these alone change no check: length A 20 +-0.1" in lines
 
 
 def test_json_and_the_chart(capsys, program, monkeypatch, tmp_path) -> None:

@@ -9,6 +9,7 @@ import pytest
 
 from pertxogai.drawing import read_drawing
 from pertxogai.fitting import Answer, CheckedFit, Fit, UnknownFit, fit
+from pertxogai.output.fit_text import fit_lines
 
 
 def checks(text: str, program) -> list[CheckedFit]:
@@ -255,3 +256,5 @@ def test_what_has_no_places_is_told_and_what_does_not_hang_on_it_too(program) ->
     assert isinstance(top, UnknownFit) and "length A 100 +-0.5" in top.why
     assert worst(bar) == (9.9, 10.1) and bar.answer is Answer.FITS
     assert found.answer is Answer.UNSURE and "length A 100 +-0.5" in found.unplaced[0]
+    assert ("  some parts within tolerance can't be placed: with constraint 3 (length A 100 +-0.5) "
+            "off by 0.5 mm: it can't be placed as drawn" in fit_lines("triangle", found))

@@ -80,6 +80,23 @@ def test_what_is_refused_is_named(line, word):
     assert (refused.value.line, refused.value.word) == (3, word)
 
 
+@pytest.mark.parametrize("line, what", [
+    ("check Gap", "is the last word: write a line such as check Gap distance P S 2 .. 2.5"),
+    ("check Gap length A B 2 .. 3", "takes one thing here: write a line for each, such as check "),
+    ("check Gap level A 2 .. 3", "can't be checked: write one of length, distance, x, y, angle, "),
+    ("check Gap length A 3", "needs .. once, between its limits: write a line such as check Gap "),
+    ("check Gap length A ..", "has no limit on either side: write a line such as check Gap "),
+    ("length A 40 +0.1 -0.2", "may be part of a tolerance or of a sum: write a tolerance without "
+                              "blanks, such as +0.1-0.2, and a sum with blanks around its signs"),
+    ("length A 40 -0.2-0.1", "has its greater deviation last: write it first, such as "),
+    ("length A 40 +-1deg", "is no tolerance of a length: write millimetres, such as +-0.1"),
+    ("angle A B 90deg +-0.1", "is no tolerance of an angle: write degrees, such as +-0.5deg")])
+def test_a_refusal_says_what_to_write(line, what):
+    with pytest.raises(DrawingRefusal) as refused:
+        read_drawing(EDGE + line + "\n")
+    assert refused.value.what.startswith(what)
+
+
 @pytest.mark.parametrize("twice", ["tolerances ISO2768-m", "check Gap length A 2 .. 3"])
 def test_each_is_said_once(twice):
     with pytest.raises(DrawingRefusal) as refused:

@@ -180,7 +180,8 @@ def _add_family(commands: Commands) -> None:
 
 
 def _add_fit(commands: Commands) -> None:
-    fitting = _command(commands, "fit", "tells what tolerances do to what must fit")
+    fitting = _command(commands, "fit",
+                       "says whether the checks of a drawing fit within its tolerances")
     fitting.set_defaults(act=_fit)
     fitting.add_argument("file", type=Path, metavar="FILE", help=FITTED)
     fitting.add_argument("--json", action="store_true", help="print one object of JSON")

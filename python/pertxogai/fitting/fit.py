@@ -28,11 +28,12 @@ def fit_of(drawing: Drawing, program: Solver, limit: Limit) -> Fit | NoFit:
     NotHeld as `judge` does."""
     said = drawing.tolerancing.checks
     if not said:
-        return NoFit(("nothing has to fit: write a line as check Gap distance P S 2 .. 2.5",))
+        return NoFit(("there is no check: add a line such as check Gap distance P S 2 .. 2.5",))
     placer = Placer(drawing, program, limit)
     good = good_of(JudgedDrawing("", drawing, placer.nominal, limit=limit))
     if isinstance(good, NotGood):
-        return NoFit(tuple(f"it isn't good as it is given: {each.text}" for each in good.reasons))
+        return NoFit(tuple(f"with nominal dimensions it isn't good: {each.text}"
+                           for each in good.reasons))
     dimensions = Dimensions.of(drawing, good.solution)
     gauges = [_gauge(each, good) for each in said]
     placer.begin(dimensions.toleranced, [each for each in gauges if isinstance(each, Gauge)])

@@ -65,8 +65,8 @@ class Gauge:
             low, high = self.check.limits(drawing.scene.values)
             if low is not None and high is not None and low == -high:
                 return 1
-            raise NoSide(f"{self.check.name} is 0 as it is given and as it is drawn: draw it to the"
-                         " side on which it counts as more than 0")
+            raise NoSide(f"{self.check.name} is 0 with nominal dimensions and as drawn: draw it on"
+                         " the side where it counts as more than 0")
         return -1 if there < 0 else 1
 
     def measured(self, solution: Solution, side: int = -1) -> int:

@@ -138,7 +138,7 @@ class Placer:
         called = self._edited.drawing.called
         told = [f"with {called(number)} off by {_off_text(off, number in angles)}"
                 for number, off in by_number.items()]
-        return told[0] if told else "as it is given"
+        return told[0] if told else "with nominal dimensions"
 
 
 def _off_text(off: Fraction, is_angle: bool) -> str:
@@ -149,9 +149,9 @@ def _off_text(off: Fraction, is_angle: bool) -> str:
 def _why_not(judged: Judgement, limit: Limit) -> str:
     """Why what was placed doesn't count; nothing where it does."""
     if judged.solution is None:
-        return ("no places are found" if judged.verdict is Verdict.WELL
+        return ("it can't be placed as drawn" if judged.verdict is Verdict.WELL
                 else f"it is {judged.verdict.value}")
     if judged.left_out or judged.frozen or judged.grown:
-        return "not all of it is told to the program there"
+        return "not all of it is passed to the program there"
     beyond = next(iter(limit.beyond(judged.deviations)), None)
     return "" if beyond is None else "a constraint isn't met"

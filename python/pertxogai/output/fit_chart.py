@@ -19,7 +19,7 @@ MOST_LETTERS = 46
 """A longer name is cut."""
 MOST_BARS = 12
 KIND = {Answer.FITS: "fits", Answer.UNSURE: "unsure", Answer.BEYOND: "off"}
-MARK = {Answer.FITS: "(fits)", Answer.UNSURE: "(not sure)", Answer.BEYOND: "(doesn't fit)"}
+MARK = {Answer.FITS: "(fits)", Answer.UNSURE: "(not known)", Answer.BEYOND: "(doesn't fit)"}
 STYLE = """
     .back { fill: #ffffff }
     .title { font-weight: bold }
@@ -46,7 +46,7 @@ def fit_chart(name: str, found: Fit) -> str:
     return "\n".join([
         f'<svg xmlns="http://www.w3.org/2000/svg" width="{WIDTH}" height="{height + MARGIN}" '
         f'viewBox="0 0 {WIDTH} {height + MARGIN}" role="img">',
-        f"<title>what must fit in {escape(name)}</title>", f"<style>{STYLE}</style>",
+        f"<title>the checks of {escape(name)}</title>", f"<style>{STYLE}</style>",
         f'<rect class="back" width="{WIDTH}" height="{height + MARGIN}"/>', *rows, "</svg>", ""])
 
 

@@ -20,10 +20,11 @@ degree."""
 PLACES = 4
 """A number has at most this number of digits behind the point."""
 FOOT = (
-    "  the worst case is the worst of these; no other is worse where a check is monotone in each",
-    "  dimension, which was sampled and isn't proved; the root sum square is calculated from the",
-    "  effects of single dimensions")
-SURE = {Answer.FITS: "fits", Answer.BEYOND: "", Answer.UNSURE: "fits where it was placed, not sure"}
+    "  worst case: the worst of the placed cases. No other case is worse if the check is monotone",
+    "  in each dimension, which was sampled, not proved.",
+    "  root sum square: calculated from the effects of single dimensions.")
+SURE = {Answer.FITS: "fits", Answer.BEYOND: "",
+        Answer.UNSURE: "all placed cases fit, but another may not"}
 ONE = {Answer.FITS: "it fits in the worst case", Answer.BEYOND: "it doesn't fit in the worst case",
        Answer.UNSURE: "it isn't known whether it fits in the worst case"}
 
@@ -77,13 +78,13 @@ def check_lines(drawing: Drawing, found: CheckedFit | UnknownFit) -> Iterator[st
         yield f"root sum square  {_range(squares, unit)}: {_beyond(squares, found) or 'fits'}"
     else:
         why = "the check isn't monotone" if found.worst.turning else "the segments tilt"
-        yield f"root sum square  not told, since {why}"
+        yield f"root sum square  not given, because {why}"
     if found.worst.turning:
         named = _named(drawing, found.turning_numbers)
-        yield (f"at worst not monotone in {named}; by numbers, from the single effects: "
-               f"{_range(found.reckoned, unit)}")
+        yield f"at the worst case the check isn't monotone in {named}"
+        yield f"by numbers, from the effects of single dimensions: {_range(found.reckoned, unit)}"
     if not found.shares:
-        yield "no dimension moves it alone"
+        yield "no single dimension changes it"
 
 
 def _share_lines(drawing: Drawing, found: CheckedFit) -> Iterator[str]:
@@ -100,7 +101,7 @@ def _share_lines(drawing: Drawing, found: CheckedFit) -> Iterator[str]:
 def _lines_of_all(found: Fit) -> Iterator[str]:
     """What is told beside the checks: which cases have no places, and what moves no check."""
     for why in found.unplaced[:MOST_NAMED]:
-        yield f"  not every part can be made so: {why}"
+        yield f"  some parts within tolerance can't be placed: {why}"
     if len(found.unplaced) > MOST_NAMED:
         yield f"  and {len(found.unplaced) - MOST_NAMED} more such cases"
     if found.loose_nm:
@@ -110,7 +111,7 @@ def _lines_of_all(found: Fit) -> Iterator[str]:
         words = [f"{words_of_dimension(found.drawing, each)}{_general(each)}"
                  for each in found.idle]
         more = [f"{len(words) - MOST_SHARES} more"] if len(words) > MOST_SHARES else []
-        yield f"  no check is moved by these alone: {', '.join(words[:MOST_SHARES] + more)}"
+        yield f"  these alone change no check: {', '.join(words[:MOST_SHARES] + more)}"
 
 
 def _to(found: CheckedFit) -> str:
@@ -119,7 +120,8 @@ def _to(found: CheckedFit) -> str:
     if found.tightened is None:
         return ""
     unit, mark = _unit(found.shares[0].dimension)
-    return f"; at +-{rounded(float(found.tightened * unit))}{mark} it alone is enough, as placed"
+    tighter = f"+-{rounded(float(found.tightened * unit))}{mark}"
+    return f"; tightened alone to {tighter} it is enough, as placed"
 
 
 def _beyond(ranged: Range, of: CheckedFit) -> str:

@@ -47,7 +47,7 @@ def test_each_answer_has_a_sign(text, answer, sign, program) -> None:
 
 def test_a_drawing_without_checks_has_none(program) -> None:
     found = fitted(drawing("plate"), program)
-    assert found["checks"] == [] and "nothing has to fit" in found["why"][0]
+    assert found["checks"] == [] and "there is no check" in found["why"][0]
 
 
 # In a browser.

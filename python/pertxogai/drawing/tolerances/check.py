@@ -89,16 +89,16 @@ class Tolerancing:
 def read_check(scene: NamedShapes, words: list[str]) -> Check:
     """The check of a line's words, of shapes that stand. Raises WordFault."""
     if len(words) < 3:
-        raise WordFault(words[-1], f"is the last word: write a line as {FORM}")
+        raise WordFault(words[-1], f"is the last word: write a line such as {FORM}")
     name, word = words[1], words[2]
     check_shape_name(name)
     if word not in WORDS:
-        raise WordFault(word, f"can't be checked: write one of {', '.join(WORDS)}, as {FORM}")
+        raise WordFault(word, f"can't be checked: write one of {', '.join(WORDS)}, as in {FORM}")
     things, low, high = _parts(scene, words[3:])
     one = "1deg" if word == ConstraintWord.ANGLE.value else "1"
     asked = read_constraints(ConstraintWord(word), Cursor(scene, [word, *things, one]), None)
     if len(asked) != 1 or not isinstance(asked[0], VALUED):
-        raise WordFault(word, f"is asked of too much here: write a line for each, as {FORM}")
+        raise WordFault(word, f"takes one thing here: write a line for each, such as {FORM}")
     check_constraint(scene, asked[0])
     check = Check(name, asked[0], low, high)
     if any(each is not None and each.has_sign for each in (low, high)):
@@ -111,7 +111,8 @@ def _parts(scene: NamedShapes,
            words: list[str]) -> tuple[list[str], Expression | None, Expression | None]:
     """The things that are measured, and the two limits."""
     if words.count(UP_TO) != 1:
-        raise WordFault(WORD, f"has to have two limits with {UP_TO} between them: write {FORM}")
+        raise WordFault(WORD, f"needs {UP_TO} once, between its limits: write a line such as "
+                              f"{FORM}")
     at = words.index(UP_TO)
     cursor = Cursor(scene, ["", *words[:at]])
     things: list[str] = []
@@ -119,7 +120,7 @@ def _parts(scene: NamedShapes,
         things.append(cursor.word("a shape"))
     low, high = words[len(things):at], words[at + 1:]
     if not low and not high:
-        raise WordFault(UP_TO, f"has no limit on either side: write {FORM}")
+        raise WordFault(UP_TO, f"has no limit on either side: write a line such as {FORM}")
     return things, _limit(low), _limit(high)
 
 

@@ -39,8 +39,8 @@ def split_tolerance(text: str) -> tuple[str, str]:
         return value, last
     before = value.rpartition(" ")[2]
     if value and _SIGNED.match(last) and (_SIGNED.match(before) or _PLAIN.match(value)):
-        raise WordFault(last, "may be a part of a tolerance or of a sum: write a tolerance without "
-                              "a blank in it, as +0.1-0.2, and a sum with blanks around its signs")
+        raise WordFault(last, "may be part of a tolerance or of a sum: write a tolerance without "
+                              "blanks, such as +0.1-0.2, and a sum with blanks around its signs")
     return text, ""
 
 
@@ -58,13 +58,14 @@ def read_tolerance(word: str, of_angle: bool) -> Tolerance | None:
                     for at in (1, 4))
     above, below = above if each[1] == "+" else -above, -below if each[4] == "+" else below
     if above < -below or above == -below != 0:
-        raise WordFault(word, "has no greater deviation first: write that first, as -0.007-0.02")
+        raise WordFault(word, "has its greater deviation last: write it first, such as -0.007-0.02")
     return Tolerance(below, above, word)
 
 
 def _number(word: str, digits: str, unit: str | None, of_angle: bool) -> Fraction:
     units = _ANGLES if of_angle else _LENGTHS
     if unit not in units:
-        raise WordFault(word, "is no tolerance of an angle: write degrees, as +-0.5deg" if of_angle
-                        else "is no tolerance of a length: write millimetres, as +-0.1")
+        raise WordFault(word, "is no tolerance of an angle: write degrees, such as +-0.5deg"
+                        if of_angle else
+                        "is no tolerance of a length: write millimetres, such as +-0.1")
     return Fraction(digits) * units[unit]
