@@ -2,6 +2,7 @@
 from __future__ import annotations
 
 import re
+import signal
 import subprocess
 from pathlib import Path
 
@@ -120,6 +121,24 @@ def test_how_much_a_reader_of_the_headline_has_to_read() -> None:
     assert not [it for it in files if "/proofs/" in it or "sk_lang" in it]
     lines = sum(int(line.split()[0]) for line in listed[:-1])
     assert listed[-1].startswith(f"{len(files)} files of definitions, {lines} lines, ")
+
+
+def test_what_the_claims_rest_on_is_counted() -> None:
+    """Those of the headline are counted, and those of a theorem that the page of claims alone links;
+    the page says how many."""
+    count = subprocess.run(TOP / "tools/definitions", capture_output=True, text=True, check=True).stdout
+    assert {"crates/sk_laws/specs/Headline.antt", "crates/sk_plan/specs/Sparse.antt"} <= set(count.split())
+    assert f"\n{count.splitlines()[-1]}\n" in (TOP / "docs/DEFINITIONS.md").read_text()
+
+
+def test_the_definitions_end_with_their_reader() -> None:
+    """Where nobody reads on, as behind `head`, nothing is said."""
+    asked = [TOP / "tools/definitions"]
+    with subprocess.Popen(asked, stdout=subprocess.PIPE, stderr=subprocess.PIPE, text=True) as left:
+        assert left.stdout is not None and left.stderr is not None
+        left.stdout.close()
+        assert left.stderr.read() == ""
+    assert left.returncode == -signal.SIGPIPE
 
 
 LAW = re.compile(r"\[`(\w+)\(\)`\]\(\.\./(crates/\w+/src/\w+\.rt)\)((?:,? `\w+`)*)")
