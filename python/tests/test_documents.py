@@ -141,6 +141,15 @@ def test_the_definitions_end_with_their_reader() -> None:
     assert left.returncode == -signal.SIGPIPE
 
 
+def test_the_mutants_are_counted() -> None:
+    """The pages that say how many mutants there are, and in how many crates, say it right."""
+    mutants = [*TOP.glob("crates/*/must-fail/*.edit")]
+    crates = {it.parent.parent for it in mutants}
+    for page in ("README.md", "docs/CLAIMS.md"):
+        text = (TOP / page).read_text()
+        assert f"{len(mutants)} mutants" in text and f"{len(crates)} crates" in text, page
+
+
 LAW = re.compile(r"\[`(\w+)\(\)`\]\(\.\./(crates/\w+/src/\w+\.rt)\)((?:,? `\w+`)*)")
 """In a page, a theorem, the file that it stands in, and which of its clauses are meant."""
 
