@@ -104,9 +104,10 @@ def test_no_page_is_hidden() -> None:
 SHOWN = re.compile(r"^<!-- (crates/\S+) -->\n```\n(.*?)^```$", re.MULTILINE | re.DOTALL)
 
 
-def test_the_definitions_that_a_page_shows_are_those_of_the_crates() -> None:
-    shown = SHOWN.findall((TOP / "docs/DEFINITIONS.md").read_text())
-    assert len(shown) >= 4
+@pytest.mark.parametrize(("page", "count"), [("docs/DEFINITIONS.md", 4), ("docs/PROOFS.md", 1)])
+def test_what_a_page_shows_of_the_crates_stands_there(page: str, count: int) -> None:
+    shown = SHOWN.findall((TOP / page).read_text())
+    assert len(shown) >= count
     for path, text in shown:
         assert text in (TOP / path).read_text(), path
 
