@@ -164,7 +164,7 @@ def test_what_a_file_has_and_the_drawing_can_not_say_makes_none_good(tmp_path, c
     assert not (out / "1.dxf").exists()
     capsys.readouterr()
     assert main(["range", str(path)]) == 1
-    assert "no ranges: it isn't good, so nothing of it has a range: left out of the file" in (
+    assert "no ranges: the drawing isn't good: left out of the file" in (
         capsys.readouterr().out)
 
 
@@ -254,7 +254,8 @@ def test_the_first_fault_is_told_by_names(tmp_path, capsys):
     main(["family", str(drawing), str(table), "--jobs", "1"])
     (_, row) = rows_of(capsys.readouterr().out)
     assert row[:4] == ["1", "50", "over", "no"]
-    assert row[4].startswith("over: any of ") and "Long" in row[4] and "End" in row[4]
+    assert row[4].startswith("it is over (over-constrained): remove one of ")
+    assert "Long" in row[4] and "End" in row[4]
     drawing.write_text("value W 40\npoint A 0 0\npoint B 40 0\npoint C 14 20\ncoincident A Origin\n"
                        "horizontal A B\nBase: x A B 40\nFirst: distance A C W\n"
                        "Second: distance B C 35\n")
@@ -263,7 +264,7 @@ def test_the_first_fault_is_told_by_names(tmp_path, capsys):
     (_, good, bad) = rows_of(capsys.readouterr().out)
     assert good[2:] == ["well", "yes", "", ""]
     # 80 is more than 40 and 35 together.
-    assert bad[2:4] == ["well", "no"] and bad[4].startswith("no place for ")
+    assert bad[2:4] == ["well", "no"] and bad[4].startswith("C can't be placed: ")
     assert "the distances make no triangle" in bad[4] and "First" in bad[4]
 
 

@@ -9,11 +9,19 @@ import pytest
 
 from conftest import TOP
 from pertxogai.commands import main
-from pertxogai.drawing import read_drawing
+from pertxogai.drawing import PointRef, Which, read_drawing
+from pertxogai.judging import Failure, Names
+from pertxogai.language.clusters import ClusterName
 from pertxogai.program import Program
 from pertxogai.program.library import quickest
+from pertxogai.program.reports import (
+    Cause, ConstraintFault, FrameFault, LineFault, NumberFault, Phase, RangeFault, StepAt,
+    TurnedFault)
+from pertxogai.program.reports.faults import Unit
 from pertxogai.ranging import FaultKind, NoRange, Ranging
+from pertxogai.ranging.faults import of_failure
 from pertxogai.ranging.search import MOST_TRIED, Search
+from pertxogai.spelling import Style, axes_of, spell
 
 DRAWINGS = TOP / "python" / "tests" / "drawings"
 PLATE = """segment Bottom 0 0 118 0
@@ -126,7 +134,7 @@ def test_a_value_ends_where_a_length_of_it_is_gone(program):
 
 
 def test_what_is_not_good_has_no_range(program):
-    with pytest.raises(NoRange, match="it isn't good, so nothing of it has a range: it is open"):
+    with pytest.raises(NoRange, match="the drawing isn't good: it is open"):
         Ranging.of(read_drawing(PLATE.replace("Width: length Bottom 120\n", "")), program)
 
 
@@ -325,7 +333,8 @@ def test_what_is_over_beside_the_present_number_is_asked_of_the_program(program)
             "Dia: diameter Hole 10\n")
     found = range_of(text, "Rad", program)
     assert found.low.at == found.high.at == 5
-    assert {found.low.fault.text, found.high.fault.text} == {"it is over: any of Rad, Dia may go"}
+    assert {found.low.fault.text, found.high.fault.text} == {
+        "it is over (over-constrained): remove one of Rad, Dia"}
     assert found.low.fault.kind is FaultKind.VERDICT
 
 
@@ -393,6 +402,42 @@ def test_a_way_that_is_never_clear_is_given_up_and_told_so():
     assert (border.good, border.is_clear, search.asked) == (10 ** 6, False, MOST_TRIED)
 
 
+def test_each_failure_is_told_in_the_designers_names():
+    drawing = read_drawing(TRIANGLE)
+    spelled, refs = spell(drawing, Style.VALUES), axes_of(drawing).facts.refs
+    names = Names(drawing, spelled, refs)
+    corner = spelled.points[refs[PointRef("C", Which.AT)]]
+
+    def told(fault, at=(), dimensions=("First",)):
+        found = of_failure(names, Failure(fault, fault.text(), dimensions, at, None))
+        assert found.kind is FaultKind.NO_PLACES
+        return found.text
+
+    def stopped(quantity, cause, element):
+        return NumberFault(StepAt(3, Phase.BUILD, quantity, element), cause, -1, 1, 38)
+
+    assert told(stopped("height", Cause.GAP, corner), ("A", "B", "C")) == (
+        "C can't be placed: the distances make no triangle (step 3, height gap), by First")
+    assert told(stopped("rise", Cause.GAP, "Help"), ("A", "B")) == (
+        "a construction line at A, B can't be placed: no line lies at these distances from both "
+        "points (step 3, rise gap), by First")
+    assert told(stopped("tx", Cause.FLAT, "Help"), dimensions=()) == (
+        "a construction line can't be placed: step 3, tx flat")
+    assert told(RangeFault(StepAt(1, Phase.BUILD, "height", corner), 38)) == (
+        "C can't be placed: the numbers grow too large to compute with (step 1, height range), "
+        "by First")
+    assert told(FrameFault("x", corner, 38), ("C",), ()) == (
+        "C can't be placed: the numbers grow too large to compute with")
+    # A sketch is so many times larger than its drawing; a millionth of a turn is 0.000057 degrees.
+    assert told(ConstraintFault(1, 2_000_000 * spelled.scale, Unit.NM, 1000 * spelled.scale)) == (
+        "First is met only within 2 mm, not 0.001 mm")
+    assert told(LineFault("Help", 2158, 1000), ("Up",), ()) == (
+        "the direction of Up is met only within 0.000124 degrees, not 0.000057 degrees")
+    assert told(TurnedFault(ClusterName(True, 1), True, -1), ("A", "B", "C")) == (
+        "A, B, C would lie mirrored")
+    assert told(TurnedFault(ClusterName(False, 1), True, -1)) == "First would lie mirrored"
+
+
 @pytest.fixture
 def asked(monkeypatch):
     monkeypatch.setenv("PERTXOGAI_SKETCH", Program.find().path)
@@ -405,12 +450,12 @@ def test_ranges_are_told_in_lines_and_as_json(asked, tmp_path, capsys):
     told = re.sub(r"(?<=sampled at )[1-9][0-9]*", "N", capsys.readouterr().out)
     assert told == (
         "plate: 2 ranges\n"
-        "  Bore: from 0.001 to 60.002 mm, now 12, sampled at N numbers; by numbers nothing "
-        "crosses between them\n"
+        "  Bore: from 0.001 to 60.002 mm, now 12, sampled at N values; by numbers no shape "
+        "crosses another or turns about between them\n"
         "    below: no length is below 0.001 mm\n"
         "    above: Bottom and Hole cross, but are drawn apart\n"
         "  constraint 8 (x Hole.centre 45): from 5.999 to 114.001 mm, now 45, sampled at "
-        "N numbers; by numbers nothing crosses between them\n"
+        "N values; by numbers no shape crosses another or turns about between them\n"
         "    below: Left and Hole cross, but are drawn apart\n"
         "    above: Right and Hole cross, but are drawn apart\n")
     assert main(["range", str(path), "Bore", "--json"]) == 0
@@ -426,14 +471,15 @@ def test_what_has_no_range_is_told(asked, tmp_path, capsys):
     path = tmp_path / "plate.drawing"
     path.write_text(PLATE)
     assert main(["range", str(path), "Depth"]) == 2
-    assert "'Depth' is no value and no dimension that has a range" in capsys.readouterr().err
+    assert capsys.readouterr().err.startswith(
+        "pertxogai: 'Depth' isn't a value or a dimension with a range: write one of Width, Height, ")
     plate = str(DRAWINGS / "plate-by-values.drawing")
     for name in ("Height", "7"):
         assert main(["range", plate, name]) == 2
         assert f"'{name}' has no range of its own: it follows from " in capsys.readouterr().err
     path.write_text(PLATE.replace("Width: length Bottom 120\n", ""))
     assert main(["range", str(path)]) == 1
-    assert "plate: no ranges: it isn't good" in capsys.readouterr().out
+    assert "plate: no ranges: the drawing isn't good: it is open" in capsys.readouterr().out
     sketch = TOP / "examples" / "plate.sketch"
     assert main(["range", str(sketch)]) == 2
     assert "a sketch of the language has no ranges" in capsys.readouterr().err

@@ -27,13 +27,14 @@ from pertxogai.files.kinds import DesignerDrawing, kind_of, read_inputs
 from pertxogai.judging import (
     CountedDrawing, DrawingRefused, GoodJudgement, JudgedDrawing, Judgement, good_of,
     judge_at_once, reasons_against, with_counts)
+from pertxogai.judging.good import missing_text
 from pertxogai.judging.measure import Limit
 from pertxogai.judging.within import Wider
 from pertxogai.language import NotHeld, Refusal
 from pertxogai.output.drawing_sheet import DrawingSheet, NoPlaces
 from pertxogai.output.release import Release
 from pertxogai.program import ProgramError, Solver
-from pertxogai.ranging.faults import of_failure
+from pertxogai.ranging.faults import of_failure, of_surplus, of_verdict
 
 AHEAD = 8
 """Variants that are handed out for each process before the first of them is done."""
@@ -185,11 +186,11 @@ def _fault(judged: JudgedDrawing) -> str:
     """The first reason why a variant isn't good; nothing where it is."""
     judgement: Judgement = judged.judgement
     if judgement.failure is not None:
-        return of_failure(judgement.failure).text
+        return of_failure(judgement.names, judgement.failure).text
     if judgement.surplus:
-        return f"over: any of {', '.join(each.name for each in judgement.surplus)} may go"
+        return of_surplus([each.name for each in judgement.surplus]).text
     if judgement.missing is not None and judgement.missing.count:
-        return f"open: {judgement.missing.count} or more dimensions are missing, by rank"
+        return f"{of_verdict(judgement.verdict).text}: {missing_text(judgement.missing.count)}"
     reasons = reasons_against(judged)
     return reasons[0].text if reasons else ""
 

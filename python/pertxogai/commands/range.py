@@ -91,8 +91,8 @@ def _named(drawing: Drawing, known: Sequence[Parameter], name: str) -> Parameter
         raise CommandError(f"{name!r} has no range of its own: it follows from "
                            f"{', '.join(told_by)}")
     names = ", ".join(each.called(drawing) for each in known)
-    raise CommandError(f"{name!r} is no value and no dimension that has a range: write one of "
-                       f"{names or 'none, since there is none'}")
+    raise CommandError(f"{name!r} isn't a value or a dimension with a range: "
+                       f"{f'write one of {names}' if names else 'the drawing has none'}")
 
 
 def _told_by(drawing: Drawing, name: str) -> tuple[str, ...]:

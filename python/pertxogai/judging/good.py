@@ -7,7 +7,7 @@ and the add-on of FreeCAD ask this, and nothing else."""
 
 from __future__ import annotations
 
-from collections.abc import Collection, Iterator
+from collections.abc import Collection, Iterator, Sequence
 from dataclasses import dataclass
 from enum import Enum
 from typing import TYPE_CHECKING, TypedDict
@@ -191,12 +191,22 @@ def _missing_or_mirrored(judged: JudgedDrawing, solution: Solution) -> Iterator[
     something lies mirrored."""
     free = judged.judgement.free
     if free is not None and free.lacks:
-        plural = "dimension is" if free.lacks == 1 else "dimensions are"
-        yield Reason(Lack.MISSING, f"at least {free.lacks} {plural} missing, by rank")
+        yield Reason(Lack.MISSING, missing_text(free.lacks))
     for names in mirrored(judged.drawing, solution):
-        more = f" and {len(names) - MOST_NAMED} more" if len(names) > MOST_NAMED else ""
-        yield Reason(Lack.MIRRORED, f"{', '.join(names[:MOST_NAMED])}{more} lie mirrored: each "
-                     "corner turns the other way than it is drawn")
+        yield Reason(Lack.MIRRORED, mirrored_text(names))
+
+
+def missing_text(count: int) -> str:
+    """That at least so many dimensions are missing: one line for the designer."""
+    plural = "dimension is" if count == 1 else "dimensions are"
+    return f"at least {count} {plural} missing, by rank"
+
+
+def mirrored_text(names: Sequence[str]) -> str:
+    """That something lies mirrored, by the names of its edges: one line for the designer."""
+    more = f" and {len(names) - MOST_NAMED} more" if len(names) > MOST_NAMED else ""
+    return (f"{', '.join(names[:MOST_NAMED])}{more} lie mirrored: each corner turns the other way "
+            "than it is drawn")
 
 
 def _plain_reasons(judged: JudgedDrawing) -> Iterator[Reason]:

@@ -17,8 +17,8 @@ class RangeJson(TypedDict):
     """A range, as JSON. of: the name of the value, or what the constraint is called; unit: `mm`,
     `deg`, or nothing; low, high: the last numbers with which the drawing stays as it is; low_why,
     high_why: why it doesn't one step beyond, a micrometre or a ten-thousandth of a degree; sampled:
-    how many numbers were tried; clear_by_numbers: whether by numbers nothing
-    crosses between these."""
+    how many values were tried; clear_by_numbers: whether by numbers no shape crosses another or
+    turns about between these."""
 
     of: str
     present: float
@@ -53,9 +53,10 @@ def ranges_lines(name: str, drawing: Drawing, ranges: Sequence[Range]) -> Iterat
 
 
 def sampled_text(each: Range) -> str:
-    """At how many numbers a range was sampled, and what is known of those between."""
-    between = "nothing crosses" if each.is_clear else "something may cross"
-    return f"sampled at {each.tried} numbers; by numbers {between} between them"
+    """At how many values a range was sampled, and what is known of those between."""
+    between = ("no shape crosses another or turns about" if each.is_clear
+               else "a shape may cross another or turn about")
+    return f"sampled at {each.tried} values; by numbers {between} between them"
 
 
 def number_text(number: Fraction) -> str:

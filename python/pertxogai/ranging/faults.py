@@ -4,25 +4,28 @@ from __future__ import annotations
 from collections.abc import Sequence
 from dataclasses import dataclass
 from enum import Enum
+from typing import assert_never
 
-from pertxogai.judging import Failure
+from pertxogai.judging import Failure, Names
 from pertxogai.judging.departures import Departure
-from pertxogai.judging.good import Lack, Reason
-from pertxogai.judging.measure import Deviation, amount_text
-from pertxogai.program.reports import Cause, Fault as ProgramFault, NumberFault
+from pertxogai.judging.good import Lack, Reason, mirrored_text
+from pertxogai.judging.measure import Deviation, Unit, amount_text, units_text
+from pertxogai.program.reports import (
+    Cause, ConstraintFault, FrameFault, LineFault, NumberFault, RangeFault, StepAt, TurnedFault,
+    Verdict)
 
 MOST_NAMED = 6
 """The most names, and the most departures, that a reason tells."""
 
-
 _GAPS = {"height": "the distances make no triangle", "reach": "the distance doesn't reach the line",
-         "rise": "no line runs so by both"}
+         "rise": "no line lies at these distances from both points"}
 """What it means that a number of this name has no root."""
-_FLAT = {"height": "the triangle is flat", "base": "two points are one",
-         "base2": "two points are one", "reach": "the distance only just reaches the line",
-         "rise": "the line only just runs so",
+_FLAT = {"height": "the triangle is flat", "base": "two points coincide",
+         "base2": "two points coincide", "reach": "the distance only just reaches the line",
+         "rise": "a line at these distances from both points only just exists",
          "det": "the lines don't cross", "x": "the lines don't cross", "y": "the lines don't cross"}
 """What it means that a number of this name can't be told from 0."""
+_TOO_LARGE = "the numbers grow too large to compute with"
 
 
 class FaultKind(Enum):
@@ -64,26 +67,23 @@ def of_departures(departures: Sequence[Departure]) -> Fault:
 
 def of_surplus(names: Sequence[str]) -> Fault:
     """That the program says over, and which constraints may go each by itself."""
-    return Fault(FaultKind.VERDICT, f"it is over: any of {_some(', ', names)} may go")
+    text = f"{of_verdict(Verdict.OVER).text}: remove one of {_some(', ', names)}"
+    return Fault(FaultKind.VERDICT, text)
 
 
 def of_mirrored(names: Sequence[str]) -> Fault:
     """That each corner of something turns to the other side than it is drawn."""
-    return Fault(FaultKind.DEPARTURE, f"{_some(', ', names)} lie mirrored")
+    return Fault(FaultKind.DEPARTURE, mirrored_text(names))
 
 
-def of_verdict(verdict: str) -> Fault:
+def of_verdict(verdict: Verdict) -> Fault:
     """That the program says another verdict than well."""
-    return Fault(FaultKind.VERDICT, f"it is {verdict}")
+    return Fault(FaultKind.VERDICT, f"it is {verdict.value} ({verdict.gloss})")
 
 
-def of_failure(failure: Failure) -> Fault:
-    """That a step of the construction fails."""
-    at = _some(", ", failure.at)
-    where = f"no place for {at}" if at else "no place for a line of help"
-    beneath = _some(", ", failure.dimensions)
-    return Fault(FaultKind.NO_PLACES,
-                 f"{where}: {_cause(failure.fault)}{f', by {beneath}' if beneath else ''}")
+def of_failure(names: Names, failure: Failure) -> Fault:
+    """That the program can't place something, or that it isn't placed as it has to be."""
+    return Fault(FaultKind.NO_PLACES, _failure_text(names, failure))
 
 
 def of_deviation(off: Deviation, called: str) -> Fault:
@@ -103,14 +103,55 @@ def of_reason(reason: Reason) -> Fault:
     return Fault(kind, reason.text)
 
 
-def _cause(fault: ProgramFault) -> str:
-    """What fails in a step, and the program's words for it."""
-    if not isinstance(fault, NumberFault):
-        return fault.text().strip().removeprefix("fault ")
-    step, quantity = fault.at.step, fault.at.quantity
-    words = (_FLAT if fault.cause is Cause.FLAT else _GAPS).get(quantity)
-    said = f"step {step}, {quantity} {fault.cause.value}"
-    return f"{words} ({said})" if words else said
+def _failure_text(names: Names, failure: Failure) -> str:
+    """What can't be placed, why, and by which constraints; or what isn't met."""
+    match failure.fault:
+        case NumberFault(at) | RangeFault(at):
+            return f"{_made(names, at, failure)} can't be placed: {_cause(failure)}"
+        case FrameFault():
+            return f"{_where(failure)} can't be placed: {_cause(failure)}"
+        case ConstraintFault(_, tolerance, unit, limit):
+            scale = names.spelled.scale if unit.value == Unit.NM.value else 1
+            met, most = (units_text(-(-each // scale), Unit(unit.value))
+                         for each in (tolerance, limit))
+            return f"{_named(failure)} is met only within {met}, not {most}"
+        case LineFault(_, tolerance, limit):
+            return (f"the direction of {_where(failure)} is met only within "
+                    f"{units_text(tolerance, Unit.PPB)}, not {units_text(limit, Unit.PPB)}")
+        case TurnedFault(of):
+            return f"{_where(failure) if of.is_step else _named(failure)} would lie mirrored"
+        case other:
+            assert_never(other)
+
+
+def _made(names: Names, at: StepAt, failure: Failure) -> str:
+    """What a step constructs: where that is a construction line, with what it meets."""
+    met = f" at {_some(', ', failure.at)}" if failure.at else ""
+    return names.element(at.element) or f"a construction line{met}"
+
+
+def _where(failure: Failure) -> str:
+    """The points and segments of a failure."""
+    return _some(", ", failure.at) or "a construction line"
+
+
+def _named(failure: Failure) -> str:
+    """The constraints of a failure."""
+    return _some(", ", failure.dimensions) or "a constraint of a construction line"
+
+
+def _cause(failure: Failure) -> str:
+    """Why something can't be placed, with the program's words for it, and by which constraints."""
+    beneath = f", by {_some(', ', failure.dimensions)}" if failure.dimensions else ""
+    match failure.fault:
+        case NumberFault(at, cause):
+            words = (_FLAT if cause is Cause.FLAT else _GAPS).get(at.quantity)
+            said = f"step {at.step}, {at.quantity} {cause.value}"
+            return (f"{words} ({said})" if words else said) + beneath
+        case RangeFault(at):
+            return f"{_TOO_LARGE} (step {at.step}, {at.quantity} range){beneath}"
+        case _:
+            return f"{_TOO_LARGE}{beneath}"
 
 
 def _some(between: str, texts: Sequence[str]) -> str:

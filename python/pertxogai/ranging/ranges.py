@@ -160,13 +160,13 @@ class _Numbers:
     def beyond(self, number: int) -> Fault:
         """What is wrong with a number beyond the limits."""
         if not isinstance(self._of, Dimension):
-            return Fault(FaultKind.LIMIT, f"no number is tried beyond {MOST_NUMBER:,}")
+            return Fault(FaultKind.LIMIT, f"no value beyond {MOST_NUMBER:,} is tried")
         if self._of.unit is Unit.DEGREES:
-            return Fault(FaultKind.LIMIT, "it is no angle of two lines that cross")
+            return Fault(FaultKind.LIMIT, "at this angle the two lines are parallel")
         if abs(number) > MOST_UM:
             return Fault(FaultKind.LIMIT, f"no length goes beyond {MOST_MM:,} mm")
-        told = "no length is below 0.001 mm" if self.low else "without a sign it isn't below 0"
-        return Fault(FaultKind.LIMIT, told)
+        return Fault(FaultKind.LIMIT, "no length is below 0.001 mm" if self.low
+                     else "a value without a sign can't be below 0")
 
     def end(self, border: Border[Fault]) -> End:
         """An end of the range."""

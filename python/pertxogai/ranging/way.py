@@ -64,7 +64,7 @@ class Way:
         judged = judge_at_once(drawing, program, limit=limit)
         reasons = reasons_against(JudgedDrawing("", drawing, judged, not_drawn, limit=limit))
         if reasons:
-            raise NoRange(f"it isn't good, so nothing of it has a range: {reasons[0].text}")
+            raise NoRange(f"the drawing isn't good: {reasons[0].text}")
         assert judged.solution is not None
         known = frozenset(judged.warnings)
         things = Things.of(drawing, judged.solution, known, _is_free(judged.asked))
@@ -100,7 +100,7 @@ class Way:
         if isinstance(trial.solved, Solved):
             return self._of_places(drawing, trial, trial.solved)
         if trial.solved is None:
-            return of_verdict(trial.verdict.value)
+            return of_verdict(trial.verdict)
         return self._of_failure(names, trial.solved)
 
     def _of_places(self, drawing: Drawing, trial: Trial, solved: Solved) -> Solution | Fault:
@@ -136,17 +136,17 @@ class Way:
 
     def _of_failure(self, names: Names, fault: ProgramFault) -> Fault:
         plan = read_plan(written_by(self.program, "plan", names.spelled.sketch.text()))
-        return of_failure(failure(names, fault, plan))
+        return of_failure(names, failure(names, fault, plan))
 
     def _by_all(self, drawing: Drawing) -> Way | Fault:
         """By whichever way is well and placed."""
         judged = judge_at_once(drawing, self.program, limit=self.limit)
         if judged.failure is not None:
-            return of_failure(judged.failure)
+            return of_failure(judged.names, judged.failure)
         if judged.surplus:
             return of_surplus([self.drawing.called(each.number) for each in judged.surplus])
         if judged.solution is None:
-            return of_verdict(judged.verdict.value)
+            return of_verdict(judged.verdict)
         departures = [each for each in judged.warnings if each not in self.known]
         if departures:
             return of_departures(departures)
@@ -165,9 +165,9 @@ def _unless_refused(act: Callable[[], Found | Fault]) -> Found | Fault:
     except DrawingRefused as refused:
         return Fault(FaultKind.UNSOUND, str(refused))
     except NotHeld as refused:
-        return Fault(FaultKind.UNSOUND, f"a sum of dimensions goes too far: {refused}")
+        return Fault(FaultKind.UNSOUND, f"a sum of dimensions is out of range: {refused}")
     except Refusal as refused:
-        return Fault(FaultKind.LIMIT, f"the program takes no such sketch ({refused})")
+        return Fault(FaultKind.LIMIT, f"the program rejects the encoded sketch ({refused})")
 
 
 def _is_free(trial: Trial) -> bool:

@@ -24,6 +24,16 @@ class Verdict(Enum):
     OVER = "over"
     OPEN = "open"
 
+    @property
+    def gloss(self) -> str:
+        """What it means, in the trade's words. An open sketch needn't move: one that is rigid
+        without being built of triangles is open too."""
+        return _GLOSSES[self]
+
+
+_GLOSSES = {Verdict.WELL: "fully constrained", Verdict.OVER: "over-constrained",
+            Verdict.OPEN: "under-constrained, or rigid in a way not found"}
+
 
 @dataclass(frozen=True)
 class Part:
