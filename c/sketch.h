@@ -5,8 +5,9 @@
  * and on its standard input. It gives the status and the text of the program. docs/LANGUAGE.md describes the texts,
  * docs/EMBEDDING.md says how to link.
  *
- * The library needs nothing but the C library's malloc, realloc, free and memory functions. It has no state: nothing
- * is kept from call to call, and any number of threads may call at once. It never aborts, prints, or opens a file. */
+ * The header needs C99 or later, or C++. The library needs nothing but the C library's malloc, realloc, free and memory
+ * functions. It has no state: nothing is kept from call to call, and any number of threads may call at once. It never
+ * aborts, prints, or opens a file. */
 #ifndef SKETCH_H
 #define SKETCH_H
 
@@ -15,8 +16,9 @@
 #include <stdlib.h>
 #include <string.h>
 
-/* The version of the release that this header belongs to, and the number in the SONAME of libsketch.so. The number goes
- * up if a program that was linked before would no longer work. */
+/* The version of the release that this header belongs to, and the number in the SONAME of libsketch.so. That number goes
+ * up with each release that changes a function or a status of this header. A change of what a report says changes the
+ * version alone. */
 #define SKETCH_VERSION "0.2.0"
 #define SKETCH_INTERFACE 1
 
@@ -54,9 +56,11 @@ enum sketch_status {
  * All pointers belong to the caller, before and after; the library keeps none of them. None may be null, even if its
  * length is 0, and output and *size must overlap nothing else. A call takes at most 64 KiB of stack.
  *
- * It is proved that the status and the text are those of the program; the pointers are trusted. Out of memory is the one
- * answer that a call may give at any time, since that is up to the allocator. It is proved that the text stops short (4)
- * only if it needs more room than it has so far; that 5 comes only if memory was refused is tested. */
+ * SKETCH_WRITE_FAULT and SKETCH_NO_MEMORY both mean out of memory. Any call may answer so.
+ *
+ * It is proved that the status and the text are those of the program. The pointers are trusted. It is proved that
+ * SKETCH_WRITE_FAULT comes only where the text needs more memory than was allocated for it so far. It is tested that
+ * SKETCH_NO_MEMORY comes only where memory was refused. */
 int32_t sketch_answer(const uint8_t *command, size_t command_length, const uint8_t *input, size_t input_length,
                       uint8_t *output, size_t room, size_t *size);
 
