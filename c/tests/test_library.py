@@ -1,6 +1,7 @@
 """The library beside the program: the same answers, from many threads, with memory refused, and nothing else shown."""
 import os
 import pathlib
+import shutil
 import subprocess
 
 import pytest
@@ -18,8 +19,8 @@ def run(*words, **how):
     return subprocess.run([str(word) for word in words], capture_output=True, **how)
 
 
-def compiled(*words):
-    done = run(*words)
+def compiled(*words, **how):
+    done = run(*words, **how)
     assert done.returncode == 0, done.stderr.decode()
 
 
@@ -94,8 +95,22 @@ def test_the_examples_say_what_the_guide_shows(room):
     # the height of C over A and B, with sides of 4, 3 and 9: its square is 81 - 11 * 11 = -40, in parts of 2^-38
     assert "fault s1 build height C gap -10995116277760 -10995116277760 bits 38" in replies
     assert replies[-3:] == ["point C 4000000 3000000", "length tolerance 0 nm at c1", "angle tolerance 0 ppb at none"]
+    compiled("cc", "-std=c99", *STRICT, HERE / "examples/reports.c", room / "libsketch.a", "-o", room / "reports")
+    # of 40 the line says 41; the drawn C lies 50 from A; over 5 a C with two sides of 1 has a height whose square is 1 - 2.5 * 2.5
+    assert run(room / "reports").stdout.decode().splitlines() == [
+        "conflicting: distance A B 41, off by -1000000 nm", "redundant: distance B C 30, off by 0 nm",
+        "missing: distance A C 50", "height of C in step s1: gap, between -5.25 and -5.25"]
     compiled("c++", "-std=c++17", *STRICT, HERE / "examples/judge.cpp", room / "libsketch.a", "-o", room / "judge_cpp")
     assert run(room / "judge_cpp").stdout.decode() == "verdict open\nverdict well\n1 refused line 10 E16 no-end\n"
+
+
+@pytest.mark.parametrize("sanitizer", [[], ["-fsanitize=address"]], ids=["plain", "sanitized"])
+def test_a_plate_is_moved_to_the_origin(room, tmp_path, sanitizer):
+    """The plate is 100 wide and 60 high, with A at the lower left; unmoved it lies elsewhere."""
+    source = HERE / "examples/origin.c"
+    compiled("cc", "-std=c99", *STRICT, *sanitizer, source, room / "libsketch.a", "-o", tmp_path / "origin")
+    assert run(tmp_path / "origin").stdout.decode().splitlines() == [
+        "A lies at 0.000, 0.000 mm", "B lies at 100.000, 0.000 mm", "C lies at 100.000, 60.000 mm", "D lies at 0.000, 60.000 mm"]
 
 
 def test_linking_as_the_guide_says(room, tmp_path):
@@ -104,3 +119,20 @@ def test_linking_as_the_guide_says(room, tmp_path):
     compiled("cc", HERE / "examples/places.c", *flags, "-o", tmp_path / "places")
     done = run(tmp_path / "places", env={"LD_LIBRARY_PATH": str(room)})
     assert done.stdout.startswith(b"A lies at 0.000000, 0.000000 mm\n")
+
+
+@pytest.mark.skipif(not (shutil.which("cmake") and shutil.which("pkg-config")), reason="cmake or pkg-config is missing")
+def test_a_project_of_cmake_as_the_guide_says(room, tmp_path):
+    here = {**os.environ, "PKG_CONFIG_PATH": str(room)}
+    compiled("cmake", "-S", HERE / "examples", "-B", tmp_path, env=here)
+    compiled("cmake", "--build", tmp_path, env=here)
+    assert run(tmp_path / "places").stdout.startswith(b"A lies at 0.000000, 0.000000 mm\n")
+    lines = (HERE / "examples/CMakeLists.txt").read_text().splitlines()[-4:]
+    assert "\n".join(lines) in (TOP / "docs/EMBEDDING.md").read_text()
+
+
+@pytest.mark.skipif(not shutil.which("cmake"), reason="cmake is missing")
+def test_cmake_says_what_to_do_where_the_library_is_missing(tmp_path):
+    done = run("cmake", "-S", HERE, "-B", tmp_path / "build", f"-DSKETCH_FOLDER={tmp_path}")
+    said = b" ".join(done.stderr.split())
+    assert done.returncode != 0 and b"Run c/build" in said and b"-DSKETCH_FOLDER=/usr/lib" in said
