@@ -8,10 +8,13 @@ SAYS = (
     " dimensions in the language of `sketch`(5), and writes its answer to standard output. Its first argument is a command;"
     " keys follow as `key=value`, in any order, each at most once. It opens no file, keeps no state from run to run, and"
     " needs no terminal.",
-    "Each answer is proved, for every sketch that parses. The printed clusters are the only ones that merging can reach"
-    " and no rule can merge further. A cluster of n elements is called over-constrained if and only if it has more than"
-    " 2n - 3 constraints. The printed coordinates meet each constraint within the printed tolerance and in the drawn"
-    " orientations, else the first failing step, line or constraint is named.",
+    "A rigid cluster is a group of elements that hold each other in place. At first each constraint is one. Clusters that"
+    " share enough elements are merged, until no two or three of them can be. So a sketch that is fully constrained ends as"
+    " one rigid cluster.",
+    "Each answer is proved, for every sketch that parses. The printed clusters don't depend on the order in which they were"
+    " merged, and no more of them can be merged. A cluster of n elements is called over-constrained if and only if it has"
+    " more than 2n - 3 constraints, where a block of k points counts as 2k - 3. The printed coordinates meet each constraint"
+    " within the printed tolerance and in the drawn orientations, else the first failing step, line or constraint is named.",
 )
 VERDICTS = (
     ("well", "fully constrained. This is a count and looks at no length. If the lengths don't fit, `solve` names the step,"
@@ -42,6 +45,12 @@ angle tolerance 0 ppb at none
 $ sketch dxf < triangle.sketch > triangle.dxf && echo ready
 ready
 """
+USAGE = ("With status 2 the program prints the usage line, which is the same whatever is wrong: an unknown command or key, a"
+         " value that a key doesn't take, a key given twice or to a command that doesn't take it, or no command. It doesn't say"
+         " which. COMMANDS says which keys a command takes, and KEYS which values a key takes. `--help` and `--version` are no"
+         " commands: they get the usage line too.")
+VERSION = ("`sketch` has no command for its version. `pertxogai --version` prints that of the release, `dpkg -s pertxogai` that"
+           " of the Debian package, and `pkg-config --modversion sketch` that of the library.")
 TOLD = ("Coordinates are whole nanometres, x to the right and y up. A line is the set of points with"
         " a\u00b7x + b\u00b7y = c, with a and b in parts per 10\u2079. The two tolerances are measured on the printed numbers.")
 
@@ -64,8 +73,9 @@ def page(version: str, date: str) -> list[str]:
         *chapter("COMMANDS", terms(*map(_command, COMMANDS))),
         *chapter("KEYS", terms(*map(_key, KEYS))),
         *chapter("VERDICTS", terms(*VERDICTS)),
-        *chapter("EXIT STATUS", terms(*((str(it.number), f"{it.means}; written: {it.written}.") for it in STATUSES))),
+        *chapter("EXIT STATUS", terms(*((str(it.number), f"{it.means}; written: {it.written}.") for it in STATUSES)), USAGE),
         *chapter("EXAMPLES", shown(EXAMPLE), TOLD),
+        *chapter("VERSION", VERSION),
         *chapter("SEE ALSO", "`sketch`(5), `pertxogai`(1). An installed package has the documentation, the examples and the"
                  " claims in /usr/share/doc/pertxogai."),
         *LICENCE,
