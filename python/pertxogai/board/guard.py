@@ -6,7 +6,7 @@ import secrets
 from dataclasses import dataclass, field
 from enum import Enum
 
-from pertxogai.called import COMMAND
+from pertxogai.program.called import COMMAND
 
 
 class Ground(Enum):

@@ -18,8 +18,8 @@ from time import monotonic
 
 from pertxogai.board import protocol
 from pertxogai.board.calls import Desk, trouble
-from pertxogai.called import COMMAND
 from pertxogai.program import Answer, Program, ProgramTimedOut
+from pertxogai.program.called import COMMAND
 
 MEBIBYTE = 1 << 20
 PAUSE = 0.5

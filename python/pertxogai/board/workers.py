@@ -16,7 +16,7 @@ from time import monotonic
 from typing import IO
 
 from pertxogai.board.calls import trouble
-from pertxogai.called import COMMAND
+from pertxogai.program.called import COMMAND
 
 MOST_AT_ONCE = 4
 GRACE = 2.0

@@ -6,7 +6,6 @@ import json
 from collections.abc import Mapping, Sequence
 from pathlib import Path
 
-from pertxogai.called import PROGRAM
 from pertxogai.commands.judging import chosen, made_of, program_of
 from pertxogai.completing import Completion, NoProposal, complete
 from pertxogai.drawing import write_drawing
@@ -17,6 +16,7 @@ from pertxogai.files.kinds import DesignerDrawing, Input, kind_of, read_inputs
 from pertxogai.files.printable import printable
 from pertxogai.output.completion_text import completion_json, completion_lines, is_whole
 from pertxogai.program import Solver
+from pertxogai.program.called import PROGRAM
 
 Found = Completion | NoProposal
 

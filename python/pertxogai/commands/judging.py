@@ -7,7 +7,6 @@ from contextlib import contextmanager
 from dataclasses import replace
 from pathlib import Path
 
-from pertxogai.called import COMMAND
 from pertxogai.exits import CommandError, Exit, MissingLibrary
 from pertxogai.files.kinds import DesignerDrawing, Input, SketchText, kind_of, read_inputs
 from pertxogai.judging import (
@@ -16,6 +15,7 @@ from pertxogai.judging.remembering import Remembering
 from pertxogai.language import NotHeld, Refusal
 from pertxogai.output.outcome import DrawingOutcome, Outcome, SketchOutcome
 from pertxogai.program import Program, Solver
+from pertxogai.program.called import COMMAND
 from pertxogai.program.reports import Verdict
 
 

@@ -5,9 +5,9 @@ from collections.abc import Iterator
 from dataclasses import dataclass
 from enum import Enum
 
-from pertxogai.called import COMMAND
 from pertxogai.drawing import Constraint, Drawing, line_of
 from pertxogai.judging import GoodJudgement
+from pertxogai.program.called import COMMAND
 from pertxogai.program.reports import Verdict
 
 

@@ -3,9 +3,9 @@ from __future__ import annotations
 
 from collections.abc import Iterator, Sequence
 
-from pertxogai.called import COMMAND
 from pertxogai.completing import Completion, NoProposal, Proposal, WhyNot
 from pertxogai.judging.measure import Unit, amount_text, greatest
+from pertxogai.program.called import COMMAND
 
 MOST_FIXED = 4
 """The most things that are told of what a line fixes."""

@@ -5,7 +5,6 @@ from __future__ import annotations
 from collections.abc import Iterator
 from dataclasses import dataclass
 
-from pertxogai.called import COMMAND
 from pertxogai.judging.finding import Finding
 from pertxogai.judging.good import GoodJudgement, good_of
 from pertxogai.judging.judged_drawing import CountedDrawing
@@ -16,6 +15,7 @@ from pertxogai.output.picture.drawings import Marking, scene_of_designed
 from pertxogai.output.picture.marks import Ink, Scene
 from pertxogai.output.picture.svg import Picture, picture_of
 from pertxogai.output.release import Release
+from pertxogai.program.called import COMMAND
 from pertxogai.program.reports import Verdict
 
 

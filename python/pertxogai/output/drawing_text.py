@@ -4,7 +4,6 @@ from __future__ import annotations
 from collections.abc import Iterator, Sequence
 from typing import TYPE_CHECKING
 
-from pertxogai.called import COMMAND
 from pertxogai.judging.good import Lack, reasons_against
 from pertxogai.judging.judged_drawing import CountedDrawing, JudgedDrawing
 from pertxogai.judging.measure import Unit, amount_text
@@ -13,6 +12,7 @@ from pertxogai.judging.states import WithPlaces
 from pertxogai.output.finding_text import finding_lines, freedoms_text
 from pertxogai.output.values_text import values_lines
 from pertxogai.output.verdict_text import verdict_text
+from pertxogai.program.called import COMMAND
 
 if TYPE_CHECKING:  # What isn't well, or isn't met, imports what is told of it alone.
     from pertxogai.judging.judgement import CountedJudgement, Judgement

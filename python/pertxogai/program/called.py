@@ -3,7 +3,7 @@ from __future__ import annotations
 
 from pathlib import Path
 
-TOP = Path(__file__).resolve().parents[2]
+TOP = Path(__file__).resolve().parents[3]
 IS_CLONE = (TOP / "crates").is_dir()
 COMMAND = "./pertxogai" if IS_CLONE else "pertxogai"
 PROGRAM = "./sketch" if IS_CLONE else "sketch"
