@@ -11,6 +11,6 @@ with subprocess.Popen([sys.argv[1], "live"], stdin=-1, stdout=-1, text=True, buf
     for line in LINES:
         print(">", line)
         solver.stdin.write(line + "\n.\n")
-        print(solver.stdout.readline(), end="")  # a reply has one line at least, which may read like the marker
+        print(solver.stdout.readline(), end="")  # the first line belongs to the reply, even if it reads like the marker
         for row in iter(solver.stdout.readline, END_OF_REPLY):
             print(row, end="")

@@ -65,6 +65,19 @@ def test_the_example_stays_in_step_after_a_line_with_a_fault(program: Program) -
     assert "point B 50000000 0\n" in replies[6]
 
 
+def test_the_marker_comes_as_the_page_draws_it(program: Program) -> None:
+    """Behind a report, behind a line that is answered as the marker is, and behind a blank line."""
+    given = ["point A 0 0", "point B 40 0", "distance A B 40", "check", ".", "piont C 0 0", ".", "", "."]
+    marker = "refused E2 word"
+    said = subprocess.run([program.path, "live"], input="".join(it + "\n" for it in given), capture_output=True,
+                          text=True, timeout=60, check=True).stdout.splitlines()
+    assert said[3:8] == ["verdict well", "elements 2", "constraints 1", "parts 1",
+                         "part 1 sound elements 2 held 1 due 1 : A B"]
+    assert said[8:] == [marker, marker, marker, marker]
+    wrong = subprocess.run([program.path, "live", "bits=99"], stdin=subprocess.DEVNULL, capture_output=True, text=True)
+    assert (wrong.returncode, wrong.stderr) == (2, "") and wrong.stdout.startswith("usage: sketch ")
+
+
 def test_values_are_lines_too(program: Program) -> None:
     with LiveProgram.start(program) as talk:
         for line in Point("A", 0, 0), Point("B", 4000, 0), Line("L", 0, 0, 1000, 0):
