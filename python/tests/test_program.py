@@ -6,6 +6,7 @@ import stat
 import subprocess
 import time
 from collections.abc import Callable
+from concurrent.futures import ThreadPoolExecutor
 from pathlib import Path
 
 import pytest
@@ -13,7 +14,7 @@ import pytest
 from conftest import EXCERPTS, EXCESS_ROWS, FRAME_ROWS, LARGE_ROWS, NEW_ROWS, ROWS, Row
 from pertxogai.program import (
     Answer, MissingProgram, Program, ProgramCrashed, ProgramError, ProgramSpoke, ProgramTimedOut,
-    Status)
+    Solver, Status)
 from pertxogai.program.library import BUILD, Library, quickest
 from pertxogai.program.reports import NotAReport, read_answer
 from pertxogai.program.running import BUILD as PROGRAM
@@ -130,6 +131,22 @@ def test_statuses_of_the_program_itself(words, text: str, status: Status, progra
     answer = program.ask(words, text)
     assert answer.status is status
     read_answer(words, answer)
+
+
+def answers_of_threads(solver: Solver) -> list[str]:
+    """The places of the far end of edges of 1 mm to 64 mm, which eight threads ask the same solver for at once."""
+    texts = [f"sketch 1\npoint A 0 0\npoint B 1 0\ndistance A B {it}\nend\n" for it in range(1, 65)]
+    with ThreadPoolExecutor(8) as threads:
+        answers = threads.map(lambda text: solver.ask(["solve"], text).text, texts)
+        return [answer.splitlines()[4] for answer in answers]
+
+
+def test_threads_may_share_a_program(program) -> None:
+    assert answers_of_threads(program) == [f"point B {it}000000 0" for it in range(1, 65)]
+
+
+def test_threads_may_share_a_library(built_library: Library) -> None:
+    assert answers_of_threads(built_library) == [f"point B {it}000000 0" for it in range(1, 65)]
 
 
 def refused(kind: type[ProgramError], program: Program, *inside: str) -> None:
@@ -336,6 +353,21 @@ def test_a_library_that_is_none(monkeypatch, tmp_path) -> None:
         Library.find()
     monkeypatch.setenv("PERTXOGAI_SKETCH", script(tmp_path, "echo"))
     assert isinstance(quickest(), Program)
+
+
+def test_the_library_of_an_unpacked_release_is_beside_its_program(built_library, monkeypatch, tmp_path) -> None:
+    for name in ("own/bin", "own/lib", "links"):
+        (tmp_path / name).mkdir(parents=True)
+    program = script(tmp_path / "own/bin", "echo")
+    (tmp_path / "links/sketch").symlink_to(program)
+    monkeypatch.delenv("PERTXOGAI_LIBRARY", raising=False)
+    monkeypatch.setattr("pertxogai.program.library.BUILD", tmp_path / "unbuilt")
+    monkeypatch.setattr("ctypes.util.find_library", lambda name: "elsewhere.so")
+    monkeypatch.setenv("PATH", str(tmp_path / "links"))
+    with pytest.raises(MissingProgram, match="elsewhere.so is no libsketch"):
+        Library.find()
+    (tmp_path / "own/lib/libsketch.so.1").symlink_to(built_library.path)
+    assert Library.find().path == str(tmp_path / "own/lib/libsketch.so.1")
 
 
 @pytest.mark.parametrize("folder, advice", [

@@ -311,6 +311,24 @@ def test_the_tarball_runs_where_it_is_unpacked(dist: Path, tmp_path: Path) -> No
     assert "prefix=${pcfiledir}/../..\n" in (root / "lib/pkgconfig/sketch.pc").read_text()
 
 
+@pytest.mark.skipif(shutil.which("pkg-config") is None, reason="Debian's pkg-config is missing")
+def test_a_program_is_linked_in_the_home_as_the_tarball_says(dist: Path, tmp_path: Path) -> None:
+    (packed,), (wheel,) = dist.glob("*.tar.gz"), dist.glob("*.whl")
+    own = tmp_path / ".local"
+    own.mkdir()
+    done("tar", "-xzf", packed, "-C", own, "--strip-components=1")
+    lines = [it for it in (own / "README").read_text().splitlines() if it.startswith(("    export ", "    cc "))]
+    assert len(lines) == 2
+    shutil.copy(TOP / "c/examples/places.c", tmp_path)
+    here = {"HOME": str(tmp_path), "PATH": f"{own}/bin:/usr/bin:/bin"}
+    done("sh", "-ec", "\n".join(lines), cwd=tmp_path, env=here)
+    assert done(tmp_path / "places", env={}).endswith("C lies at 40.000000, 30.000000 mm\n")
+    done(PYTHON, "-m", "zipfile", "-e", wheel, tmp_path / "site")
+    asked = "from pertxogai.program.library import Library; print(Library.find().path)"
+    found = done(PYTHON, "-c", asked, env={**here, "PYTHONPATH": str(tmp_path / "site")})
+    assert found.strip() == str(own / "lib/libsketch.so.1")
+
+
 def test_the_same_commit_packs_alike(dist: Path, tmp_path: Path) -> None:
     """A wheel made again of the same files is the same, byte by byte."""
     again = make_wheel(TOP / "python", tmp_path, NOON)

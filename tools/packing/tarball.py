@@ -15,6 +15,13 @@ SAY = """Pertxogai {version} for Linux on x86-64.
     pip install wheel/{wheel}    adds it and the Python package, in a virtual environment of your own
     man -l share/man/man1/sketch.1.gz    is the manual
 
+In ~/.local a program in C is linked with the library so (in /usr/local run ldconfig once; then it needs neither):
+
+    export PKG_CONFIG_PATH=$HOME/.local/lib/pkgconfig
+    cc places.c $(pkg-config --cflags --libs sketch) -Wl,-rpath,$HOME/.local/lib -o places
+
+The Python package finds the library beside the program `sketch` on your path.
+
 share/doc/pertxogai has the pages and the examples, share/pertxogai/checker the checkers of claims, LICENSE-MIT and LICENSE-APACHE say what you may do, licences what else is linked, GATE what was proved and tested of which
 commit, SHA256SUMS the checksums of all: sha256sum --quiet -c SHA256SUMS
 """

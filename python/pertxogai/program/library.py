@@ -8,6 +8,7 @@ from __future__ import annotations
 import ctypes
 import ctypes.util
 import os
+import shutil
 from collections.abc import Callable, Sequence
 from dataclasses import dataclass
 from pathlib import Path
@@ -18,13 +19,15 @@ from pertxogai.program.running import Answer, Program, Solver, Status
 
 VARIABLE = "PERTXOGAI_LIBRARY"
 BUILD = Path(__file__).resolve().parents[3] / "c" / "out" / "libsketch.so"
+INSTALLED = "libsketch.so.1"
+"""The file's name in a release, with the number of the interface that is called here."""
 _BYTES, _SIZE = ctypes.c_char_p, ctypes.c_size_t
 _Call = Callable[..., int]
 
 
 @dataclass(frozen=True)
 class Library:
-    """The library in the file `path`, libsketch.so."""
+    """The library in the file `path`, libsketch.so. Any number of threads may share one."""
 
     path: str
     _call: _Call
@@ -32,10 +35,9 @@ class Library:
     @staticmethod
     def find(path: str | None = None) -> Library:
         """The library at `path`, else the one that the variable PERTXOGAI_LIBRARY names, else
-        the repository's own build, else the system's libsketch. Raises MissingProgram."""
-        named = path or os.environ.get(VARIABLE)
-        if not named:
-            named = str(BUILD) if BUILD.is_file() else ctypes.util.find_library("sketch")
+        the repository's own build, else the one in the folder `lib` beside that of the `sketch`
+        on the path, else the system's libsketch. Raises MissingProgram."""
+        named = path or os.environ.get(VARIABLE) or _found()
         if named is None:
             here = (f"{BUILD} isn't built; build it by c/build" if BUILD.parents[1].is_dir()
                     else "install the Debian package libpertxogai-sketch1")
@@ -76,6 +78,16 @@ class Library:
             raise ProgramCrashed(
                 f"{self.path} answered with the status {code}: is it libsketch?"
             ) from None
+
+
+def _found() -> str | None:
+    """The library that nobody named. A release that is unpacked has the program in `bin` and the
+    library in `lib`, wherever it lies."""
+    if BUILD.is_file():
+        return str(BUILD)
+    program = shutil.which("sketch")
+    beside = Path(program).resolve().parents[1] / "lib" / INSTALLED if program else None
+    return str(beside) if beside and beside.is_file() else ctypes.util.find_library("sketch")
 
 
 def quickest() -> Solver:

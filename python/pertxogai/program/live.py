@@ -45,7 +45,7 @@ class LiveEnded(ProgramError):
 @dataclass
 class LiveProgram:
     """A running program, and how many seconds it has for each reply. Once a reply didn't come, or
-    the talk was ended, no line is taken any more."""
+    the talk was ended, no line is taken any more. One thread at a time may use it."""
 
     process: subprocess.Popen[bytes]
     seconds: float

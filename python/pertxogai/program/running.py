@@ -66,7 +66,7 @@ class Program:
     """The program as a file that is run once for each call.
 
     seconds: how long a call may take. memory_mib: how much memory it may take, in MiB; None for
-    no limit.
+    no limit. Any number of threads may share one.
     """
 
     path: str
