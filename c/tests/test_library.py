@@ -85,6 +85,11 @@ def test_one_symbol_is_shown_and_the_c_library_alone_is_asked(room):
     assert [name for name in hidden if name.startswith("sk")] == ["sketch.o:", "sketch_answer"]
 
 
+@pytest.mark.parametrize("name", ["libsketch.a", "libsketch.so"])
+def test_the_library_has_about_a_megabyte(room, name):
+    assert 700_000 < (room / name).stat().st_size < 1_300_000
+
+
 def test_the_examples_say_what_the_guide_shows(room):
     compiled("cc", "-std=c99", *STRICT, HERE / "examples/places.c", room / "libsketch.a", "-o", room / "places")
     assert run(room / "places").stdout.decode().splitlines() == [

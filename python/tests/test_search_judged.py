@@ -130,6 +130,7 @@ def test_without_a_search_nothing_is_counted(capsys):
 def test_a_missing_library_is_named_and_all_else_is_told(capsys, monkeypatch):
     monkeypatch.setattr(search, "find_spec", lambda name: None if name == "scipy" else name)
     told = lines_of(capsys, "drawings/open-hinge")
-    (line,) = (each for each in told if "not searched" in each)
+    lacks = "  not told: degrees of freedom, what can still move, and what is redundant or conflicting by numbers"
+    line = told[told.index(lacks) + 1]
     assert "scipy" in line and "apt-get install python3-scipy" in line and "numpy" not in line
     assert told[0].startswith("open-hinge: open (under-constrained, or rigid in a way not found), encoding ")

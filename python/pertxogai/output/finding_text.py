@@ -24,7 +24,9 @@ def freedoms_text(finding: Finding) -> str:
 def finding_lines(judged: JudgedDrawing) -> Iterator[str]:
     """What was found, without the count of freedoms."""
     if judged.not_searched:
-        yield f"  not searched by numbers: {judged.not_searched}"
+        yield ("  not told: degrees of freedom, what can still move, and what is redundant or "
+               "conflicting by numbers")
+        yield f"    {judged.not_searched}"
     finding = judged.finding
     if finding is None:
         return
