@@ -17,6 +17,11 @@ pub mod Printed
 pub mod PrintedClaims
 pub mod PrintedLines
 pub mod PrintedOutcomes
+pub mod RenumberedGraphs
+pub mod RenumberedOffs
+pub mod RenumberedPlaces
+pub mod RenumberedTolerances
+pub mod Renumbering
 pub mod RepeatLines
 pub mod SessionTelling
 pub mod SomeAnswers

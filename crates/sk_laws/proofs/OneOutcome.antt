@@ -555,7 +555,7 @@ same_off at own k off other there there' =
     let make : Bool → ℤ → Option Turned → OffBy = λ l n t. record { length = l; off = n; turned = t } in
     ap (λ l. make l off.off off.turned) same.0 ∙ ap (λ n. make other.length n off.turned) same.1 ∙ ap (λ t. make other.length other.off t) turned
 
-same_offs : (line : ConId → OffBy → List ℕ) (at : Placed) (own : Sketch) (left : List ConId) (text another : List ℕ) → AreOffsPut line own at left text → AreOffsPut line own at left another → text ≡ another
+pub same_offs : (line : ConId → OffBy → List ℕ) (at : Placed) (own : Sketch) (left : List ConId) (text another : List ℕ) → AreOffsPut line own at left text → AreOffsPut line own at left another → text ≡ another
 same_offs line at own [] text another is is' = is ∙ sym is'
 same_offs line at own (k ∷ left) text another (off, more, there, rest, is) (off', more', there', rest', is') =
     is ∙ ap (λ o. line k o ++ more) (same_off at own k off off' there there')

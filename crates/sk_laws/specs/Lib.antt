@@ -2,6 +2,7 @@ pub mod Causes
 pub mod Gaps
 pub mod Headline
 pub mod Migration
+pub mod NewNumbers
 pub mod PrintedClaim
 pub mod Repeats
 pub mod Shapes

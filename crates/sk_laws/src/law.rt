@@ -36,8 +36,10 @@ ghost use Rattle.sk_request.specs.Asking.{Asks, AreOfForm};
 ghost use Rattle.sk_request.specs.declared.Command.{Command};
 ghost use Rattle.sk_request.specs.declared.Account.TheVariants.{Excesses};
 ghost use Rattle.sk_laws.specs.Headline.{Tells, TellsAsAsked, RepliesNext, RepliesNextLive, HoldsAt};
+ghost use Rattle.sk_laws.specs.NewNumbers.{TellsOffsRenumbered};
 ghost use Rattle.sk_laws.specs.PrintedClaim.{printed_text, printed_places, printed_claim};
 ghost use Rattle.sk_lang.specs.Front.{ReadsFront};
+ghost use Rattle.sk_lang.specs.Renumbered.{renumbered};
 ghost use Rattle.sk_claims.specs.ClaimReading.{ReadsClaim};
 ghost use Rattle.sk_verify.specs.Texts.{verified_line};
 ghost use Rattle.sk_laws.specs.Causes.{plans, solves, IsSketchOf, IsRefusedInput, IsItsPlan, HasFault, LieAt, NonePasses, SomePasses, SomeTurned};
@@ -235,10 +237,11 @@ pub fn why_measure_ends()
 /// tolerances with which all holds there, whatever its status (`offs`). Of one constraint where the elements lie so there is
 /// one such answer (`same`). Where the elements lie as in a claim that `verify` accepts, no constraint is off by more than
 /// the claim's tolerance, and no sign is turned over (`accepted`); and the least tolerances there are no greater than the
-/// claim's (`tolerances`). Where `excess` measures what is left out of an own sketch, the element lines of these places,
-/// with an `end` behind them, are measured there, so that by `same` each constraint that is left out is off by what
-/// `excess` told (`left`). With the element lines of `solve`, an `end` behind them and the same limit it is done, and tells
-/// the tolerances that `solve` told (`solved`).
+/// claim's (`tolerances`). Where `excess` measures what is left out of an own sketch, whatever its numbers, `measure` of a
+/// text that reads as this sketch numbered anew, with the element lines of these places and an `end` behind them, tells by
+/// how much the places are off each constraint of the own sketch, by its new number, so that by `same` each constraint
+/// that is left out is off by what `excess` told (`left`). With the element lines of `solve`, an `end` behind them and the
+/// same limit it is done, and tells the tolerances that `solve` told (`solved`).
 pub fn given_places_are_measured()
     ensures offs { (words : List (List ℕ)) (bytes text : List ℕ) (status : Status) (request : Request) (f : Front) (c : Claim) → IsOutcome words bytes status text → Asks words request
         → request.command ≡ Command.Measure → HasPlaces bytes f c → AllTold c f.sketch.elements → (offs line : List ℕ) × TellsOffs f.sketch c.at offs × (text ≡ offs ++ line) }
@@ -247,8 +250,8 @@ pub fn given_places_are_measured()
         → (off.length ≡ true → unsigned_abs off.off ≤ c.t) × (off.length ≡ false → unsigned_abs off.off ≤ c.w) × (off.turned ≡ None) }
     ensures tolerances { (s : Sketch) (c : Claim) (t : Tolerance) → IsSoundSketch s → IsAccepted s (graph_of s) c → IsTolerance c.at (graph_of s) t → (t.t ≤ c.t) × (t.w ≤ c.w) }
     ensures left { (asked : List (List ℕ)) (input text told : List ℕ) (status : Status) (request measures : Request) (own : Sketch) (left : List ConId) (m : IsMeasuredLeft request own left told) (f : Front)
-        → IsSoundSketch own → IsOutcome asked input status text → Asks asked measures → measures.command ≡ Command.Measure → ReadsFront input f → f.sketch ≡ own → drop f.used input ≡ printed_places own m.at
-        → (offs line : List ℕ) × TellsOffs own m.at offs × (text ≡ offs ++ line) }
+        → IsSoundSketch own → IsOutcome asked input status text → Asks asked measures → measures.command ≡ Command.Measure → ReadsFront input f → f.sketch ≡ renumbered own → drop f.used input ≡ printed_places own m.at
+        → (offs line : List ℕ) × TellsOffsRenumbered own m.at offs × (text ≡ offs ++ line) }
     ensures solved { (words asked : List (List ℕ)) (bytes input : List ℕ) (request measures : Request) (s : Sketch) (p : Plan) (at : Placed) (t : Tolerance) (f : Front)
         → Asks words request → Reads bytes s → HoldsAt request s p at t → Asks asked measures → measures.command ≡ Command.Measure → measures.within ≡ request.within
         → ReadsFront input f → f.sketch ≡ s → drop f.used input ≡ printed_places s at

@@ -1,4 +1,4 @@
-use Rattle.std.proofs.Common.{◌≡◌, ℕ, List, [], ◌++◌, append-nil, inl, refl, sym, subst, drop}
+use Rattle.std.proofs.Common.{◌≡◌, ℕ, List, [], ◌++◌, ◌∙◌, append-nil, inl, refl, sym, subst, drop, take}
 use Rattle.std.proofs.lemmas.List.Elements.{Contains-append_left}
 use Rattle.sk_base.specs.declared.Placed.{Placed}
 use Rattle.sk_base.specs.declared.Sketch.{Sketch}
@@ -20,14 +20,16 @@ use Rattle.sk_verify.specs.Failing.{AllTold}
 use Rattle.sk_answers.specs.declared.Status.{Status}
 use Rattle.sk_answers.specs.declared.Status.TheVariants.{Done}
 use Rattle.sk_laws.specs.Headline.{HoldsAt}
+use Rattle.sk_laws.specs.NewNumbers.{places_renumbered}
 use Rattle.sk_answers.specs.MeasureAnswer.{all_numbers, HasPlaces, IsMeasurement, IsMeasureAnswer, TellsOffs}
 use Rattle.sk_answers.specs.OffsThere.{AreOffsPut}
 use Rattle.sk_cli.specs.Outcome.{IsAnswerOf, IsOutcome}
 use Rattle.sk_laws.proofs.AcceptedOffs.{within_claimed, not_turned_there}
-use Rattle.sk_laws.proofs.KeptMeasured.{left_read, left_told}
+use Rattle.sk_laws.proofs.KeptMeasured.{left_read, left_told, left_measured}
 use Rattle.sk_laws.proofs.ClaimedTolerances.{tolerances_claimed}
 use Rattle.sk_laws.proofs.OneOutcome.{LowerLaws, same_off}
 use Rattle.sk_laws.proofs.PrintedClaims.{places_read, places_told}
+use Rattle.sk_laws.proofs.Renumbering.{each_renumbered, renumbered_each}
 use Rattle.sk_laws.proofs.SomeMeasures.{some_lines}
 use Rattle.sk_laws.proofs.WhyEnds.{answer_about}
 use Rattle.sk_laws.proofs.WhyMeasured.{offs_exactly}
@@ -79,16 +81,17 @@ returns c =
           (let within = within_claimed s sketch claim accepted k off there in (within.0, within.1, not_turned_there s sketch claim accepted k off there));
       tolerances = λ s claim t sketch accepted least. tolerances_claimed s sketch claim accepted t least;
       left = λ asked input text told status request measures own left m f sketch outcome asks is front same rest.
-          (let claim = places_drawn own m.at in
-          let read = left_read request own sketch left told m in
-          let all = left_told request own sketch left told m in
+          (let each : f.sketch ≡ each_renumbered own = same ∙ renumbered_each own sketch in
+          let again = subst (λ (z : Sketch). IsSoundSketch z) each (sound (take f.used input) f.sketch front.reads) in
+          let claim = places_drawn (each_renumbered own) (places_renumbered own m.at) in
           let has : HasPlaces input f claim = record {
             sketch = front;
-            placed = subst (λ (z : Sketch). ReadsPlaces z (drop f.used input) claim) (sym same) (subst (λ (bs : List ℕ). ReadsPlaces own bs claim) (sym rest) read);
+            placed = subst (λ (z : Sketch). ReadsPlaces z (drop f.used input) claim) (sym each)
+                (subst (λ (bs : List ℕ). ReadsPlaces (each_renumbered own) bs claim) (sym rest) (left_read request own sketch left told m again));
           } in
-          let there : AllTold claim f.sketch.elements = subst (λ (z : Sketch). AllTold claim z.elements) (sym same) all in
+          let there : AllTold claim f.sketch.elements = subst (λ (z : Sketch). AllTold claim z.elements) (sym each) (left_told request own sketch left told m again) in
           let found = offs_exactly laws measures.within input text status (measure_about asked input text status measures outcome asks is) f claim has there in
-          (found.0, found.1, subst (λ (z : Sketch). TellsOffs z m.at found.0) same found.2, found.3));
+          (found.0, found.1, left_measured request own sketch left told m again found.0 (subst (λ (z : Sketch). TellsOffs z claim.at found.0) same found.2), found.3));
       solved = λ words asked bytes input request measures s p at t f asks reads holds asks' is same front sketch rest.
           (let sound_s = sound bytes s reads in
           let claim = places_drawn s at in
