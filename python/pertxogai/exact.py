@@ -8,7 +8,7 @@ from fractions import Fraction
 from math import isqrt
 
 Number = int | Fraction
-"""A whole number or a fraction; never a float. Whole numbers are the faster."""
+"""A whole number or a fraction; never a float. Whole numbers are faster."""
 
 Vector = tuple[Number, Number]
 """A place, or a way from one to another, by two components."""

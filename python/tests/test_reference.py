@@ -43,12 +43,12 @@ def test_each_package_that_exports_names_is_in_the_reference() -> None:
 
 @pytest.mark.parametrize(("package", "name", "line"), [
     ("pertxogai.language", "Element",
-     "- `Element = Point | Line | Circle`: What a sketch is drawn of: places in micrometres."),
+     "- `Element = Point | Line | Circle`: An element of a sketch: drawn positions in micrometres."),
     ("pertxogai.language", "Choice",
      "- `Choice`: Which of two solutions a step takes. `TURN_PLUS`, `TURN_MINUS`, `ADVANCE_PLUS`,"
      " `ADVANCE_MINUS`, `NONE`."),
     ("pertxogai.program", "MissingProgram",
-     "- `MissingProgram(ProgramError)`: No program was found, or what was named is none that can be"
+     "- `MissingProgram(ProgramError)`: No program was found, or the file that was named can't be"
      " run."),
 ])
 def test_a_line_of_the_reference(package: str, name: str, line: str) -> None:

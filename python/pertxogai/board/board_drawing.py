@@ -60,7 +60,7 @@ class BoardDrawing:
 
     @property
     def drawing(self) -> Drawing:
-        """What is drawn."""
+        """The drawing."""
         return self.edited.drawing
 
     @cached_property

@@ -383,7 +383,7 @@ class Mark(MarkAlone):
 
 
 class Drawing(TypedDict):
-    """What is drawn."""
+    """The drawing."""
 
     shapes: list[Shape]
     constraints: list[Constraint]

@@ -1,9 +1,8 @@
-"""What would complete a drawing: the dimensions that a designer would give, in the drawing's own
-words, and the relations that it nearly has.
-
-What is free, and what a line would fix, is found by numbers (`pertxogai.search`); whether the
-completed drawing is well and placed is the program's to say, and nothing is proposed that it
-doesn't call so. Nothing of this imports numpy before it is asked."""
+"""What would complete a drawing: the missing dimensions as a designer would give them, in the
+drawing's own words, and the relations that it nearly has. What is free, and what a line would fix,
+is found by numbers (`pertxogai.search`). Whether the completed drawing is fully constrained and
+placed, the program says, and nothing is proposed without that. Nothing here imports numpy before it
+is used."""
 from __future__ import annotations
 
 from pertxogai.completing.proposal import Completion, NoProposal, Proposal, WhyNot
@@ -19,8 +18,7 @@ __all__ = ["Completion", "NoProposal", "Proposal", "WhyNot", "complete", "nearly
 def complete(drawing: Drawing, program: Solver,
              limit: Limit = Limit()) -> Completion | NoProposal:
     """The dimensions that a sound drawing lacks, as a designer would give them; or why none are
-    proposed. Raises MissingLibrary without numpy or scipy, ProgramError, DrawingRefused, Refusal
-    and NotHeld as `judge` does."""
+    proposed. Raises MissingLibrary without numpy or scipy, and the exceptions of `judge`."""
     check_libraries()
     from pertxogai.completing.completion import completion_of
     return completion_of(drawing, program, limit)
@@ -28,7 +26,7 @@ def complete(drawing: Drawing, program: Solver,
 
 def nearly(drawing: Drawing) -> tuple[Nearly, ...]:
     """The relations that a sound drawing nearly has where the search places it, and that don't
-    follow from what it says; none where no places are found. Raises MissingLibrary."""
+    follow from its constraints; none if no positions are found. Raises MissingLibrary."""
     check_libraries()
     from pertxogai.completing.near_relations import nearly_of
     return tuple(nearly_of(drawing))

@@ -13,8 +13,8 @@ from pertxogai.program.reports import Verdict
 
 @dataclass(frozen=True)
 class Proposal:
-    """A constraint to add. fixes: what of the drawing moves no more with it, or in fewer ways, in
-    words; by numbers."""
+    """A constraint to add. fixes: what it fixes of the drawing, wholly or in a direction, in words;
+    found by numbers."""
 
     constraint: Constraint
     fixes: tuple[str, ...] = ()
@@ -26,10 +26,10 @@ class Proposal:
 
 @dataclass(frozen=True)
 class Completion:
-    """A drawing that is good, and what of it was added. proposals: the dimensions and relations.
+    """A completed drawing, which is good. proposals: the dimensions and relations that were added.
     datum: apart from these, what ties the whole to the origin and the axes. good: the judgement on
-    the drawing with all of these. ties_the_whole: whether all is tied; else it may still be moved,
-    since nothing is found that ties it and is placed."""
+    the drawing with all of these. ties_the_whole: whether the whole is tied; otherwise it may still
+    be moved, since nothing was found that ties it and can be placed."""
 
     proposals: tuple[Proposal, ...]
     datum: tuple[Proposal, ...]
@@ -42,13 +42,13 @@ class Completion:
         return self.good.drawing
 
     def all(self) -> Iterator[Proposal]:
-        """All that was added, what ties the whole last."""
+        """Everything that was added; what ties the whole comes last."""
         yield from self.proposals
         yield from self.datum
 
 
 class WhyNot(Enum):
-    """Why nothing is proposed; the values are told to a designer."""
+    """Why nothing is proposed; the values are for people to read."""
 
     NOTHING = "nothing is missing"
     OVER = f"it is over-constrained: first remove a dimension that {COMMAND} judge lists"
@@ -60,7 +60,7 @@ class WhyNot(Enum):
 
 @dataclass(frozen=True)
 class NoProposal:
-    """Nothing is proposed. verdict and is_placed: what the program says of the drawing. is_good:
+    """Nothing is proposed. verdict and is_placed: what the program says about the drawing. is_good:
     whether it is good as it stands."""
 
     why: WhyNot

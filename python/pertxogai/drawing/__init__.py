@@ -1,4 +1,4 @@
-"""A designer's words: shapes, constraints, and the text `part.drawing` that keeps them."""
+"""A designer's words: shapes, constraints, and their text, a `.drawing` file."""
 from typing import TYPE_CHECKING
 
 from pertxogai.drawing.changes import moved

@@ -17,9 +17,8 @@ JOINING = Coincident, Concentric, Perpendicular, PointOn, Tangent
 
 
 def moved(drawing: Drawing, before: Drawing) -> frozenset[str] | None:
-    """The shapes that are drawn elsewhere than in the drawing before, and those that have a point
-    of them or one that is told to be one with theirs; None where the shapes are others, or where
-    other points are told to be one."""
+    """The shapes whose drawn position differs from that in the drawing before, and those that share
+    a point with one of them by words; None if the shapes differ, or if other points coincide."""
     if len(drawing.geometry) != len(before.geometry) or _joining(drawing) != _joining(before):
         return None
     found = set()

@@ -22,7 +22,7 @@ from pertxogai.drawing.values.expression import Expression
 
 
 class Sense(Enum):
-    """Who says the sign of a value."""
+    """What decides the sign of a value."""
 
     DRAWN = "drawn"
     """The value is given without a sign, and the drawing decides, as on paper."""
@@ -32,7 +32,7 @@ class Sense(Enum):
 
 @dataclass(frozen=True)
 class Degrees:
-    """An angle in degrees, exactly as it was written."""
+    """An angle in degrees, exactly as written."""
 
     value: Fraction
 
@@ -46,7 +46,7 @@ class Ratio:
 
 
 AngleValue = Degrees | Ratio
-"""An angle as it is written."""
+"""An angle as written."""
 
 
 @dataclass(frozen=True)
@@ -60,7 +60,7 @@ class Coincident:
 
 @dataclass(frozen=True)
 class PointOn:
-    """A point lies on a line, or on a rim."""
+    """A point lies on a line, or on a circle or the circle of an arc."""
 
     point: PointRef
     curve: ShapeRef
@@ -69,7 +69,7 @@ class PointOn:
 
 @dataclass(frozen=True)
 class Horizontal:
-    """A segment, or the way between two points, runs along the x axis, either way."""
+    """A segment, or the way between two points, is parallel to the x axis, in either direction."""
 
     of: ShapeRef | Pair
     name: str | None = None
@@ -77,7 +77,7 @@ class Horizontal:
 
 @dataclass(frozen=True)
 class Vertical:
-    """A segment, or the way between two points, runs along the y axis, either way."""
+    """A segment, or the way between two points, is parallel to the y axis, in either direction."""
 
     of: ShapeRef | Pair
     name: str | None = None
@@ -85,7 +85,7 @@ class Vertical:
 
 @dataclass(frozen=True)
 class Parallel:
-    """Two lines have one direction, or opposite ones."""
+    """Two lines have the same direction, or opposite ones."""
 
     first: ShapeRef
     second: ShapeRef
@@ -94,8 +94,8 @@ class Parallel:
 
 @dataclass(frozen=True)
 class Perpendicular:
-    """Two lines are at a right angle, to either side. With `at` they also meet there: the
-    points of the pair, an end of each, are one."""
+    """Two lines are at a right angle, to either side. With `at` they also meet there: the points of
+    the pair, an end of each, coincide."""
 
     first: ShapeRef
     second: ShapeRef
@@ -105,7 +105,7 @@ class Perpendicular:
 
 @dataclass(frozen=True)
 class Collinear:
-    """Two lines are one line."""
+    """Two lines lie on one line."""
 
     first: ShapeRef
     second: ShapeRef
@@ -114,17 +114,16 @@ class Collinear:
 
 @dataclass(frozen=True)
 class AngleBetween:
-    """The angle from the first line to the second; `pertxogai.drawing.turn` says it as a turn.
+    """The angle from the first line to the second; `pertxogai.drawing.turn` gives it as a turn.
 
-    Sense.SIGNED: in degrees, turned counter-clockwise by the value (clockwise where it is
-    negative) the first's direction is the second's. A ratio is the tangent of that turn, which
-    fixes it up to a half turn; the drawing decides between the two.
+    Sense.SIGNED, in degrees: the first direction, turned counter-clockwise by the value (clockwise
+    if it is negative), is the second. As a ratio: the tangent of that turn, which fixes it up to a
+    half turn; the drawing decides between the two.
 
-    Sense.DRAWN: the value is as on paper, without a sign, and the drawing says to which side.
-    In degrees it is the angle, below 180, of the corner that the two segments share; where they
-    share none, the lines make this angle, and the drawing says which of the two angles of
-    crossing lines it is (60 and 120 degrees then mean the same). A ratio is always one of lines.
-    """
+    Sense.DRAWN: the value is as on paper, without a sign, and the drawing decides to which side.
+    In degrees it is the angle, below 180, of the corner that the two segments share. If they share
+    none, the lines make this angle, and the drawing decides which of the two angles of crossing
+    lines it is (60 and 120 degrees then mean the same). A ratio is always an angle of lines."""
 
     first: ShapeRef
     second: ShapeRef
@@ -160,11 +159,9 @@ class Distance:
 
 @dataclass(frozen=True)
 class XDistance:
-    """How far the second point lies from the first along the x axis.
-
-    Sense.SIGNED: x of the second less x of the first. Sense.DRAWN: not negative, and the
-    drawing says to which side.
-    """
+    """The distance from the first point to the second along the x axis. Sense.SIGNED: x of the
+    second minus x of the first. Sense.DRAWN: not negative, and the drawing decides to which
+    side."""
 
     first: PointRef
     second: PointRef
@@ -177,7 +174,7 @@ class XDistance:
 
 @dataclass(frozen=True)
 class YDistance:
-    """How far the second point lies from the first along the y axis; signs as for x."""
+    """The distance from the first point to the second along the y axis; signs as for x."""
 
     first: PointRef
     second: PointRef
@@ -190,7 +187,8 @@ class YDistance:
 
 @dataclass(frozen=True)
 class PointLineDistance:
-    """The distance of a point from a line, square to it, above 0; on either side."""
+    """The distance of a point from a line, measured perpendicular to it, above 0, on either
+    side."""
 
     point: PointRef
     line: ShapeRef
@@ -202,8 +200,8 @@ class PointLineDistance:
 
 @dataclass(frozen=True)
 class ParallelDistance:
-    """The distance of two parallel lines, above 0. It is one dimension: that the lines are
-    parallel has to be said by other constraints."""
+    """The distance of two parallel lines, above 0. It is one dimension: other constraints have to
+    make the lines parallel."""
 
     first: ShapeRef
     second: ShapeRef
@@ -215,7 +213,7 @@ class ParallelDistance:
 
 @dataclass(frozen=True)
 class Radius:
-    """The radius of a rim, above 0."""
+    """The radius of a circle or arc, above 0."""
 
     rim: ShapeRef
     value_um: Fraction
@@ -226,7 +224,7 @@ class Radius:
 
 @dataclass(frozen=True)
 class Diameter:
-    """The diameter of a rim, above 0."""
+    """The diameter of a circle or arc, above 0."""
 
     rim: ShapeRef
     value_um: Fraction
@@ -237,13 +235,10 @@ class Diameter:
 
 @dataclass(frozen=True)
 class Tangent:
-    """A line and a rim touch, or two rims do.
-
-    Without `at` the point of touch is anywhere; two rims touch from outside or the one inside
-    the other, as drawn (`pertxogai.drawing.touch`). With `at`, an end of the one and an end of
-    the other are one point, and the two touch there: the centres of the rims lie on the normal.
-    Two lines that touch are `Collinear`.
-    """
+    """A line and a circle or arc touch, or two circles or arcs do. Without `at` they may touch
+    anywhere; two circles touch from outside or one inside the other, as drawn
+    (`pertxogai.drawing.touch`). With `at`, an end of one and an end of the other coincide, and the
+    two touch there: the centres lie on the normal. Two lines that touch are `Collinear`."""
 
     first: ShapeRef
     second: ShapeRef
@@ -253,7 +248,7 @@ class Tangent:
 
 @dataclass(frozen=True)
 class Equal:
-    """Two segments are of one length, or two rims of one radius."""
+    """Two segments have the same length, or two circles or arcs the same radius."""
 
     first: ShapeRef
     second: ShapeRef
@@ -262,7 +257,7 @@ class Equal:
 
 @dataclass(frozen=True)
 class Concentric:
-    """Two rims have one centre."""
+    """Two circles or arcs have the same centre."""
 
     first: ShapeRef
     second: ShapeRef
@@ -271,7 +266,7 @@ class Concentric:
 
 @dataclass(frozen=True)
 class Symmetric:
-    """Two points are mirror images: to a line, or to a point, which is then their middle."""
+    """Two points are mirror images: in a line, or in a point, which is then their midpoint."""
 
     first: PointRef
     second: PointRef
@@ -281,7 +276,7 @@ class Symmetric:
 
 @dataclass(frozen=True)
 class Midpoint:
-    """A point is the middle of a segment."""
+    """A point is the midpoint of a segment."""
 
     point: PointRef
     segment: ShapeRef
@@ -303,11 +298,11 @@ Constraint = (
     | ParallelDistance | Radius | Diameter | Tangent | Equal | Concentric | Symmetric
     | Midpoint | Fixed
 )
-"""What holds shapes to each other, or to a place."""
+"""A constraint of a drawing: between shapes, or of one shape and a position."""
 
 Valued = (AngleBetween | Length | Distance | XDistance | YDistance | PointLineDistance
           | ParallelDistance | Radius | Diameter)
-"""The constraints that carry a value."""
+"""The constraints that have a value."""
 
 VALUED = (AngleBetween, Length, Distance, XDistance, YDistance, PointLineDistance,
           ParallelDistance, Radius, Diameter)

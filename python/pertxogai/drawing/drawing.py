@@ -22,12 +22,10 @@ from pertxogai.drawing.wording import words_of
 
 @dataclass(frozen=True)
 class Note:
-    """A note of the designer: the words behind a `#`.
-
-    `before` is the place, from 0, of the shape or constraint that it stands at, counted over all
-    shapes and then all constraints; their number is the end of the drawing. `beside` is true
-    where it stands in the line itself, and false where it has a line of its own above.
-    """
+    """A designer's note: the words after a `#`. `before` is the index, from 0, of the shape or
+    constraint at which it stands, counted over all shapes and then all constraints; their number is
+    the end of the drawing. `beside` is true if it stands in the line itself, and false if it has a
+    line of its own above."""
 
     text: str
     before: int
@@ -36,12 +34,10 @@ class Note:
 
 @dataclass(frozen=True)
 class Drawing:
-    """What a designer drew and asked for.
-
-    The origin, the x axis and the y axis are there from the start, and aren't among `geometry`.
-    Whatever made a drawing, `pertxogai.drawing.checked` says whether it is sound; the methods
-    here are for sound drawings and raise KeyError at a name that isn't there.
-    """
+    """A designer's drawing: its shapes and constraints. The origin, the x axis and the y axis
+    always exist, and aren't among `geometry`. `pertxogai.drawing.checked` says whether a drawing is
+    sound, however it was made; the methods here are for sound drawings and raise KeyError for an
+    unknown name."""
 
     geometry: tuple[Shape, ...] = ()
     constraints: tuple[Constraint, ...] = ()
@@ -56,23 +52,23 @@ class Drawing:
 
     @cached_property
     def meetings(self) -> Meetings:
-        """Which points are one."""
+        """Which points coincide."""
         return Meetings(self)
 
     def meeting_as(self, other: Drawing) -> Drawing:
-        """The same drawing. Which of its points are one is taken over from another, in which the
-        same points are one."""
+        """The same drawing, with the classes of coinciding points taken over from another drawing
+        in which the same points coincide."""
         found = copy(self)
         vars(found)["meetings"] = other.meetings.redrawn(found)
         return found
 
     @cached_property
     def wordings(self) -> tuple[str, ...]:
-        """The words of each constraint, without its name, in their order."""
+        """The words of each constraint, without its name, in order."""
         return tuple(map(words_of, self.constraints))
 
     def shape(self, name: str) -> Shape | Datum:
-        """The shape of that name, or that part of the datum; KeyError where there is none."""
+        """The shape of that name, or that part of the datum. Raises KeyError."""
         return self.scene.shape(name)
 
     def has(self, name: str) -> bool:
@@ -80,8 +76,8 @@ class Drawing:
         return self.scene.has(name)
 
     def called(self, number: int) -> str:
-        """What the constraint at place `number`, from 1, is called: by the name that its owner
-        gave it, else by its place and its words, as `constraint 7 (length Bottom 120)`."""
+        """The name of constraint `number`, from 1: the name that the designer gave it, else its
+        number and words, such as `constraint 7 (length Bottom 120)`."""
         name = self.constraints[number - 1].name
         return name or f"constraint {number} ({self.wordings[number - 1]})"
 
@@ -94,7 +90,7 @@ class Drawing:
         return self.scene.drawn_radius_um(name)
 
     def points(self) -> Iterator[PointRef]:
-        """Every point of every shape, in their order, without the datum's origin."""
+        """Every point of every shape, in order, without the origin."""
         for shape in self.geometry:
             yield from points_of(shape)
 

@@ -16,7 +16,7 @@ from pertxogai.drawing.places import Place
 from pertxogai.drawing.references import PointRef
 
 Anchor = Place | PointRef
-"""A drawn place of a shape's own, or the point of an earlier shape that it shares."""
+"""A drawn position, or the point of an earlier shape that the shape shares."""
 
 
 @dataclass(frozen=True)
@@ -53,12 +53,10 @@ class Circle:
 
 @dataclass(frozen=True)
 class Arc:
-    """A part of a circle round `centre`, counter-clockwise from `start` to `end`.
-
-    The drawn radius is the distance from the drawn centre to the drawn start; the drawn end
-    may lie off the circle, since it is rough. That both ends lie on the arc's circle is part
-    of what an arc is, and no constraint.
-    """
+    """An arc of a circle around `centre`, counter-clockwise from `start` to `end`. The drawn radius
+    is the distance from the drawn centre to the drawn start; the drawn end may be off the circle,
+    since it is rough. Both ends lie on the arc's circle by what an arc is; this takes no
+    constraint."""
 
     name: str
     centre: Anchor
@@ -69,12 +67,12 @@ class Arc:
 
 
 Shape = Point | Segment | Circle | Arc
-"""What is drawn, at places in micrometres."""
+"""A shape of a drawing: drawn positions in micrometres."""
 
 
 @dataclass(frozen=True)
 class Origin:
-    """The datum's point at 0 0."""
+    """The origin of the datum, at 0 0."""
 
 
 @dataclass(frozen=True)
@@ -86,4 +84,4 @@ class Axis:
 
 
 Datum = Origin | Axis
-"""What is always there: the origin, and the two axes through it."""
+"""The datum, which every drawing has: the origin, and the two axes through it."""

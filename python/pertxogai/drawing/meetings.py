@@ -27,9 +27,9 @@ class Drawn(Protocol):
 
 
 class Meetings:
-    """The classes of points that are one: by sharing, by `coincident`, by a `tangent` or
-    `perpendicular` at an end, and the centres of concentric rims. What follows from other
-    constraints isn't looked at."""
+    """The classes of points that coincide: because shapes share them, by `coincident`, by a
+    `tangent` or `perpendicular` at an end, and the centres of concentric circles. What follows from
+    other constraints isn't considered."""
 
     def __init__(self, drawing: Drawn) -> None:
         self._drawing = drawing
@@ -43,21 +43,23 @@ class Meetings:
                     if isinstance(each, PointOn)}
 
     def redrawn(self, drawing: Drawn) -> Meetings:
-        """Those of a drawing in which the same points are one, drawn elsewhere."""
+        """The classes of a drawing in which the same points coincide, with other drawn
+        positions."""
         other = copy(self)
         other._drawing, other._ahead = drawing, {}
         return other
 
     def count(self) -> int:
-        """How many points there are beside the origin, where those that are one count once."""
+        """The number of points beside the origin; points that coincide count once."""
         return len(self._rank) - 1 - len(self._classes.led())
 
     def led(self) -> Iterator[tuple[PointRef, PointRef]]:
-        """Each point that is one with an earlier one, with the first of these."""
+        """Each point that coincides with an earlier one, with the first of these."""
         return ((point, self.leader(point)) for point in self._classes.led())
 
     def leader(self, point: PointRef) -> PointRef:
-        """The first of the points that are one with this one; the origin comes before all."""
+        """The first of the points that coincide with this one; the origin comes before all
+        others."""
         return self._classes.leader(point)
 
     def _join(self, pair: Pair) -> None:
@@ -66,7 +68,7 @@ class Meetings:
         self._classes.join(first, second)
 
     def drawn(self, point: PointRef) -> Place:
-        """Where a point counts as drawn: where the first of those that are one with it is."""
+        """The drawn position that counts for a point: that of the first point of its class."""
         return self._drawing.drawn(self.leader(point))
 
     def is_ahead(self, distance: XDistance | YDistance) -> bool:
@@ -79,11 +81,11 @@ class Meetings:
         return self._ahead[key]
 
     def same(self, first: PointRef, second: PointRef) -> bool:
-        """Whether the two points are one."""
+        """Whether the two points coincide."""
         return self.leader(first) == self.leader(second)
 
     def corner(self, first: ShapeRef, second: ShapeRef) -> Pair | None:
-        """The ends of two segments or arcs that are one point: the first such, else None."""
+        """The ends of two segments or arcs that coincide: the first such pair, or None."""
         ends = (Which.END, Which.START)
         for one in (PointRef(first.name, which) for which in ends):
             for other in (PointRef(second.name, which) for which in ends):
@@ -92,8 +94,8 @@ class Meetings:
         return None
 
     def contact(self, tangent: Tangent) -> Pair | None:
-        """The point in which the two shapes of a tangent touch, as a point of each, where the
-        drawing's words tell one: an end of both, or an end of the one that lies on the other."""
+        """The point in which the two shapes of a tangent touch, as a point of each, if the
+        drawing's words name one: an end of both, or an end of one that lies on the other."""
         corner = tangent.at or self.corner(tangent.first, tangent.second)
         if corner is not None:
             return corner

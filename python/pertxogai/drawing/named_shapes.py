@@ -17,8 +17,8 @@ from pertxogai.drawing.values.table import Values
 
 
 class NamedShapes:
-    """Shapes by their names, and beside them `values`, whose names are others. All lookups of
-    shapes raise KeyError at a name that isn't there."""
+    """Shapes by their names, and `values`, which have other names. All lookups of shapes raise
+    KeyError for an unknown name."""
 
     def __init__(self, shapes: Iterable[Shape] = (), values: Values = Values()) -> None:
         self.values = values
@@ -29,11 +29,11 @@ class NamedShapes:
             self.add(shape)
 
     def add(self, shape: Shape) -> None:
-        """Takes one more shape, whose name is free."""
+        """Adds a shape, whose name must be free."""
         self._shapes[shape.name] = shape
 
     def names(self) -> tuple[str, ...]:
-        """All names, the datum's first."""
+        """All names, those of the datum first."""
         return tuple(self._shapes)
 
     def has(self, name: str) -> bool:
@@ -76,7 +76,7 @@ class NamedShapes:
 
 
 def points_of(shape: Shape) -> tuple[PointRef, ...]:
-    """The points that a shape has, in the order in which its line of text tells them."""
+    """The points of a shape, in the order of its line in the text."""
     return _points(shape.name, _WHICH[type(shape)])
 
 
@@ -102,7 +102,7 @@ _WHICH: dict[type[Shape], tuple[Which, ...]] = {
 
 
 def spot_of(shape: Shape | Datum, which: Which) -> Anchor:
-    """The spot of one point of a shape; KeyError where the shape has no such point."""
+    """The anchor of one point of a shape. Raises KeyError if the shape has no such point."""
     match shape:
         case Origin() if which is Which.AT:
             return _AT_ORIGIN

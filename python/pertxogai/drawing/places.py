@@ -19,22 +19,19 @@ NM_PER_UM = 1000
 
 @dataclass(frozen=True)
 class Place:
-    """A place on the drawing, x to the right and y up, in micrometres from the origin."""
+    """A position on the drawing, x to the right and y up, in micrometres from the origin."""
 
     x_um: Fraction
     y_um: Fraction
 
     def way_to(self, other: Place) -> tuple[Fraction, Fraction]:
-        """The way to another place by its components, in micrometres."""
+        """The components of the way to another position, in micrometres."""
         return other.x_um - self.x_um, other.y_um - self.y_um
 
 
 def um_of_mm(value: str | int | float | Decimal | Fraction) -> Fraction:
-    """Micrometres of a number of millimetres, exactly.
-
-    A float counts as the shortest decimal that reads as it, so 0.1 is a tenth.
-    Raises ValueError where the value is no finite number.
-    """
+    """Micrometres of a number of millimetres, exactly. A float counts as the shortest decimal that
+    reads as it, so 0.1 is a tenth. Raises ValueError if the value isn't a finite number."""
     if isinstance(value, (int, Fraction)):
         return Fraction(value) * UM_PER_MM
     try:
@@ -46,5 +43,5 @@ def um_of_mm(value: str | int | float | Decimal | Fraction) -> Fraction:
 
 def place_mm(x: str | int | float | Decimal | Fraction,
              y: str | int | float | Decimal | Fraction) -> Place:
-    """The place at x, y in millimetres; raises ValueError as `um_of_mm` does."""
+    """The position at x, y in millimetres. Raises ValueError as `um_of_mm` does."""
     return Place(um_of_mm(x), um_of_mm(y))

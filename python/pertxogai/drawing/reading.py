@@ -48,7 +48,7 @@ MOST_LETTERS = 1_000
 
 
 def read_drawing(text: str) -> Drawing:
-    """The drawing that a text says; raises DrawingRefusal at its first faulty line."""
+    """Reads a drawing from its text. Raises DrawingRefusal at its first faulty line."""
     if len(text.encode("utf-8", "surrogatepass")) > MOST_BYTES:
         raise DrawingRefusal(0, "", f"has more than {MOST_BYTES} bytes: split the drawing")
     lines = [line.removesuffix("\r") for line in text.split("\n")]

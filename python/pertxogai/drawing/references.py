@@ -10,11 +10,11 @@ class Which(Enum):
     """Which point of a shape is meant; the values are the words of the text."""
 
     AT = "at"
-    """The place of a point, and of the origin."""
+    """The position of a point, and of the origin."""
     START = "start"
-    """Where a segment starts, or an arc, which runs counter-clockwise."""
+    """The start of a segment, or of an arc, which runs counter-clockwise."""
     END = "end"
-    """Where a segment or an arc ends."""
+    """The end of a segment or an arc."""
     CENTRE = "centre"
     """The centre of a circle or an arc."""
 
@@ -34,7 +34,7 @@ class PointRef:
 
 @dataclass(frozen=True)
 class ShapeRef:
-    """A whole shape: a segment (or axis) as a line, a circle or an arc as its rim."""
+    """A whole shape: a segment or axis as a line, a circle or an arc as its circle."""
 
     name: str
 
@@ -54,13 +54,13 @@ class Pair:
 
 
 ORIGIN = PointRef("Origin")
-"""The datum's point, at 0 0."""
+"""The origin of the datum, at 0 0."""
 
 X_AXIS = ShapeRef("XAxis")
-"""The datum's line through the origin to the right."""
+"""The x axis of the datum, through the origin to the right."""
 
 Y_AXIS = ShapeRef("YAxis")
-"""The datum's line through the origin upwards."""
+"""The y axis of the datum, through the origin upwards."""
 
 DATUM_NAMES = frozenset({ORIGIN.shape, X_AXIS.name, Y_AXIS.name})
 """The names that no shape may have."""

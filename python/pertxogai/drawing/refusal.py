@@ -4,11 +4,8 @@ from __future__ import annotations
 
 
 class WordFault(Exception):
-    """A word of a shape or a constraint is at fault.
-
-    `word` is the word as it stands, `what` says what is wrong with it and what to write instead,
-    in one line without the word itself.
-    """
+    """A word of a shape or a constraint is at fault. `word` is the word as it stands; `what` says
+    what is wrong with it and what to write instead, in one line without the word itself."""
 
     def __init__(self, word: str, what: str) -> None:
         super().__init__(f"'{word}' {what}")
@@ -17,9 +14,9 @@ class WordFault(Exception):
 
 
 class DrawingRefusal(Exception):
-    """A text that is no drawing. `line` counts from 1, and 0 stands for the whole text; `word`
-    is the word at fault as it stands there, `what` what is wrong and what to write instead. As
-    text it is one line."""
+    """A text that isn't a drawing. `line` counts from 1, and 0 stands for the whole text. `word` is
+    the word at fault, as it stands there; `what` says what is wrong and what to write instead.
+    `str` of it is one line."""
 
     def __init__(self, line: int, word: str, what: str) -> None:
         super().__init__(f"line {line}: '{word}' {what}" if line else f"the text {what}")
@@ -29,10 +26,8 @@ class DrawingRefusal(Exception):
 
 
 class DrawingUnsound(Exception):
-    """A drawing that was made otherwise than from text, and says what can't be.
-
-    `where` is the name of the shape, or what the constraint is called; `word` and `what` are as
-    in a refusal."""
+    """A drawing that wasn't made from text has a shape or constraint that isn't valid. `where` is
+    the name of the shape or constraint; `word` and `what` are those of DrawingRefusal."""
 
     def __init__(self, where: str, word: str, what: str) -> None:
         super().__init__(f"{where}: '{word}' {what}")

@@ -23,8 +23,8 @@ Way = tuple[Fraction, Fraction]
 
 @dataclass(frozen=True)
 class Slope:
-    """A turn by its tangent: of at most a right angle with the tangent p/q, to the left where p
-    is above 0, and half round from there where `backward` is set. q isn't negative."""
+    """A turn by its tangent: by at most a right angle with the tangent p/q, to the left if p is
+    above 0, and by another half turn if `backward` is set. q isn't negative."""
 
     p: int
     q: int
@@ -37,7 +37,7 @@ or by its tangent."""
 
 
 class Touch(Enum):
-    """How two rims touch."""
+    """How two circles touch."""
 
     OUTSIDE = "outside"
     INSIDE = "inside"
@@ -54,7 +54,7 @@ def way(drawing: Drawing, line: ShapeRef) -> Way:
 
 
 def turn(drawing: Drawing, angle: AngleBetween) -> Turn:
-    """The turn that an angle asks for, from the first line's direction to the second's."""
+    """The turn of an angle, from the first line's direction to the second's."""
     first, second = way(drawing, angle.first), way(drawing, angle.second)
     left, ahead = cross(first, second) >= 0, dot(first, second) >= 0
     match angle.value, angle.sense:
@@ -82,15 +82,16 @@ def _drawn_degrees(drawing: Drawing, angle: AngleBetween, value: Fraction, left:
 
 
 def run_um(drawing: Drawing, distance: XDistance | YDistance) -> Fraction:
-    """The signed x or y distance, second less first, in micrometres."""
+    """The signed x or y distance, second minus first, in micrometres."""
     if distance.sense is Sense.SIGNED:
         return distance.value_um
     return distance.value_um if drawing.meetings.is_ahead(distance) else -distance.value_um
 
 
 def touch(drawing: Drawing, tangent: Tangent) -> Touch:
-    """How the two rims of a tangent touch: inside where the drawn centres are nearer to the
-    difference of the drawn radii than to their sum, that is nearer than the greater radius."""
+    """How the two circles of a tangent touch: inside if the distance of the drawn centres is nearer
+    to the difference of the drawn radii than to their sum, that is, less than the greater
+    radius."""
     first, second = (drawing.meetings.drawn(PointRef(each.name, Which.CENTRE))
                      for each in (tangent.first, tangent.second))
     apart = first.way_to(second)

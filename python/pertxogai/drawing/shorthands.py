@@ -15,16 +15,16 @@ from pertxogai.drawing.refusal import WordFault
 
 @dataclass(frozen=True)
 class Expansion:
-    """What one line of a text says, or one call here."""
+    """The shapes and constraints that one line of a text, or one call here, makes."""
 
     shapes: tuple[Shape, ...] = ()
     constraints: tuple[Constraint, ...] = ()
 
 
 def polyline(name: str, corners: tuple[Anchor, ...], closed: bool = False) -> Expansion:
-    """Segments NAME1, NAME2, .. from corner to corner, each starting where the last ended;
-    `closed` adds the one from the last corner back to the first. Raises WordFault where there
-    are fewer than two corners, or than three if it is closed."""
+    """Segments NAME1, NAME2, .. from corner to corner, each starting where the last ended; `closed`
+    adds the one from the last corner back to the first. Raises WordFault for fewer than two
+    corners, or than three if it is closed."""
     if len(corners) < (3 if closed else 2):
         raise WordFault(name, "has too few corners: write two at least, or three and `closed`")
     sides = len(corners) if closed else len(corners) - 1
@@ -32,9 +32,10 @@ def polyline(name: str, corners: tuple[Anchor, ...], closed: bool = False) -> Ex
 
 
 def rectangle(scene: NamedShapes, name: str, corner: Anchor, opposite: Anchor) -> Expansion:
-    """Four segments NAMEBottom, NAMERight, NAMETop and NAMELeft, counter-clockwise round two
-    opposite corners, with two horizontal and two vertical constraints. The scene tells where
-    corners that are points are drawn. Raises WordFault where they are drawn on one level."""
+    """Four segments NAMEBottom, NAMERight, NAMETop and NAMELeft, counter-clockwise through two
+    opposite corners, with two horizontal and two vertical constraints. `scene` has the drawn
+    positions of corners that are points. Raises WordFault if the corners are drawn at the same
+    height."""
     bottom, right, top, left = (f"{name}{side}" for side in ("Bottom", "Right", "Top", "Left"))
     sides = tuple(_chain([bottom, right, top, left], _corners(scene, name, corner, opposite)))
     return Expansion(sides, (Horizontal(ShapeRef(bottom)), Vertical(ShapeRef(right)),

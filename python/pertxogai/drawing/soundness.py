@@ -20,16 +20,16 @@ from pertxogai.drawing.values.table import Values, check_value_name
 
 
 def faults(drawing: Drawing, sound: Drawing = Drawing()) -> tuple[DrawingUnsound, ...]:
-    """What is unsound about a drawing, one fault for each value, shape or constraint at most.
-
-    Shapes are looked at only where all values are sound, and constraints where all shapes are
-    too. Of a `sound` drawing that it was made from, what it has kept isn't looked at again."""
+    """What is unsound about a drawing, at most one fault for each value, shape or constraint.
+    Shapes are examined only if all values are sound, and constraints only if all shapes are.
+    `sound`: a sound drawing from which this one was made; what is unchanged isn't examined
+    again."""
     return (tuple(_value_faults(drawing, sound)) or tuple(_shape_faults(drawing, sound))
             or tuple(_constraint_faults(drawing, sound)) + tuple(_check_faults(drawing)))
 
 
 def checked(drawing: Drawing, sound: Drawing = Drawing()) -> Drawing:
-    """The drawing itself; raises its first DrawingUnsound. `sound` as for `faults`."""
+    """The drawing itself; raises its first DrawingUnsound. `sound`: as for `faults`."""
     for fault in faults(drawing, sound):
         raise fault
     return drawing
@@ -92,8 +92,8 @@ def _kinds(drawing: Drawing) -> list[tuple[str, type[Shape]]]:
 
 
 def ends_made_one(drawing: Drawing) -> tuple[int, str] | None:
-    """The number of the first constraint that leaves both ends of a segment or an arc one point,
-    with the shape's name; None where none does."""
+    """The number of the first constraint by which both ends of a segment or an arc coincide, with
+    the shape's name; None if there is none."""
     said = drawing.constraints
     if _closed_shape(drawing) is None:
         return None

@@ -106,8 +106,7 @@ def _toleranced(constraint: Valued) -> str:
 
 
 def value_text(constraint: Valued) -> str:
-    """The value of a constraint as it is written, which stands last in its line but for its
-    tolerance."""
+    """The value of a constraint as written, which is last in its line, before a tolerance."""
     if constraint.expression is not None:
         return constraint.expression.text
     match constraint:
@@ -121,7 +120,7 @@ def value_text(constraint: Valued) -> str:
 
 
 def asked_of(constraint: Valued) -> tuple[str, ...]:
-    """The words of a constraint in front of its value."""
+    """The words of a constraint before its value."""
     return tuple(words_of(constraint).removesuffix(_toleranced(constraint)).split())
 
 

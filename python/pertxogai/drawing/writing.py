@@ -11,7 +11,7 @@ HEADER = "drawing 1"
 
 def write_drawing(drawing: Drawing) -> str:
     """The text of a sound drawing, which reads as the same drawing: all values, tolerances and
-    checks, then all shapes, then all constraints, a line each, with the notes where they stood."""
+    checks, then all shapes, then all constraints, one in a line, with the notes in their places."""
     head = [*(each.line() for each in drawing.values), *drawing.tolerancing.lines()]
     said = list(head)
     said.extend(map(line_of, (*drawing.geometry, *drawing.constraints)))

@@ -1,8 +1,6 @@
-"""Sketches in files of other programs: FreeCAD's, SolveSpace's, DXF, and the two texts.
-
-A path goes in; drawings or sketch texts come out, with what of the file a drawing can't say. What
-is judged good goes back into a copy of a FreeCAD or SolveSpace file.
-"""
+"""Sketches in files of other programs: FreeCAD, SolveSpace, DXF, and the two texts. A path goes in;
+drawings or sketch texts come out, with what of the file the drawing can't express. A good result
+goes back into a copy of a FreeCAD or SolveSpace file."""
 from pertxogai.files.contents import FileRefusal, FileSketch, LeftOut
 from pertxogai.files.kinds import Input, InputRefused, kind_of, read_inputs
 

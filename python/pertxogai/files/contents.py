@@ -19,8 +19,8 @@ class NotSayable(Exception):
 
 @dataclass(frozen=True)
 class LeftOut:
-    """A shape or a constraint of the file that the drawing doesn't have, and why. number: of a
-    constraint its number in the file, from 1, where the file numbers them."""
+    """A shape or a constraint of the file that the drawing doesn't have, and why. number: the
+    number of the constraint in the file, from 1, if the file numbers them."""
 
     what: str
     why: str
@@ -52,12 +52,9 @@ class NotDriving:
 
 @dataclass(frozen=True)
 class FileSketch:
-    """A sketch of a file.
-
-    `name` is the file's own for it, `label` what its designer calls it. `numbers` has for each
-    constraint of the drawing, in order, its number in the file, from 1: a constraint of the file
-    may be said by several of the drawing.
-    """
+    """A sketch of a file. `name` is its name in the file, `label` the designer's name for it.
+    `numbers` has for each constraint of the drawing, in order, its number in the file, from 1;
+    several constraints of the drawing may stand for one of the file."""
 
     name: str
     label: str

@@ -57,7 +57,7 @@ class Kind:
 
 
 def kind_of(path: Path) -> Kind | None:
-    """What kind of file it is by its name; None where it isn't known."""
+    """The kind of a file, by its name; None if it isn't known."""
     return next((it for it in KINDS if it.suffix.lower() == path.suffix.lower()), None)
 
 

@@ -15,6 +15,6 @@ __all__ = ["Answer", "CheckedFit", "Fit", "NoFit", "Range", "Share", "UnknownFit
 
 
 def fit(drawing: Drawing, program: Solver, limit: Limit = Limit()) -> Fit | NoFit:
-    """What comes of the checks of a sound drawing; or why nothing is known. Raises ProgramError,
-    DrawingRefused, Refusal and NotHeld as `judge` does."""
+    """The results of the checks of a sound drawing, or why nothing is known. Raises the exceptions
+    of `judge`."""
     return fit_of(drawing, program, limit)

@@ -46,8 +46,8 @@ class Range:
     greatest: int
 
     def lies_within(self, low: Fraction | None, high: Fraction | None) -> bool:
-        """Whether all of it lies between two limits, in millionths; what is beyond one by the
-        rounding of places alone lies at the limit."""
+        """Whether all of it lies between two limits, in millionths; what is beyond a limit only by
+        the rounding of positions counts as at the limit."""
         return ((low is None or self.least >= low - NOISE)
                 and (high is None or self.greatest <= high + NOISE))
 
@@ -132,7 +132,7 @@ class Fit:
 
     @property
     def drawing(self) -> Drawing:
-        """What is drawn."""
+        """The drawing."""
         return self.good.drawing
 
     @property

@@ -1,9 +1,7 @@
-"""What a designer is told of a drawing, and who scripts CAD of a sketch.
-
-A drawing (or a sketch) and a `Solver` go in; a judgement comes out: the program's verdict with the
-drawing's names, where it is placed, what is measured there, and what a person asks next. `good`
-says by a type whether a part may be cut by it.
-"""
+"""The judgement on a drawing or sketch, for designers and for scripts. A drawing (or a sketch) and
+a `Solver` go in; a judgement comes out: the program's verdict in the drawing's names, the solved
+positions, each constraint measured there, and what to do. `good` enforces by a type whether a part
+may be cut by it."""
 from typing import TYPE_CHECKING
 
 if TYPE_CHECKING:

@@ -18,7 +18,7 @@ from pertxogai.judging.rims import Rim, Round
 
 
 class DepartureKind(Enum):
-    """What has become of a shape."""
+    """How a placed shape differs from the drawn one."""
 
     TURNED = "runs the other way than it is drawn"
     OTHER_SIDE = "turns the other way than it is drawn"
@@ -28,7 +28,7 @@ class DepartureKind(Enum):
 
 @dataclass(frozen=True)
 class Departure:
-    """One departure, and the edges that it is about."""
+    """One departure from the drawn orientation, and the edges that it concerns."""
 
     departure: DepartureKind
     shapes: tuple[str, ...]

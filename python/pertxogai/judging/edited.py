@@ -40,7 +40,7 @@ class EditedDrawing:
 
     @property
     def drawing(self) -> Drawing:
-        """What is drawn."""
+        """The drawing."""
         return self.analysis.drawing
 
     @cached_property

@@ -78,7 +78,7 @@ class Plane(Generic[N]):
 
     @property
     def drawing(self) -> Drawing:
-        """What is drawn."""
+        """The drawing."""
         return self.unknowns.drawing
 
     @cached_property

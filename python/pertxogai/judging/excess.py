@@ -21,7 +21,7 @@ CHOICES = 4
 
 
 class Rest(Enum):
-    """What the program says of the others, as it is told above what is left out."""
+    """What the program says about the rest, without what is left out."""
 
     PLACED = "Without these the others can be placed:"
     NO_PLACES = "Without these the others are fully constrained, but can't be placed:"
@@ -30,12 +30,11 @@ class Rest(Enum):
 
 @dataclass(frozen=True)
 class Excess:
-    """A dimension that is left out, by its place and its name.
-
-    conflicts: whether it contradicts the others, else it repeats them within the limit; None where
-    that isn't measured. off_um: what the others give, less what it says; None where the line that
-    is left out isn't just what it says. in_part: whether another line that it says is kept, so
-    that it may be needed all the same."""
+    """A dimension that is left out, by its number and name. conflicts: whether it contradicts the
+    others; otherwise it is redundant within the limit; None if that isn't measured. off_um: what
+    the others give minus its value; None if the line that is left out isn't just this dimension.
+    in_part: whether another line of this dimension is kept, so that it may be needed all the
+    same."""
 
     number: int
     name: str
@@ -46,8 +45,8 @@ class Excess:
 
 @dataclass(frozen=True)
 class TooMuch:
-    """All that is left out of a drawing that is over, by the dimensions' places, and what becomes
-    of the others. helps: how many lines are left out that no dimension says."""
+    """Everything that is left out of an over-constrained drawing, by the numbers of the dimensions,
+    and what the rest is. helps: how many lines are left out that belong to no dimension."""
 
     dimensions: tuple[Excess, ...]
     rest: Rest = Rest.PLACED
@@ -56,11 +55,11 @@ class TooMuch:
 
 def too_much(names: Names, program: Solver, dispensable: Collection[int] = (),
              limit: Limit = Limit()) -> TooMuch:
-    """What is left out of a drawing: the last dimensions without which the others have places;
-    where no such are found without more lines of help, the last ones. `dispensable`: the places
-    of dimensions of which each may go by itself, so that it isn't needed in part where it is the
-    only one that is left out; several needn't go together. What is off within the limit repeats the
-    others. Raises ProgramError."""
+    """What is left out of a drawing: the last dimensions without which the rest can be placed; if
+    no such are found without more auxiliary lines, the last ones. dispensable: the numbers of the
+    dimensions that may be removed each by itself, so that none is needed in part if it is the only
+    one that is left out; several of them may not be removable together. A dimension whose deviation
+    is within the limit is redundant. Raises ProgramError."""
     first = found = _choice(names, program, dispensable, frozenset(), limit)
     kept: frozenset[int] = frozenset()
     for _ in range(CHOICES):

@@ -32,7 +32,7 @@ class Unit(Enum):
 
 @dataclass(frozen=True)
 class Amount:
-    """The number that has no root, or by which can't be divided: between two ends."""
+    """The radicand or divisor of a failed step: between two ends."""
 
     low: Fraction
     high: Fraction
@@ -41,9 +41,9 @@ class Amount:
 
 @dataclass(frozen=True)
 class Failure:
-    """The program's fault, whole, with the designer's names: the dimensions beneath the step or
-    the constraint that it names, the points and segments at which the step meets, and the number
-    that failed."""
+    """The program's fault, complete, in the designer's names: the dimensions behind the step or the
+    constraint that it names, the points and segments at which the step meets, and the number that
+    failed."""
 
     fault: Fault
     text: str

@@ -37,7 +37,7 @@ class Lack(Enum):
     """Why a judgement isn't good; the values are for JSON."""
 
     VERDICT = "verdict"
-    """The program says another verdict than well."""
+    """The program's verdict isn't `well`."""
     NO_PLACES = "no places"
     """It is well, and has no places."""
     EMPTY = "empty"
@@ -79,13 +79,13 @@ class NotGood(Exception):
 
 @dataclass(frozen=True)
 class GoodJudgement:
-    """A judgement on a drawing that is good: the program says well and places it, every point lies
-    where that was printed, every constraint of the designer and all that the shapes imply is
-    measured within the limit, nothing of the file is left out, every size is told, by rank no
-    dimension is known to be missing (the rank of a large drawing isn't counted), and no piece
-    of it, as `judging.mirrored` tells them apart, has each corner turned over, unless words tell
-    one. A part of an outline that is turned over between two of its corners isn't found. Making one
-    of anything else raises NotGood."""
+    """A good judgement on a drawing. The program says `well` and places it; every point lies where
+    the program printed it; every constraint of the designer, and everything that the shapes imply,
+    is measured within the limit; nothing of the file is left out; every size is given; by rank no
+    dimension is known to be missing (the rank of a large drawing isn't counted); and no figure of
+    it, as `judging.mirrored` distinguishes them, is mirrored at each of its corners, unless the
+    constraints determine one. A part of an outline that is mirrored between two of its corners
+    isn't found. Making one of anything else raises NotGood."""
 
     judged: JudgedDrawing
 
@@ -96,21 +96,22 @@ class GoodJudgement:
 
     @property
     def drawing(self) -> Drawing:
-        """What is drawn."""
+        """The drawing that was judged."""
         return self.judged.drawing
 
     @property
     def solution(self) -> Solution:
-        """Where it is placed, in whole nanometres in the datum's frame."""
+        """The solved position, in whole nanometres in the coordinates of the datum."""
         assert self.judged.judgement.solution is not None
         return self.judged.judgement.solution
 
 
 @dataclass(frozen=True)
 class GoodSketch:
-    """A sketch of the language that is good: the program says well of so many elements and
-    constraints, and has printed a place for each element, on which every constraint is measured
-    within the limit, as the program says too. Making one of anything else raises NotGood."""
+    """A good judgement on a sketch of the language. The program says `well`, with these numbers of
+    elements and constraints; it printed a position for each element; and every constraint is
+    measured there within the limit, as the program says too. Making one of anything else raises
+    NotGood."""
 
     judged: JudgedSketch
 
@@ -121,13 +122,13 @@ class GoodSketch:
 
     @property
     def solved(self) -> Solved:
-        """Where it is placed."""
+        """The solved position."""
         assert self.judged.solved is not None
         return self.judged.solved
 
 
 def good_of(judged: JudgedDrawing) -> GoodJudgement | NotGood:
-    """The judgement as a good one, or why it isn't."""
+    """The judgement as a good one, or why it isn't good."""
     try:
         return GoodJudgement(judged)
     except NotGood as why:
@@ -135,7 +136,7 @@ def good_of(judged: JudgedDrawing) -> GoodJudgement | NotGood:
 
 
 def good_sketch_of(judged: JudgedSketch) -> GoodSketch | NotGood:
-    """The judged sketch as a good one, or why it isn't."""
+    """The judged sketch as a good one, or why it isn't good."""
     try:
         return GoodSketch(judged)
     except NotGood as why:
@@ -143,7 +144,7 @@ def good_sketch_of(judged: JudgedSketch) -> GoodSketch | NotGood:
 
 
 def reasons_against(judged: JudgedDrawing | JudgedSketch) -> tuple[Reason, ...]:
-    """Why a judgement isn't good; nothing where it is."""
+    """Why a judgement isn't good; nothing if it is."""
     found = good_of(judged) if isinstance(judged, JudgedDrawing) else good_sketch_of(judged)
     return found.reasons if isinstance(found, NotGood) else ()
 

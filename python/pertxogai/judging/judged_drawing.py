@@ -20,13 +20,13 @@ if TYPE_CHECKING:  # It is imported where the stored places are measured.
 
 @dataclass(frozen=True)
 class JudgedDrawing:
-    """A drawing, the judgement on it, what of its file the drawing can't say, which of the file's
-    constraints only measure or are switched off, and within what each constraint has to hold;
-    where it was searched, what was found, else why it wasn't, if it should have been; lines with
-    which it would be well, and the relations that it nearly has, where these were asked for.
-    stored: how far off the places are that it was stored with, where that was asked for. short: by
-    how much the dimensions beneath a fault miss each other, where that is known. Whether it is good
-    is for `pertxogai.judging.good` to say."""
+    """A drawing of a file, and the judgement on it. not_drawn: what of the file the drawing can't
+    express. aside: the constraints of the file that only measure, or are switched off. limit: the
+    limit for each constraint. finding: the result of the search; not_searched: why there is none,
+    if there should be. proposed: lines that would make it fully constrained. nearly: the relations
+    that it nearly has. stored: how far the positions stored in the file are off. short: by how much
+    the dimensions behind a fault fail to meet. The last four are empty if they weren't asked for or
+    aren't known. `pertxogai.judging.good` says whether it is good."""
 
     name: str
     drawing: Drawing
@@ -42,24 +42,23 @@ class JudgedDrawing:
     short: str = ""
 
     def left_out(self) -> tuple[str, ...]:
-        """What the file has and the drawing can't say, and what of the drawing can't be spelled."""
+        """What of the file the drawing can't express, and what of the drawing can't be encoded."""
         return self.not_drawn + self.judgement.left_out
 
     def places(self) -> Solution | None:
-        """Where it lies: as the judgement has it, else as it was found."""
+        """Its positions: those of the judgement, else those that the search found."""
         if self.judgement.solution is not None or self.finding is None:
             return self.judgement.solution
         return self.finding.solution
 
     def places_by(self) -> PlacesBy | None:
-        """Who says so."""
+        """Where these positions come from."""
         if self.judgement.solution is not None:
             return PlacesBy.PROGRAM
         return self.finding.places_by if self.finding else None
 
     def warnings(self) -> tuple[Departure, ...]:
-        """What lies otherwise than it is drawn, where it lies: as the judgement has it, else as it
-        was found."""
+        """What is placed in another orientation than drawn, at these positions."""
         if self.judgement.solution is not None or not self.finding or not self.finding.solution:
             return self.judgement.warnings
         asked = self.judgement.asked
@@ -67,7 +66,8 @@ class JudgedDrawing:
         return warnings(self.drawing, self.finding.solution, is_free)
 
     def worst(self) -> tuple[Deviation, ...]:
-        """The greatest deviation in nm and that in ppb, where something was measured so."""
+        """The greatest deviation in nm and the greatest in ppb, if something was measured in that
+        unit."""
         deviations = self.judgement.deviations
         if self.judgement.solution is None and self.finding is not None:
             deviations = self.finding.deviations
@@ -77,7 +77,7 @@ class JudgedDrawing:
 
 @dataclass(frozen=True)
 class CountedDrawing(JudgedDrawing):
-    """A judged drawing of which the program's parts and counts are known too, so that all can be
-    told of it."""
+    """A judged drawing with the program's rigid clusters and counts, from which everything about it
+    can be reported."""
 
     judgement: CountedJudgement

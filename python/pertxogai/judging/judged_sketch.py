@@ -20,12 +20,13 @@ from pertxogai.program.reports.why import WORK, work_of
 
 @dataclass(frozen=True)
 class JudgedSketch:
-    """A sketch and what the program answers to it: parts and verdict; places or a fault where
-    it is well; the spare constraints where it is over, and what is left out of each part that is,
-    with how far that is off; and the parts, each by itself, where it isn't well. limit: within
-    what each constraint has to hold, as the program was asked. tried: where a step fails, what
-    came of other choices of the steps beneath. why: against which others each that is left out is
-    too many; None where it wasn't asked. Whether it is good is for `judging.good` to say."""
+    """A sketch, and the program's answers about it: the verdict and the clusters; if it is fully
+    constrained, positions or a fault; if it is over-constrained, the removable constraints, and
+    what `excess` leaves out of each cluster, with deviations; if it isn't fully constrained, each
+    cluster by itself. limit: the limit for each constraint, with which the program was asked.
+    tried: if a step fails, what other choices of the steps before it give. why: for each constraint
+    that is left out, the others that it follows from; None if that wasn't asked. `judging.good`
+    says whether it is good."""
 
     name: str
     sketch: Sketch
@@ -41,13 +42,13 @@ class JudgedSketch:
     why: WhyReport | None = None
 
     def groups(self) -> dict[int, tuple[int, ...]]:
-        """The constraints from which each that is left out follows, by their numbers."""
+        """The constraints from which each one that is left out follows, by their numbers."""
         parts = self.why.parts if self.why else ()
         return {each.number: each.because for part in parts for each in part.left_out}
 
     def picture(self, as_drawn: bool = False) -> Any:
-        """As `picture_of_judged` of `pertxogai.output`, which is to be called: this goes with the
-        next release, and warns."""
+        """Deprecated: call `picture_of_judged` of `pertxogai.output`. This method warns, and is
+        removed in the next release."""
         return _former.picture(self, as_drawn)
 
     def _repr_svg_(self) -> str:
@@ -57,8 +58,7 @@ class JudgedSketch:
 def judge_sketch(
     name: str, given: Sketch | str, asks: Solver, limit: Limit = Limit()
 ) -> JudgedSketch:
-    """Asks the program what there is to say of a sketch, or of a text. Raises TextRefused and
-    ProgramError."""
+    """Judges a sketch, or the text of one. Raises TextRefused and ProgramError."""
     text = given if isinstance(given, str) else given.text()
     check = read_check(_output_of(name, "check", text, asks))
     try:
@@ -115,8 +115,8 @@ def _done_answer(name: str, answer: Answer, text: str) -> Answer:
 
 
 def concerned(judged: JudgedSketch) -> tuple[Constraint, ...]:
-    """The constraints that a fault is about: that which is beyond its limit, or all that its
-    step has joined."""
+    """The constraints that a fault is about: the one beyond its limit, or all that the step has
+    joined."""
     fault, constraints = judged.fault, judged.sketch.constraints
     if isinstance(fault, ConstraintFault):
         return (constraints[fault.constraint - 1],)

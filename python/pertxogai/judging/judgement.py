@@ -40,8 +40,8 @@ FINE_NM = 2
 
 @dataclass(frozen=True)
 class LeftOut:
-    """What couldn't be spelled, by its name, and how far it is off on the places of the rest;
-    None where there are no places, or an arc's ends are meant."""
+    """A constraint that couldn't be encoded, by its name, and its deviation at the positions of the
+    rest; None if there are no positions, or for the ends of an arc."""
 
     name: str
     owner: Owner
@@ -55,20 +55,17 @@ class LeftOut:
         return self.off is not None and self.off.amount <= self.limit.amount
 
     def repeats(self) -> bool:
-        """Whether it says what the rest says, so that it may go. What holds and doesn't say that is
-        met only as the whole was laid."""
+        """Whether it is redundant, and so removable. If it holds but isn't redundant, it is met
+        only by the position of the whole."""
         return self.holds() and self.is_spare
 
 
 @dataclass(frozen=True)
 class Judgement:
-    """The program's verdict on a drawing and all that goes with it, as `judge_at_once` asks it.
-
-    style: how it was spelled. state: what becomes of it by the verdict; of what is over what may
-    go, untried. place: by boxes or by points. left_out: constraints that couldn't be spelled.
-    frozen: those left to their drawn values, to be measured. rounded: those of which the value had
-    to be rounded. grown: those told by a value that was read off a placed part. repeats: those that
-    tell of one point that it is itself. limit: within what each constraint has to hold."""
+    """The program's verdict on a drawing, and what `judge_at_once` finds with it. asked: the
+    encoding, and the program's answer to it. names: the drawing's names. state: the result, by the
+    verdict; for an over-constrained drawing the removable dimensions, not yet tried. limit: the
+    limit for each constraint."""
 
     verdict: Verdict
     asked: Trial
@@ -82,81 +79,84 @@ class Judgement:
 
     @property
     def measurement(self) -> Measurement | None:
-        """Where it is placed, and how far each constraint is off there; None where it isn't."""
+        """The solved position, and the deviation of each constraint there; None if there is
+        none."""
         return self._placed.measurement if self._placed else None
 
     @property
     def solution(self) -> Solution | None:
-        """Where it is placed, in the datum's frame, in whole nanometres; None where it isn't."""
+        """The solved position, in the coordinates of the datum, in whole nanometres; None if there
+        is none."""
         return self._placed.measurement.solution if self._placed else None
 
     @property
     def deviations(self) -> tuple[Deviation, ...]:
-        """How far each constraint is off where it is placed."""
+        """The deviation of each constraint at the solved position."""
         return self._placed.measurement.all if self._placed else ()
 
     @property
     def warnings(self) -> tuple[Departure, ...]:
-        """What is placed otherwise than it is drawn."""
+        """What is placed in another orientation than drawn."""
         return self._placed.warnings if self._placed else ()
 
     @property
     def unsized(self) -> tuple[str, ...]:
-        """Where it is placed, the circles of which nothing tells the size."""
+        """If it is placed: the circles whose size nothing gives."""
         return self._placed.unsized if self._placed else ()
 
     @property
     def failure(self) -> Failure | None:
-        """Why it has no places, though it is well."""
+        """Why it can't be placed, though it is fully constrained."""
         return self.state.failure if isinstance(self.state, WithFault) else None
 
     @property
     def missing(self) -> Missing | None:
-        """Where it is open, what is missing, and its pieces."""
+        """If it is under-constrained: what is missing, and its rigid clusters."""
         return self.state.missing if isinstance(self.state, InPieces) else None
 
     @property
     def surplus(self) -> tuple[Surplus, ...]:
-        """Where it is over, each dimension that may go."""
+        """If it is over-constrained: each removable dimension."""
         return self.state.surplus if isinstance(self.state, WithSurplus) else ()
 
     @property
     def style(self) -> Style:
-        """How the drawing was spelled."""
+        """The encoding of the drawing."""
         return self.asked.spelled.style
 
     @property
     def place(self) -> PlaceBy:
-        """How the program was told to place it."""
+        """How the program was asked to place it."""
         return self.asked.place
 
     @property
     def length_tolerance_nm(self) -> int | None:
-        """Within how many nanometres of the drawing the program places it; None where it
+        """The tolerance of lengths within which the program places it, in nanometres; None if it
         doesn't."""
         return self._placed.length_nm if self._placed else None
 
     @cached_property
     def free(self) -> Freedoms | None:
-        """What of the drawing is free by rank; None where that takes too long to count."""
+        """What of the drawing is free, by rank; None if that takes too long to count."""
         return freedoms(self.names.drawing)
 
     @property
     def whole(self) -> Whole | None:
-        """How all of what isn't over may still be moved against the datum, by rank; None where that
-        isn't known."""
+        """How the whole may still be moved against the datum, by rank, if it isn't
+        over-constrained; None if that isn't known."""
         if self.missing is not None:
             return self.missing.whole
         return self.free.whole if self.verdict is Verdict.WELL and self.free else None
 
     @property
     def left_out(self) -> tuple[str, ...]:
-        """What couldn't be spelled, but for what holds where the rest is placed."""
+        """The constraints that couldn't be encoded, without those that hold where the rest is
+        placed."""
         return tuple(each.name for each in self.left_out_measured if not each.holds())
 
     @property
     def left_out_measured(self) -> tuple[LeftOut, ...]:
-        """What couldn't be spelled, as it was measured all the same."""
+        """The constraints that couldn't be encoded, with their measured deviations."""
         owners = sorted(each for each in self.asked.spelled.left_out if each.number)
         return tuple(LeftOut(self.names.owner(each), each,
                              None if each.shape else worst(self.deviations, each.number),
@@ -170,32 +170,34 @@ class Judgement:
 
     @property
     def frozen(self) -> tuple[str, ...]:
-        """What is only measured, since a length or radius that it needs was taken as drawn."""
+        """The constraints that are only measured, since a length or radius that they need is kept
+        as drawn."""
         return self.names.owners(self.asked.frozen)
 
     @property
     def grown(self) -> tuple[str, ...]:
-        """What is told by a value that was read off a placed part."""
+        """The constraints that were passed with a value read off a placed cluster."""
         return self.names.owners(owner for each in self.asked.grown for owner in each.owners)
 
     @property
     def measured_off(self) -> tuple[str, ...]:
-        """What couldn't be spelled and makes the drawing over only as it was measured where the
-        rest is placed, or as the rest is just enough without it: that isn't certified."""
+        """The constraints that couldn't be encoded and make the drawing over-constrained only as
+        measured: they don't hold where the rest is placed, or the rest is fully constrained without
+        them. That isn't certified."""
         return self.names.owners(owner for each in self.asked.off for owner in each.owners)
 
     @property
     def rounded(self) -> tuple[str, ...]:
-        """What is told by a rounded value."""
+        """The constraints that were passed with a rounded value."""
         numbers = [each.number for each in self.asked.spelled.rounded]
         return self.names.owners(owner for number in numbers
                                  for owner in self.asked.spelled.owners[number - 1])
 
     @property
     def repeats(self) -> tuple[str, ...]:
-        """What says again what follows already, and is no line of a sketch: a direction, a size, a
-        point that is itself; and what couldn't be spelled, holds where the rest is placed, and says
-        nothing more by rank. Each may go by itself; what says more by rank isn't among them."""
+        """The redundant constraints that are no line of a sketch: a direction, a size, a point that
+        is itself; and those that couldn't be encoded, hold where the rest is placed, and by rank
+        say nothing more. Each may be removed by itself."""
         held = tuple(each.name for each in self.left_out_measured if each.repeats())
         return self.names.owners(self._spelled_repeats()) + held
 
@@ -206,8 +208,8 @@ class Judgement:
 
     @cached_property
     def too_many(self) -> tuple[tuple[str, ...], ...]:
-        """Of what isn't over, each group of constraints of which one is too many all the same, by
-        rank, beside those that are told to repeat others."""
+        """If it isn't over-constrained: each group of which, by rank, one constraint is redundant
+        all the same, beside those that are reported as redundant."""
         if self.verdict is Verdict.OVER or self.free is None:
             return ()
         held = {each.owner for each in self.left_out_measured if each.repeats()}
@@ -218,15 +220,15 @@ class Judgement:
 
     @property
     def held(self) -> tuple[str, ...]:
-        """What couldn't be spelled and isn't told to the program, says something of its own by
-        rank, and holds as it was measured."""
+        """The constraints that couldn't be encoded, say something of their own by rank, and hold as
+        measured."""
         return tuple(each.name for each in self.left_out_measured
                      if each.holds() and not each.repeats())
 
     @property
     def undimensioned(self) -> tuple[str, ...]:
-        """The circles of which nothing tells the radius, where it is placed; else those of which
-        nothing speaks. They are shown as they are drawn."""
+        """If it is placed: the circles whose radius nothing gives; otherwise those that no
+        constraint names. They are shown as drawn."""
         if self.solution is not None:
             return self.unsized
         axes = self.asked.axes
@@ -238,14 +240,12 @@ class Judgement:
 
 @dataclass(frozen=True)
 class WeighedJudgement(Judgement):
-    """A judgement with what takes many more questions: where it is over, each dimension that may go
-    is tried.
-
-    loose: where it is over, what is lacking all the same. unmet: where it has no places, nothing is
-    missing or too many by rank, and no shape is found near the drawn one by numbers, the
-    constraints without one of which there is one; None where that isn't so. tried: where it is well
-    and has no places, or some that don't meet a constraint, what came of other choices of the steps
-    of its construction."""
+    """A judgement with what takes many more calls of the program. If it is over-constrained, each
+    removable dimension is tried. loose: if it is over-constrained, what is missing all the same.
+    unmet: if it has no positions, nothing is missing or redundant by rank, and by numbers there is
+    no shape near the drawn one, the constraints without any one of which there is a shape; None
+    otherwise. tried: if it is fully constrained but has no positions, or positions that don't meet
+    a constraint, what other choices of its steps give."""
 
     loose: tuple[str, ...] = ()
     unmet: tuple[str, ...] | None = None
@@ -254,17 +254,19 @@ class WeighedJudgement(Judgement):
 
 @dataclass(frozen=True)
 class CountedJudgement(WeighedJudgement):
-    """A judgement with the program's parts and counts, also of what is well."""
+    """A judgement with the program's rigid clusters and counts, also if the drawing is fully
+    constrained."""
 
     asked: CountedTrial = field()
 
 
 def judge(drawing: Drawing, program: Solver, freeze: bool = False,
           limit: Limit = Limit()) -> CountedJudgement:
-    """What the program says of a drawing, with the counts of what is well, how far each dimension
-    is off that may go, and which other choices meet what isn't met within the limit, by which it
-    is placed too where that is wider than the language's own. `freeze`: whether lengths and radii
-    that nothing tells may be taken as they are drawn. Raises as `judge_at_once`."""
+    """Judges a drawing: the program's verdict, with the counts also of a fully constrained drawing,
+    and the deviation of each removable dimension. If a constraint isn't met within the limit, other
+    choices of steps that meet it are tried; if the limit is wider than the language's own, the
+    drawing is placed by them too. freeze: lengths and radii without a dimension may be kept as
+    drawn. Raises the exceptions of `judge_at_once`."""
     asks = Remembering(Wider(program, limit))
     judged = weighed(judge_at_once(drawing, asks, freeze, limit), asks)
     return with_counts(with_choices(judged, asks), asks)
@@ -272,11 +274,11 @@ def judge(drawing: Drawing, program: Solver, freeze: bool = False,
 
 def judge_at_once(drawing: Drawing, program: Solver, freeze: bool = False,
                   limit: Limit = Limit()) -> Judgement:
-    """The same, but that the counts of what is well aren't asked for, and that what may go is
-    named as the program names it, and not measured: that takes many more questions. Raises
-    ProgramError; DrawingRefused where the drawing has more points or constraints than the program
-    takes, or makes both ends of a shape one; Refusal where the program refuses the spelled sketch;
-    NotHeld where a place or length is larger than the language holds."""
+    """The same with fewer calls of the program: the counts of a fully constrained drawing aren't
+    asked for, and the removable dimensions are those that the program names, not measured. Raises
+    ProgramError; DrawingRefused if the drawing has more points or constraints than the program
+    takes, or if both ends of a shape coincide; Refusal if the program rejects the encoded sketch;
+    NotHeld if a position or length is beyond the range of the language."""
     return judge_edited(EditedDrawing(drawing), program, freeze, limit)
 
 
@@ -330,8 +332,8 @@ def _with_places(edited: EditedDrawing, asked: Trial, solved: Solved) -> WithPla
 
 
 def with_choices(judged: WeighedJudgement, program: Solver) -> WeighedJudgement:
-    """The judgement with what comes of other choices of its steps: of those beneath a step that
-    fails, and of all where a constraint isn't met. Raises ProgramError."""
+    """The judgement with the results of other choices of its steps: of those before a step that
+    fails, and of all steps if a constraint isn't met. Raises ProgramError."""
     is_off = any(judged.limit.beyond(judged.deviations))
     if judged.failure is None and not is_off:
         return judged
@@ -360,7 +362,7 @@ def _is_met(judged: Judgement, shape: Shape) -> bool:
 
 
 def with_counts(judged: Judgement, program: Solver) -> CountedJudgement:
-    """The judgement with the program's parts and counts also of what is well. Raises
+    """The judgement with the program's clusters and counts, also if it is fully constrained. Raises
     ProgramError."""
     known = (judged if isinstance(judged, WeighedJudgement)
              else _weighed_judgement(judged, judged.state))
@@ -380,8 +382,9 @@ def _greatest(judged: Judgement) -> int:
 
 
 def weighed(judged: Judgement, program: Solver) -> WeighedJudgement:
-    """The judgement with each dimension that may go tried, and measured on the rest; of what isn't
-    over and has no shape, with what isn't met. Raises as `judge_at_once`."""
+    """The judgement with each removable dimension tried, and measured on the rest; for a drawing
+    that isn't over-constrained and has no shape, with what isn't met. Raises the exceptions of
+    `judge_at_once`."""
     if isinstance(judged.state, WithPlaces):
         return _weighed_judgement(judged, judged.state)
     from pertxogai.judging.missing import loose, unmet

@@ -12,12 +12,12 @@ if TYPE_CHECKING:
 
 
 class DrawingRefused(Exception):
-    """A drawing that no sketch can be made of. The message is one line, and says what to do."""
+    """A drawing that can't be made into a sketch. The message is one line, and says what to do."""
 
 
 class TextRefused(Exception):
-    """The program refuses a text. The message is one line: the name of the sketch, and `told`:
-    where, the code, the line itself, and what to do."""
+    """The program rejects a text. The message is one line: the name of the sketch, and `told`: the
+    place, the code, the line itself, and what to do."""
 
     def __init__(self, name: str, refused: Refused, text: str) -> None:
         lines = text.split("\n")

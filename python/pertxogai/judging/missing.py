@@ -17,7 +17,7 @@ from pertxogai.program.reports import Part
 
 
 class Tie(Enum):
-    """How two pieces hang together, and so what ties them."""
+    """How two rigid clusters are connected, and so what ties them."""
 
     LOOSE = "not connected: add three dimensions between them"
     LONE = "not connected, and one is a single point or line: add two dimensions between them"
@@ -32,7 +32,7 @@ DIMENSIONS = {Tie.LOOSE: 3, Tie.LONE: 2, Tie.LONE_PAIR: 1, Tie.HINGE: 1, Tie.SLI
 
 @dataclass(frozen=True)
 class Piece:
-    """A part that is rigid by itself: the points and segments that the designer knows in it."""
+    """A rigid cluster: the points and segments in it that the designer knows."""
 
     number: int
     elements: tuple[str, ...]
@@ -40,7 +40,7 @@ class Piece:
 
 @dataclass(frozen=True)
 class Joint:
-    """Two pieces, how they hang together, and the points or segments that they share."""
+    """Two rigid clusters, how they are connected, and the points or segments that they share."""
 
     first: Piece
     second: Piece
@@ -50,11 +50,12 @@ class Joint:
 
 @dataclass(frozen=True)
 class Missing:
-    """At least `count` dimensions are missing, by the rank of what the drawing says, sizes of
-    circles among them; 0 where it isn't known that one is, as where the drawing is rigid in a way
-    that merging doesn't find. `joints`: each piece but the first, with one before it that it hangs
-    at, where there is one, and where by rank a dimension is lacking between them. `whole`: how all
-    of it may still be moved against the datum, which isn't counted; None where that isn't known."""
+    """What is missing. count: at least so many dimensions are missing, by the rank of the drawing's
+    equations, with sizes of circles among the unknowns; 0 if it isn't known that one is missing, as
+    for a drawing that is rigid in a way that merging doesn't find. joints: each rigid cluster but
+    the first, with an earlier one to which it is connected, if there is one, and if by rank a
+    dimension is missing between them. whole: how the whole may still be moved against the datum,
+    which isn't counted; None if that isn't known."""
 
     count: int
     pieces: tuple[Piece, ...]

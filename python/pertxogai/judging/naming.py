@@ -12,29 +12,29 @@ from pertxogai.spelling.writing import Spelled
 
 @dataclass(frozen=True)
 class Names:
-    """The names of one spelled drawing. Lines of help have none."""
+    """The names of an encoded drawing. Auxiliary lines and points have none."""
 
     drawing: Drawing
     spelled: Spelled
     refs: dict[PointRef, Knot]
 
     def owner(self, owner: Owner) -> str:
-        """A constraint as the drawing calls it; an arc as `the ends of ARC`."""
+        """The name of a constraint in the drawing; for an arc `the ends of ARC`."""
         if owner.shape:
             return f"the ends of {self.drawing.geometry[owner.number - 1].name}"
         return self.drawing.called(owner.number)
 
     def owners(self, owners: Iterable[Owner]) -> tuple[str, ...]:
-        """Constraints and arcs by their places."""
+        """The names of constraints and arcs, in order."""
         return tuple(self.owner(each) for each in sorted(set(owners)) if each.number)
 
     def constraint(self, number: int) -> tuple[str, ...]:
-        """Who says the sketch's constraint of that number, from 1."""
+        """The names of the constraints behind the sketch's constraint of that number, from 1."""
         return self.owners(self.spelled.owners[number - 1])
 
     def point(self, name: str) -> PointRef | None:
-        """The designer's point behind a point of the sketch, the first of those that are one; None
-        for help."""
+        """The designer's point behind a point of the sketch, the first of those that coincide; None
+        if it is auxiliary."""
         return self._points.get(name)
 
     @cached_property
@@ -47,7 +47,7 @@ class Names:
                 if knot in firsts}
 
     def element(self, name: str) -> str | None:
-        """A point, or the segment that a line is; None of what only helps."""
+        """The name of a point, or of the segment that a line is; None if it is auxiliary."""
         point = self.point(name)
         if point is not None:
             return str(point)
@@ -55,6 +55,6 @@ class Names:
         return track.name if isinstance(track, ShapeRef) else None
 
     def elements(self, names: Iterable[str]) -> tuple[str, ...]:
-        """The elements that a designer drew, without help."""
+        """The elements that a designer drew, without auxiliary ones."""
         found = (self.element(name) for name in names)
         return tuple(each for each in found if each is not None)

@@ -45,15 +45,15 @@ class Then(Enum):
     NO_PLACES = "well, but it has no places"
     OPEN = "open"
     OVER = "over still"
-    """Another dimension has to go too."""
+    """Another dimension has to be removed too."""
 
 
 @dataclass(frozen=True)
 class Surplus:
-    """A dimension that may go, what the rest is then, and how far the dimension is off where the
-    rest is placed: a repeat where `amount` is within the limit. off: None where the rest has no
-    places, or says less than with it. then: None where it wasn't tried. rounding: by how much `off`
-    moves with the values of the rest that had to be rounded, in the same unit."""
+    """A removable dimension, what the rest is without it, and its deviation where the rest is
+    placed: it is redundant if that is within the limit. off: None if the rest has no positions, or
+    if more is free without the dimension. then: None if it wasn't tried. rounding: by how much the
+    rounded values of the rest change `off`, in the same unit."""
 
     number: int
     name: str
@@ -66,14 +66,14 @@ class Surplus:
     rounding: int = 0
 
     def repeats(self) -> bool | None:
-        """Whether it says the same as the others; None where that can't be told."""
+        """Whether it is redundant; None if that can't be told."""
         if self.off is None or self.may_be_rounding():
             return None
         return self.off.amount <= self.limit.amount
 
     def may_be_rounding(self) -> bool:
-        """Whether rounded values move it past the limit, so that it isn't known whether it repeats
-        the others."""
+        """Whether rounded values move its deviation past the limit, so that it isn't known whether
+        it is redundant."""
         if self.off is None:
             return False
         least, most = self.off.amount - self.rounding, self.off.amount + self.rounding

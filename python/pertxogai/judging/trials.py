@@ -35,7 +35,7 @@ ONE_BY_ONE = (Style.GRID, Style.FEET, Style.VALUES, Style.VALUES_NEAR)
 
 
 class PlaceBy(Enum):
-    """How the program places: with the key `place`."""
+    """How the program places: the key `place`."""
 
     BOXES = "boxes"
     POINTS = "points"
@@ -43,7 +43,7 @@ class PlaceBy(Enum):
 
 @dataclass(frozen=True)
 class Question:
-    """A drawing that a program is asked about, and within what it has to hold."""
+    """What the program is asked about: a drawing, and the limit for each constraint."""
 
     drawing: Drawing
     program: Solver
@@ -52,10 +52,11 @@ class Question:
 
 @dataclass(frozen=True)
 class Trial:
-    """What the program answered to one style of a drawing: of what is well, the places or the
-    fault, and what `check` says in a `CountedTrial` alone; else what `check` says. grown:
-    equations that placed parts told. frozen: who is only measured. off: what couldn't be spelled,
-    and was told as a contradiction by what was measured."""
+    """The program's answer to one encoding of a drawing. If it is fully constrained: the positions
+    or the fault, and the report of `check` only in a `CountedTrial`; otherwise the report of
+    `check`. grown: equations that placed clusters gave. frozen: the constraints that are only
+    measured. off: the constraints that couldn't be encoded and were passed as contradictions, by
+    what was measured."""
 
     spelled: Spelled
     axes: Axes
@@ -74,7 +75,7 @@ class Trial:
 
     @property
     def parts(self) -> tuple[Part, ...]:
-        """The parts that `check` told; none where it wasn't asked."""
+        """The rigid clusters of `check`; none if it wasn't asked."""
         return () if self.check is None else self.check.parts
 
 
@@ -87,11 +88,11 @@ class CountedTrial(Trial):
 
 def first_good(question: Question, freeze: bool = False, quick: bool = False,
                spelled: Iterable[Interpretation] | None = None) -> Trial:
-    """The first reading and style that is well and placed; else one that is well; else one that is
-    over; else the one with the fewest parts. With `freeze`, what is open is asked again with
-    lengths and radii as they are drawn. `quick`: whether of what says something twice the first
-    style that is over will do, since none is called well then. `spelled`: how the readings of the
-    drawing are spelled, where some of that is known."""
+    """The first reading and style that is fully constrained and placed; else one that is fully
+    constrained; else one that is over-constrained; else the one with the fewest clusters. freeze:
+    ask about an under-constrained drawing again with lengths and radii as drawn. quick: if
+    something is given twice, take the first style that is over-constrained, since none is fully
+    constrained then. spelled: the interpretations of the drawing, if some are known."""
     best: Trial | None = None
     seen: list[list[Equation]] = []
     for spellings in readings(question.drawing) if spelled is None else spelled:

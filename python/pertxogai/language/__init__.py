@@ -1,8 +1,6 @@
-"""The sketch language as values: every line of docs/LANGUAGE.md, and the texts that are made of
-them.
-
-`text()` of a whole text (Sketch, Flips, Offers, Claim, Given, Session) ends with a line feed;
-that of a line has none."""
+"""The sketch language as values: every line of docs/LANGUAGE.md, and the texts made of them.
+`text()` of a whole text (Sketch, Flips, Offers, Claim, Given, Session) ends with a line feed; that
+of a line has none."""
 from typing import TYPE_CHECKING
 
 if TYPE_CHECKING:

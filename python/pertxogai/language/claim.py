@@ -24,8 +24,8 @@ _COUNTS = {**_PLACE_COUNTS, "step": (13, 14), "tolerance": (3,)}
 
 @dataclass(frozen=True)
 class Claim:
-    """A sketch, and what is said of it: the steps in their order, where elements lie, and
-    within how many nm each length and how many parts per 10^9 each angle and normal holds."""
+    """A sketch, and a claim about it: the steps in order, the positions of the elements, the
+    tolerance of each length in nm, and that of each angle and normal in parts per 10^9."""
 
     sketch: Sketch
     steps: tuple[Step, ...]
@@ -45,7 +45,7 @@ class Claim:
 
     @staticmethod
     def parse(text: str) -> Claim:
-        """The sketch and claim that a text is. Raises Refusal."""
+        """Reads a sketch and a claim. Raises Refusal."""
         rows = rows_of(text)
         sketch, rest = read_sketch(rows)
         reader = _Reader(sketch)

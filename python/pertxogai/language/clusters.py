@@ -10,13 +10,13 @@ _CLUSTER = re.compile("([cs])([1-9][0-9]{0,5})")
 
 @dataclass(frozen=True)
 class ClusterName:
-    """A cluster: that of the constraint `number`, or the one that the step `number` made."""
+    """A cluster: the one of the constraint `number`, or the one that the step `number` made."""
 
     is_step: bool
     number: int
 
     def text(self) -> str:
-        """As reports have it: `c3` or `s1`."""
+        """As reports write it: `c3` or `s1`."""
         return f"{'s' if self.is_step else 'c'}{self.number}"
 
 
@@ -39,9 +39,9 @@ class Choice(Enum):
 
 @dataclass(frozen=True)
 class Step:
-    """A step of a plan: the three clusters that it joins, the elements that the first and
-    second, the second and third, and the third and first share, the cluster that stays where it
-    lies, and the choice."""
+    """A step of a plan: the three clusters that it joins; the elements shared by the first and
+    second, the second and third, and the third and first; the cluster that isn't moved; and the
+    choice."""
 
     number: int
     joins: tuple[ClusterName, ClusterName, ClusterName]

@@ -11,8 +11,8 @@ MOST_PLACES = 16
 
 @dataclass(frozen=True)
 class Distance:
-    """Two points or centres are `length_um` apart, or a point or centre and a line are, in
-    either order."""
+    """The distance of two points or centres is `length_um`; or that of a point or centre and a
+    line, in either order."""
 
     first: str
     second: str
@@ -22,7 +22,7 @@ class Distance:
         checked_length_um(self.length_um)
 
     def names(self) -> tuple[str, ...]:
-        """The elements that it names, in order."""
+        """The elements that the line names, in order."""
         return self.first, self.second
 
     def text(self) -> str:
@@ -39,7 +39,7 @@ class On:
     carrier: str
 
     def names(self) -> tuple[str, ...]:
-        """The elements that it names, in order."""
+        """The elements that the line names, in order."""
         return self.point, self.carrier
 
     def text(self) -> str:
@@ -49,14 +49,14 @@ class On:
 
 @dataclass(frozen=True)
 class Tangent:
-    """A line and a circle, in either order, touch. On which side the circle lies is as it is
+    """A line and a circle, in either order, touch. The circle lies on the side on which it is
     drawn."""
 
     first: str
     second: str
 
     def names(self) -> tuple[str, ...]:
-        """The elements that it names, in order."""
+        """The elements that the line names, in order."""
         return self.first, self.second
 
     def text(self) -> str:
@@ -72,7 +72,7 @@ class Outside:
     second: str
 
     def names(self) -> tuple[str, ...]:
-        """The elements that it names, in order."""
+        """The elements that the line names, in order."""
         return self.first, self.second
 
     def text(self) -> str:
@@ -88,7 +88,7 @@ class Inside:
     second: str
 
     def names(self) -> tuple[str, ...]:
-        """The elements that it names, in order."""
+        """The elements that the line names, in order."""
         return self.first, self.second
 
     def text(self) -> str:
@@ -111,7 +111,7 @@ class Angle:
         checked_ratio(self.p, self.q)
 
     def names(self) -> tuple[str, ...]:
-        """The elements that it names, in order."""
+        """The elements that the line names, in order."""
         return self.first, self.second
 
     def text(self) -> str:
@@ -121,7 +121,7 @@ class Angle:
 
 @dataclass(frozen=True)
 class BlockPlace:
-    """Where a block has a point or centre, in micrometres."""
+    """The position of a point or centre in a block, in micrometres."""
 
     name: str
     x_um: int
@@ -135,8 +135,8 @@ class BlockPlace:
 
 @dataclass(frozen=True)
 class Block:
-    """From 2 to 16 points or centres lie towards each other as these places do, not mirrored
-    (version 2)."""
+    """A rigid block (version 2): from 2 to 16 points or centres have the relative positions given
+    here, not mirrored."""
 
     places: tuple[BlockPlace, ...]
 
@@ -147,7 +147,7 @@ class Block:
             )
 
     def names(self) -> tuple[str, ...]:
-        """The elements that it names, in order."""
+        """The elements that the line names, in order."""
         return tuple(place.name for place in self.places)
 
     def text(self) -> str:
@@ -159,4 +159,4 @@ class Block:
 
 
 Constraint = Distance | On | Tangent | Outside | Inside | Angle | Block
-"""A dimension of the language: lengths in micrometres, angles as ratios."""
+"""A constraint of the language: lengths in micrometres, angles as ratios."""

@@ -31,7 +31,7 @@ class Point:
 @dataclass(frozen=True)
 class Line:
     """A directed line without ends, drawn from (x1_um, y1_um) towards (x2_um, y2_um). Raises
-    NotHeld where these are one place, and NotAName."""
+    NotHeld if the two coincide, and NotAName."""
 
     name: str
     x1_um: int
@@ -81,4 +81,4 @@ class Circle:
 
 
 Element = Point | Line | Circle
-"""What a sketch is drawn of: places in micrometres."""
+"""An element of a sketch: drawn positions in micrometres."""

@@ -17,8 +17,8 @@ _COUNTS = {"flip": range(1, MOST_STEPS + 2), "end": (1,)}
 
 @dataclass(frozen=True)
 class Flip:
-    """Up to 16 steps of the plan, by their numbers from 1 to 999999, each once; none is the
-    drawing as it is."""
+    """Up to 16 steps of the plan, by their numbers from 1 to 999999, each once. Without steps it is
+    the drawing as it is."""
 
     steps: tuple[int, ...]
 
@@ -35,7 +35,7 @@ class Flip:
 
 @dataclass(frozen=True)
 class Flips:
-    """A sketch, and up to 64 lists, which are answered in turn."""
+    """A sketch, and up to 64 lists of steps to flip, which are answered in turn."""
 
     sketch: Sketch
     flips: tuple[Flip, ...]
@@ -50,7 +50,7 @@ class Flips:
 
     @staticmethod
     def parse(text: str) -> Flips:
-        """The sketch and lists that a text is. Raises Refusal."""
+        """Reads a sketch and the lists that follow it. Raises Refusal."""
         rows = rows_of(text)
         sketch, rest = read_sketch(rows)
         flips: list[Flip] = []

@@ -13,7 +13,7 @@ from pertxogai.language.sketch import Sketch, read_sketch
 
 @dataclass(frozen=True)
 class Given:
-    """A sketch, and where its elements are said to lie."""
+    """A sketch, and positions of its elements to be measured."""
 
     sketch: Sketch
     places: tuple[Placed, ...]
@@ -24,7 +24,7 @@ class Given:
 
     @staticmethod
     def parse(text: str) -> Given:
-        """The sketch and places that a text is. Raises Refusal."""
+        """Reads a sketch and the positions that follow it. Raises Refusal."""
         rows = rows_of(text)
         sketch, rest = read_sketch(rows)
         reader = PlacesReader(sketch)

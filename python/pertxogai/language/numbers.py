@@ -19,8 +19,8 @@ _RATIO = re.compile(r"(-?[0-9]{1,5})/([0-9]{1,5})")
 
 
 class NotHeld(ValueError):
-    """A number that the language can't hold. `nearest` is the text of the nearest that it can,
-    or None."""
+    """A number that the language can't represent. `nearest` is the text of the nearest one that it
+    can, or None."""
 
     def __init__(self, what: str, nearest: str | None) -> None:
         super().__init__(what + (f"; the nearest is {nearest}" if nearest else ""))
@@ -28,11 +28,9 @@ class NotHeld(ValueError):
 
 
 def micrometres(millimetres: Exact) -> int:
-    """The whole micrometres of a number of millimetres: 2, "2.5", 2.5, Fraction(5, 2),
-    Decimal("2.5"). A float stands for the shortest decimal that reads back as it, so 0.1 is a
-    tenth.
-
-    Raises NotHeld where it is no whole number of micrometres, or passes 1,000,000 mm."""
+    """Whole micrometres of a number of millimetres: 2, "2.5", 2.5, Fraction(5, 2), Decimal("2.5").
+    A float stands for the shortest decimal that reads back as it, so 0.1 is a tenth. Raises NotHeld
+    if the result isn't whole, or is beyond 1,000,000 mm."""
     exact = 1000 * _exact(millimetres)
     um = nearest_whole(exact)
     return checked_um(um if um == exact else exact)
@@ -92,8 +90,8 @@ def _check_whole(number: object) -> None:
 
 
 def nearest_ratio(p: int | Fraction, q: int | Fraction) -> tuple[int, int]:
-    """The ratio that the language holds whose tangent (up to 45 degrees) or cotangent is
-    nearest that of p/q."""
+    """The ratio of the language whose tangent (up to 45 degrees) or cotangent is nearest to that of
+    p/q."""
     if q == 0:
         return (1, 0) if p > 0 else (-1, 0)
     tangent = Fraction(p) / Fraction(q)

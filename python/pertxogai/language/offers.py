@@ -48,7 +48,7 @@ class Offers:
 
     @staticmethod
     def parse(text: str) -> Offers:
-        """The sketch and offers that a text is. Raises Refusal."""
+        """Reads a sketch and the offers that follow it. Raises Refusal."""
         rows = rows_of(text)
         sketch, rest = read_sketch(rows)
         offers: list[Offer] = []

@@ -19,8 +19,8 @@ class PlacedPoint:
 
 @dataclass(frozen=True)
 class PlacedLine:
-    """All places with a·x + b·y = c: the normal (a, b) in parts per 10^9, c in nanometres. It
-    runs in the direction (b, -a), and its left side is where a·x + b·y is greater than c."""
+    """The line of all points with a·x + b·y = c: the normal (a, b) in parts per 10^9, c in
+    nanometres. Its direction is (b, -a), and its left side is where a·x + b·y is greater than c."""
 
     name: str
     a_ppb: int
@@ -47,4 +47,4 @@ class PlacedCircle:
 
 
 Placed = PlacedPoint | PlacedLine | PlacedCircle
-"""Where an element lies: places in nanometres, directions in parts of 10⁹."""
+"""The position of an element: coordinates in nanometres, directions in parts per 10⁹."""

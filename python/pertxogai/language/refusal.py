@@ -6,7 +6,7 @@ from enum import Enum
 
 
 class Code(Enum):
-    """Each code of a refusal; its value is the word that stands behind it."""
+    """The code of a rejection; its value is the word that follows the code."""
 
     E1 = "header"
     E2 = "word"
@@ -37,12 +37,12 @@ class Code(Enum):
 
     @property
     def word(self) -> str:
-        """The word behind the code."""
+        """The word that follows the code."""
         return self.value
 
     @property
     def advice(self) -> str:
-        """What to do about a text that is refused so, in a few words."""
+        """What to do about a text that is rejected with this code, in a few words."""
         return _ADVICE.get(self, "check that line")
 
 
@@ -72,7 +72,7 @@ _ADVICE = {
 
 @dataclass(frozen=True)
 class Refused:
-    """A text is refused at a line (from 1; 0 is the whole text) by a code."""
+    """A text is rejected at a line (from 1; 0 is the whole text) with a code."""
 
     line: int
     code: Code
@@ -83,7 +83,7 @@ class Refused:
 
 
 class Refusal(ValueError):
-    """A text, or a sketch that was made of values, isn't one of the language."""
+    """A text, or a sketch made of values, isn't valid in the language."""
 
     def __init__(self, refused: Refused) -> None:
         super().__init__(refused.text().rstrip())

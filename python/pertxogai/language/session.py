@@ -22,7 +22,7 @@ _COUNTS = {"drop": 2, "set": 3, "erase": 2, "end": 1}
 
 @dataclass(frozen=True)
 class Drop:
-    """Takes a constraint away, by its number."""
+    """Removes a constraint, by its number."""
 
     number: int
 
@@ -30,13 +30,13 @@ class Drop:
         _check_number(self.number)
 
     def text(self) -> str:
-        """The line of the session."""
+        """The line as a session takes it."""
         return f"drop {self.number}"
 
 
 @dataclass(frozen=True)
 class SetLength:
-    """Gives a `distance`, by its number, a new length."""
+    """Gives the `distance` of that number a new length."""
 
     number: int
     length_um: int
@@ -46,13 +46,13 @@ class SetLength:
         checked_length_um(self.length_um)
 
     def text(self) -> str:
-        """The line of the session."""
+        """The line as a session takes it."""
         return f"set {self.number} {mm_text(self.length_um)}"
 
 
 @dataclass(frozen=True)
 class SetRatio:
-    """Gives an `angle`, by its number, a new tangent p/q."""
+    """Gives the `angle` of that number a new tangent p/q."""
 
     number: int
     p: int
@@ -63,13 +63,13 @@ class SetRatio:
         checked_ratio(self.p, self.q)
 
     def text(self) -> str:
-        """The line of the session."""
+        """The line as a session takes it."""
         return f"set {self.number} {self.p}/{self.q}"
 
 
 @dataclass(frozen=True)
 class Erase:
-    """Takes an element away that no constraint uses."""
+    """Removes an element that no constraint uses."""
 
     name: str
 
@@ -77,13 +77,12 @@ class Erase:
         checked_name(self.name)
 
     def text(self) -> str:
-        """The line of the session."""
+        """The line as a session takes it."""
         return f"erase {self.name}"
 
 
 class Ask(Enum):
-    """A line that is one word: a question about the sketch as it is now, or the undoing of an
-    edit."""
+    """A line of one word: a question about the current sketch, or the undoing of an edit."""
 
     CHECK = "check"
     PLAN = "plan"
@@ -92,17 +91,17 @@ class Ask(Enum):
     UNDO = "undo"
 
     def text(self) -> str:
-        """The line of the session."""
+        """The line as a session takes it."""
         return self.value
 
 
 SessionLine = Element | Constraint | Drop | SetLength | SetRatio | Erase | Ask
-"""A line of a session: what is drawn, dimensioned, edited or asked."""
+"""A line of a session: an element, a constraint, an edit or a question."""
 
 
 @dataclass(frozen=True)
 class Session:
-    """The lines of a session in their order. Whether each can be done, the program says."""
+    """The lines of a session in order. The program says which of them can be done."""
 
     lines: tuple[SessionLine, ...]
 
@@ -112,8 +111,8 @@ class Session:
 
     @staticmethod
     def parse(text: str) -> Session:
-        """The session that a text is, up to its `end`. Raises Refusal at a line that is none of
-        any session, by the code that the program answers it with."""
+        """Reads a session up to its `end`. Raises Refusal at a line that no session can have, with
+        the code of the program's answer."""
         lines: list[SessionLine] = []
         for row in sound_rows(rows_of(text)):
             words = row.words(True)

@@ -15,11 +15,9 @@ from pertxogai.language.refusal import Code, Faulty, Refusal, Refused
 
 @dataclass(frozen=True)
 class Sketch:
-    """A sketch of version 1 or 2: its elements and constraints, each numbered from 1 in their
-    order.
-
-    Raises Refusal where it is none of the language: a name that is taken or unknown, elements
-    of the wrong kind, a block in version 1. The line that it names is that of `text()`."""
+    """A sketch of version 1 or 2: its elements and constraints, each numbered from 1 in order.
+    Raises Refusal if it isn't valid in the language: a name is taken or unknown, an element has the
+    wrong kind, or version 1 has a block. The line that the exception names is that of `text()`."""
 
     version: int
     elements: tuple[Element, ...]
@@ -41,7 +39,7 @@ class Sketch:
 
     @cached_on
     def text(self) -> str:
-        """The text in canonical spelling: header, elements, constraints, `end`. Comments aren't
+        """The text in canonical form: header, elements, constraints, `end`. Comments aren't
         kept."""
         lines = [f"sketch {self.version}"]
         lines += [element.text() for element in self.elements]
@@ -50,8 +48,7 @@ class Sketch:
 
     @staticmethod
     def parse(text: str) -> Sketch:
-        """The sketch that a text is. Raises Refusal, with the line and code that the program
-        answers."""
+        """Reads a sketch. Raises Refusal, with the line and code of the program's answer."""
         sketch, rest = read_sketch(rows_of(text))
         for row in sound_rows(rest):
             if row.words(sketch.version == 2):

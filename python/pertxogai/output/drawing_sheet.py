@@ -24,8 +24,8 @@ MOST_SHOWN = 8
 
 
 class NoPlaces(Exception):
-    """What isn't good can't be written as placed. The message is one line, and says why.
-    as_drawn: whether it can be written as drawn all the same."""
+    """What isn't good can't be written as placed. The message is one line, and says why. as_drawn:
+    whether it can be written as drawn."""
 
     def __init__(self, message: str, as_drawn: bool = False) -> None:
         super().__init__(message)
@@ -40,12 +40,12 @@ class DrawingSheet:
     as_drawn: bool
 
     def picture(self) -> Picture:
-        """As placed where that is good, or is open and has places; else as drawn. Of what isn't
-        good with what was judged below it."""
+        """As placed if it is good, or under-constrained with positions; otherwise as drawn. If it
+        isn't good, the reasons stand below it."""
         return picture_of(self._scene())
 
     def dxf(self, release: Release) -> str:
-        """The shapes as placed where that is good, or as drawn where that was asked for. Raises
+        """The shapes as placed if it is good, or as drawn if that was asked for. Raises
         NoPlaces."""
         found = good_of(self.judged)
         if not self.as_drawn and not isinstance(found, GoodJudgement):
@@ -54,7 +54,8 @@ class DrawingSheet:
         return dxf_text(self._scene().marks, release)
 
     def is_good(self) -> bool:
-        """Whether it is drawn as it is good, or as it was asked for."""
+        """Whether it is good, and so drawn as placed; or drawn as drawn because that was asked
+        for."""
         return self.as_drawn or isinstance(good_of(self.judged), GoodJudgement)
 
     def _scene(self) -> Scene:

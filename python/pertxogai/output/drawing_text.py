@@ -39,7 +39,7 @@ FOLLOWS = {True: "follows from", False: "conflicts with",
 
 
 def drawing_lines(judged: CountedDrawing) -> Iterator[str]:
-    """What was judged, in lines to read; the first tells the verdict."""
+    """Everything that is reported of it, in lines to read; the first has the verdict."""
     judgement, check = judged.judgement, judged.judgement.asked.check
     freedoms = f", {freedoms_text(judged.finding)}" if judged.finding else ""
     yield (f"{judged.name}: {verdict_text(judgement.verdict)}{freedoms}, "

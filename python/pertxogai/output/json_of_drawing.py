@@ -21,8 +21,8 @@ if TYPE_CHECKING:  # What isn't well, or isn't met, imports what is told of it a
 
 
 def drawing_json(judged: CountedDrawing) -> dict[str, object]:
-    """All of it as one object for JSON. Places are nm in the datum's frame, whole where they were
-    printed in it."""
+    """Everything that is reported of it, as one JSON object. Positions are in nm in the coordinates
+    of the datum, whole numbers if they were printed in these."""
     judgement = judged.judgement
     return {
         "name": judged.name,

@@ -12,8 +12,8 @@ from pertxogai.program.reports import (
 
 
 def sketch_json(judged: JudgedSketch) -> dict[str, object]:
-    """All of it as one object for JSON. A sketch is spelled as it is written, and leaves
-    nothing out."""
+    """Everything that is reported of it, as one JSON object. A sketch of the language needs no
+    encoding and leaves nothing out."""
     solved = judged.solved
     return {
         "name": judged.name,

@@ -19,7 +19,7 @@ if TYPE_CHECKING:
 
 
 class Sheet(Protocol):
-    """An outcome that is to be drawn."""
+    """A judged sketch or drawing, to be drawn."""
 
     def picture(self) -> Picture:
         """As SVG."""
@@ -30,7 +30,8 @@ class Sheet(Protocol):
         ...
 
     def is_good(self) -> bool:
-        """Whether it is drawn as it is good, or as it was asked for."""
+        """Whether it is good, and so drawn as placed; or drawn as drawn because that was asked
+        for."""
         ...
 
 
@@ -39,7 +40,7 @@ class Outcome(Protocol):
 
     @property
     def name(self) -> str:
-        """What its designer calls it."""
+        """The name that its designer gave it."""
         ...
 
     def verdict(self) -> Verdict:
@@ -47,23 +48,23 @@ class Outcome(Protocol):
         ...
 
     def good(self) -> GoodJudgement | GoodSketch | NotGood:
-        """What may be relied on of it, or why nothing may."""
+        """The good judgement, or why it isn't good."""
         ...
 
     def reasons(self) -> tuple[Reason, ...]:
-        """Why it isn't good; nothing where it is."""
+        """Why it isn't good; empty if it is."""
         ...
 
     def lines(self) -> Iterator[str]:
-        """All that is told of it, in lines to read."""
+        """Everything that is reported of it, in lines to read."""
         ...
 
     def json(self) -> dict[str, object]:
-        """All that is told of it, as one object for JSON."""
+        """Everything that is reported of it, as one JSON object."""
         ...
 
     def sheet(self, as_drawn: bool) -> Sheet:
-        """It, to be drawn as placed, or as drawn."""
+        """How it is drawn: as placed, or as drawn."""
         ...
 
 
@@ -105,7 +106,7 @@ class SketchOutcome:
 
 @dataclass(frozen=True)
 class DrawingOutcome:
-    """A judged drawing of a designer's."""
+    """A designer's drawing that was judged."""
 
     judged: CountedDrawing
 

@@ -5,7 +5,7 @@ from enum import Enum
 
 
 class Release(Enum):
-    """The version of DXF that is written; the value is ezdxf's name of it."""
+    """The version of DXF to write; the value is ezdxf's name for it."""
 
     R12 = "R12"
     R2010 = "R2010"

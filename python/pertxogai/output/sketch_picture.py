@@ -14,8 +14,8 @@ MOST_SHOWN = 8
 
 
 def picture_of_judged(judged: JudgedSketch, as_drawn: bool = False) -> Picture:
-    """As it is placed; part by part where it isn't well; and as it is drawn where it has no
-    places."""
+    """The sketch as placed; cluster by cluster if it isn't fully constrained; as drawn if it has no
+    positions."""
     if judged.solved and not as_drawn:
         return picture_of_shape(judged.sketch, judged.solved, judged.name)
     if judged.parts and not as_drawn:

@@ -23,11 +23,12 @@ class SketchSheet:
     as_drawn: bool
 
     def picture(self) -> Picture:
-        """As placed, or part by part, or as drawn."""
+        """As placed, or cluster by cluster, or as drawn."""
         return picture_of_judged(self.judged, self.as_drawn)
 
     def is_good(self) -> bool:
-        """Whether it is drawn as it is good, or as it was asked for."""
+        """Whether it is good, and so drawn as placed; or drawn as drawn because that was asked
+        for."""
         return self.as_drawn or isinstance(good_sketch_of(self.judged), GoodSketch)
 
     def dxf(self, release: Release) -> str:

@@ -12,7 +12,7 @@ from pertxogai.program.reports import (
 
 
 def sketch_lines(judged: JudgedSketch) -> Iterator[str]:
-    """What was judged, in lines to read; the first tells the verdict."""
+    """Everything that is reported of it, in lines to read; the first has the verdict."""
     check = judged.check
     yield (
         f"{judged.name}: {verdict_text(check.verdict)}, elements {check.elements}, constraints"

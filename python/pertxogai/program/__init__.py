@@ -1,8 +1,6 @@
-"""The proved program `sketch`, reached as a process, as a live session, or as a library in C.
-
-Words and a text go in; the program's status and what it wrote come out, and `reports` reads that
-as values. Nothing here decides anything.
-"""
+"""The proved program `sketch`, run as a process, as an interactive session, or as a library in C.
+Arguments and a text go in; the program's status and its output come out. `reports` reads the output
+as values. Nothing here decides anything."""
 from typing import TYPE_CHECKING
 
 from pertxogai.program.errors import (

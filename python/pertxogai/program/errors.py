@@ -7,16 +7,16 @@ class ProgramError(Exception):
 
 
 class MissingProgram(ProgramError):
-    """No program was found, or what was named is none that can be run."""
+    """No program was found, or the file that was named can't be run."""
 
 
 class ProgramCrashed(ProgramError):
-    """The program ended otherwise than by one of its statuses."""
+    """The program ended in another way than with one of its statuses."""
 
 
 class ProgramTimedOut(ProgramError):
-    """The program didn't end in time, and was stopped."""
+    """The program didn't end in time, and was killed."""
 
 
 class ProgramSpoke(ProgramError):
-    """The program wrote something that is no report of its command."""
+    """The program wrote something that isn't a report of its command."""

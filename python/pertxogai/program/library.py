@@ -1,8 +1,6 @@
 """The proved program within this process: libsketch by ctypes, behind the same call as `Program`.
-
-It has no limit of time or memory, and what it takes is this process's: for many calls a second
-on sketches that are known to be small. Everything else is better served by `Program`.
-"""
+It has no limit of time or memory, and uses the memory of this process. Use it for many calls a
+second on sketches that are known to be small, and `Program` for everything else."""
 from __future__ import annotations
 
 import ctypes
@@ -52,8 +50,8 @@ class Library:
         return Library(named, call)
 
     def ask(self, words: Sequence[str], text: str) -> Answer:
-        """Does what the words ask for on the text, as the program does. Other threads run
-        meanwhile. Raises ProgramError."""
+        """Runs a command on the text, as the program does. Other threads run meanwhile. Raises
+        ProgramError."""
         command = b" ".join(map(_word, words))
         given = as_bytes(text)
         size = _SIZE()
@@ -91,7 +89,7 @@ def _found() -> str | None:
 
 
 def quickest() -> Solver:
-    """The library where it is there, else the program. Raises MissingProgram."""
+    """The library if there is one, else the program. Raises MissingProgram."""
     try:
         return Library.find()
     except MissingProgram:

@@ -1,5 +1,5 @@
-"""A talk with a running program: `sketch live`, kept running. A line goes in, and its reply comes
-out before the next one is written.
+"""An interactive session with a running program: `sketch live`, kept running. A line goes in, and
+its reply comes out before the next one is written.
 
     with LiveProgram.start(Program.find()) as talk:
         talk.say(Point("A", 0, 0))
@@ -34,7 +34,7 @@ FENCED = b"refused E2 word\n"
 
 
 class LiveEnded(ProgramError):
-    """The talk is over: `status` is what the program ended with, None where it was ended here.
+    """The session has ended: `status` is the program's exit status, or None if it was ended here.
     The message is one line."""
 
     def __init__(self, message: str, status: Status | None) -> None:
@@ -58,8 +58,8 @@ class LiveProgram:
 
     @staticmethod
     def start(program: Program, keys: Sequence[str] = ()) -> LiveProgram:
-        """Starts a talk with the keys of a session, as "bits=27". The program has its seconds for
-        each reply, and its memory for all. Raises MissingProgram."""
+        """Starts a session with its keys, such as "bits=27". The program's time limit holds for
+        each reply, its memory limit for the whole session. Raises MissingProgram."""
         words, pipe = [program.path, "live", *keys], subprocess.PIPE
         try:
             process = subprocess.Popen(
@@ -73,10 +73,11 @@ class LiveProgram:
         return LiveProgram(process, program.seconds)
 
     def say(self, line: SessionLine | str) -> Reply | None:
-        """What a line is answered; None where it is blank, or a comment alone. A line is a value,
-        or a text without a line feed, which may be refused. At `end` the talk is ended. Raises
-        ProgramTimedOut, ProgramCrashed or ProgramSpoke, after which it is over; LiveEnded where it
-        is over, or the program ends; NotAReport where the reply is none."""
+        """Writes a line and returns its reply, or None for a blank line or a comment. A line is a
+        value, or a text without a line feed; a text may be rejected, which is a reply. `end` ends
+        the session. Raises ProgramTimedOut, ProgramCrashed or ProgramSpoke, after which the session
+        is over; LiveEnded if it was over before, or if the program ends; NotAReport if the reply
+        can't be read."""
         text = line if isinstance(line, str) else line.text()
         given = as_bytes(text)
         if b"\n" in given:
@@ -90,8 +91,8 @@ class LiveProgram:
         return read_reply(reply) if reply else None
 
     def end(self) -> Status:
-        """Ends the talk, and tells the program's status. Raises ProgramTimedOut where it doesn't
-        end, and what a talk raises that was over before."""
+        """Ends the session, and returns the program's status. Raises ProgramTimedOut if the program
+        doesn't end; if the session was over before, raises what had ended it."""
         if self.over:
             raise self.over
         assert self.process.stdin is not None

@@ -28,7 +28,7 @@ BUILD = Path(__file__).resolve().parents[3] / "crates" / "sketch" / "out" / "ske
 
 
 class Status(IntEnum):
-    """What the program ended with, as docs/LANGUAGE.md tells it under 'Statuses'."""
+    """The status with which the program ended: those of docs/LANGUAGE.md, 'Statuses'."""
 
     DONE = 0  #: the command did its work: its report
     REFUSED = 1  #: the input is refused: the refusal line
@@ -45,18 +45,18 @@ class Status(IntEnum):
 
 @dataclass(frozen=True)
 class Answer:
-    """What came of one call: the status, and the whole text that was written."""
+    """The result of one call: the status, and the whole text that the program wrote."""
 
     status: Status
     text: str
 
 
 class Solver(Protocol):
-    """What answers words on a text: `Program`, `Library` of `program.library`, or a stand-in of a
+    """What answers a command on a text: `Program`, `Library` of `program.library`, or a mock in a
     test."""
 
     def ask(self, words: Sequence[str], text: str) -> Answer:
-        """Gives the command and its keys, as ("solve", "bits=27"), a text to read. Raises
+        """Runs a command with its keys, such as ("solve", "bits=27"), on a text. Raises
         ProgramError."""
         ...
 
@@ -75,9 +75,9 @@ class Program:
 
     @staticmethod
     def find(path: str | None = None) -> Program:
-        """The program at `path`, else the one that the variable PERTXOGAI_SKETCH names, else
-        the repository's own build, else `sketch` on the path. PERTXOGAI_MEMORY_MIB sets its
-        limit of memory, 0 none. Raises MissingProgram."""
+        """The program at `path`, else the one that the variable PERTXOGAI_SKETCH names, else the
+        repository's own build, else `sketch` on the path. PERTXOGAI_MEMORY_MIB sets its memory
+        limit; 0 is no limit. Raises MissingProgram."""
         named = path or os.environ.get(VARIABLE)
         if named is None and os.access(BUILD, os.X_OK):
             named = str(BUILD)
@@ -91,7 +91,7 @@ class Program:
         return Program(found, memory_mib=_memory_mib())
 
     def ask(self, words: Sequence[str], text: str) -> Answer:
-        """Runs the program with these words on this text. Raises ProgramError."""
+        """Runs the program with these arguments on this text. Raises ProgramError."""
         ended = run_process(
             [self.path, *words], as_bytes(text), Limits(self.seconds, self.memory_mib)
         )

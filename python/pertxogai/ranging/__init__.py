@@ -1,6 +1,7 @@
-"""How far each value and each dimension of a good drawing may go: the range about its present
-number in which the drawing stays well, placed and as it is drawn, and why at each end. The program
-judges each number that is tried; which are tried is found by doubling and halving."""
+"""How far each value and each dimension of a good drawing can go: the range around its present
+value in which the drawing stays fully constrained, placed and in its drawn orientation, and why it
+ends on each side. The program judges each value that is tried; the values to try are found by
+doubling and halving."""
 from typing import TYPE_CHECKING
 
 if TYPE_CHECKING:

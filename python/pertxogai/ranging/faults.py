@@ -32,29 +32,29 @@ class FaultKind(Enum):
     """What ends a range; the values are for JSON and tests."""
 
     LIMIT = "limit"
-    """The language takes no number beyond."""
+    """The language takes no value beyond."""
     UNSOUND = "unsound"
-    """A line of the drawing has another value than it takes, as a length of 0."""
+    """A line of the drawing gets an invalid value, such as a length of 0."""
     VERDICT = "verdict"
-    """The program says another verdict than well."""
+    """The program's verdict isn't `well`."""
     NO_PLACES = "no places"
     """A step of the construction fails."""
     OFF = "off"
     """A constraint doesn't hold within the limit."""
     NO_LENGTH = "no length"
-    """An edge comes to nothing, so that what is said of its direction doesn't hold."""
+    """An edge shrinks to nothing, so that a constraint on its direction doesn't hold."""
     UNSIZED = "no size"
-    """The places tell the size of a circle no more."""
+    """The positions don't give the size of a circle any more."""
     DEPARTURE = "departure"
-    """Something lies otherwise than it is drawn: an edge turned about, a corner on the other side,
-    edges or rims that cross."""
+    """Something is placed in another orientation than drawn: an edge reversed, a corner on the
+    other side, edges or circles that cross."""
     NOT_GOOD = "not good"
-    """It isn't good for another reason, as that a dimension is missing by rank."""
+    """It isn't good for another reason, for example because a dimension is missing by rank."""
 
 
 @dataclass(frozen=True)
 class Fault:
-    """Why a number isn't one of the range: one line for the designer."""
+    """Why a value isn't in the range: one line for the designer."""
 
     kind: FaultKind
     text: str

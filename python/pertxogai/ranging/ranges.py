@@ -31,8 +31,8 @@ MOST_NUMBER = 9_999_999
 
 @dataclass(frozen=True)
 class End:
-    """An end of a range: the last number with which the drawing stays as it is, in the unit of what
-    has the range, and why it doesn't with the next."""
+    """An end of a range: the last value with which the drawing stays good, in the unit of the
+    parameter, and why the next one doesn't."""
 
     at: Fraction
     fault: Fault
@@ -40,8 +40,8 @@ class End:
 
 @dataclass(frozen=True)
 class Range:
-    """How far a value or a dimension may go. tried: how many numbers were tried.
-    is_clear: whether by numbers nothing crosses between these."""
+    """How far a value or a dimension can go. tried: how many values were tried. is_clear: whether
+    by numbers nothing crosses between them."""
 
     of: Parameter
     low: End
@@ -51,13 +51,13 @@ class Range:
 
     @property
     def step(self) -> Fraction:
-        """To how much the ends are told, in the unit."""
+        """The step to which the ends are given, in the unit."""
         return Fraction(1, _steps(self.of))
 
 
 @dataclass(frozen=True)
 class Ranging:
-    """A good drawing, of which the ranges are asked for."""
+    """A good drawing, of which ranges are asked for."""
 
     drawing: Drawing
     way: Way
@@ -65,16 +65,16 @@ class Ranging:
     @staticmethod
     def of(drawing: Drawing, program: Solver, limit: Limit = Limit(),
            not_drawn: tuple[str, ...] = ()) -> Ranging:
-        """not_drawn: what its file has and the drawing can't say. Raises NoRange where the drawing
-        isn't good, and as `judge_at_once`."""
+        """Of a drawing; not_drawn: what of its file the drawing can't express. Raises NoRange if
+        the drawing isn't good, and the exceptions of `judge_at_once`."""
         return Ranging(drawing, Way.of(drawing, program, limit, not_drawn))
 
     def parameters(self) -> tuple[Parameter, ...]:
-        """What has a range: each value, and each dimension, that follows from no value."""
+        """What has a range: the values, and the dimensions that don't follow from values."""
         return parameters(self.drawing)
 
     def range_of(self, of: Parameter) -> Range:
-        """The range of one. Raises ProgramError."""
+        """The range of one parameter. Raises ProgramError."""
         numbers = _Numbers(self, of)
         search = Search(numbers.fault, numbers.present, numbers.low, numbers.high, numbers.beyond,
                         numbers.is_clear, numbers.at_end)
@@ -83,23 +83,23 @@ class Ranging:
                      low.is_clear and high.is_clear)
 
     def ranges(self) -> Iterator[Range]:
-        """The range of each. Raises ProgramError."""
+        """The range of each parameter. Raises ProgramError."""
         return map(self.range_of, self.parameters())
 
     def fault(self, of: Parameter, number: Fraction) -> Fault | None:
-        """Why the drawing isn't as it is with another number for one, in its unit, by whichever way
-        it is told; None where it is. Raises ProgramError."""
+        """Why the drawing isn't good with another value for a parameter, in its unit, in whichever
+        way it is encoded; None if it is. Raises ProgramError."""
         found = self.found_for(of, number)
         return found if isinstance(found, Fault) else None
 
     def found_for(self, of: Parameter, number: Fraction) -> Way | Fault:
-        """The way in which the drawing is good with another number for one, or why there is none.
-        Raises ProgramError."""
+        """The encoding with which the drawing is good with another value for a parameter, or why
+        there is none. Raises ProgramError."""
         other = self.drawing_with(of, number)
         return other if isinstance(other, Fault) else self.way.found_for(other)
 
     def drawing_with(self, of: Parameter, number: Fraction) -> Drawing | Fault:
-        """The drawing with another number for one, or why there is none."""
+        """The drawing with another value for a parameter, or why there is none."""
         try:
             return of.on(self.drawing, number)
         except DrawingUnsound as unsound:

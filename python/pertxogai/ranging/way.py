@@ -37,7 +37,7 @@ Found = TypeVar("Found")
 
 
 class NoRange(Exception):
-    """A drawing, or something of it, has no range. The message is one line, and says why."""
+    """A drawing, or a parameter of it, has no range. The message is one line, and says why."""
 
 
 @dataclass(frozen=True)

@@ -1,10 +1,8 @@
-"""The search: a shape for every drawing, its degrees of freedom, and what is said twice or
-contradicts, by numbers.
-
-What it finds is reckoned in floats by numpy and scipy, and nobody certifies it: the program
-constructs and certifies its sketch, `pertxogai.judging.measure` measures each of the designer's
-constraints on whole nanometres, and only what is neither is found here. Nothing of this imports
-numpy before it is asked."""
+"""The search, by numbers: a shape for every drawing, its degrees of freedom, and which constraints
+are redundant or conflicting. The results are computed in floating point by numpy and scipy, and
+nothing certifies them. The program constructs and certifies its sketch, and
+`pertxogai.judging.measure` measures each of the designer's constraints on whole nanometres; only
+what neither of these gives is found here. Nothing here imports numpy before it is used."""
 from __future__ import annotations
 
 from importlib.util import find_spec
@@ -23,22 +21,22 @@ __all__ = ["check_libraries", "search", "search_judged", "searched_within"]
 
 
 def search(drawing: Drawing) -> Finding:
-    """What is found of a sound drawing. Raises MissingLibrary without numpy or scipy."""
+    """Searches a sound drawing. Raises MissingLibrary without numpy or scipy."""
     check_libraries()
     from pertxogai.search.searched import searched
     return searched(drawing).finding()
 
 
 def search_judged(drawing: Drawing, judgement: Judgement, program: Solver) -> Finding:
-    """What is found of a sound drawing that the program was asked about; where it is open, with the
-    program's construction by values that were found. Raises MissingLibrary."""
+    """Searches a sound drawing that was judged; if it is under-constrained, with the program's
+    construction by values that were found. Raises MissingLibrary."""
     check_libraries()
     from pertxogai.search.searched import searched
     return searched(drawing).finding_with(judgement, program)
 
 
 def searched_within(drawing: Drawing, seconds: float) -> Searched:
-    """A sound drawing, searched for so many seconds of a processor at most. Raises
+    """Searches a sound drawing for so many seconds of processor time at most. Raises
     MissingLibrary."""
     check_libraries()
     from pertxogai.search.searched import Searched
@@ -46,7 +44,7 @@ def searched_within(drawing: Drawing, seconds: float) -> Searched:
 
 
 def check_libraries() -> None:
-    """Raises MissingLibrary where numpy or scipy is missing."""
+    """Raises MissingLibrary if numpy or scipy is missing."""
     missing = [name for name in ("numpy", "scipy") if find_spec(name) is None]
     if missing:
         are = "are" if len(missing) > 1 else "is"

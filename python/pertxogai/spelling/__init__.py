@@ -1,9 +1,6 @@
-"""How a designer's words are spelled in the language: once for each style, with the owner of each
-line.
-
-A drawing goes in; sketches of the language come out, with what each of their lines stands for.
-Whether one of them is well, the program says.
-"""
+"""How a drawing is encoded in the sketch language: once for each style, with the constraints that
+each line stands for. A drawing goes in; sketches of the language come out. Which of them is fully
+constrained, the program says."""
 from typing import TYPE_CHECKING
 
 from pertxogai.spelling.axes import Axes

@@ -59,8 +59,9 @@ class Says(Protocol):
 
 
 class Axes:
-    """The frames of a drawing, its equations, and the facts that aren't equations. Distances that
-    run along an axis are equations once they are settled, which `settled_axes` does."""
+    """The frames of a drawing, its linear equations, and the facts that aren't equations. A
+    distance along an axis becomes an equation once its direction is settled, which `settled_axes`
+    does."""
 
     def __init__(self, facts: Facts, lines: Lines) -> None:
         self.facts = facts
@@ -88,8 +89,8 @@ class Axes:
 
     def replaced(self, number: int | None, equation: Equation,
                  without: Apart | Off | None = None) -> Axes:
-        """The same with another equation in the place of one, or a new one, and without a
-        distance; to be settled anew, which `with_equation` does."""
+        """The same with one equation replaced, or a new one, and without a distance; to be settled
+        again, which `with_equation` does."""
         other = copy(self)
         equations = list(self.equations)
         if number is None:
@@ -104,8 +105,8 @@ class Axes:
         return other
 
     def redrawn(self, facts: Facts) -> Axes | None:
-        """The same of facts that differ by where things are drawn alone; None where a point is
-        drawn on another side than before."""
+        """The same for facts that differ only in drawn positions; None if a point is drawn on
+        another side than before."""
         other = copy(self)
         other.facts = facts
         other.frames = [replace(each, way=facts.direction(each.line)) for each in self.frames]
@@ -116,20 +117,20 @@ class Axes:
         return other if is_so else None
 
     def surplus(self) -> list[tuple[Equation, Redundant]]:
-        """The equations that say nothing new, but for radii that are told again as they are."""
+        """The equations that are redundant, except for radii that are given again as they are."""
         return [(equation, told) for equation, told in self.told
                 if told.amount or not all(isinstance(key, RadiusOf)
                                           for key in equation.form.terms)]
 
     def conflicts(self) -> list[Leans]:
-        """The leans that are another than what follows from the others."""
+        """The directions that differ from what follows from the others."""
         return [leans for leans in self.directions.told
                 if self.directions.between(leans.first, leans.second) != leans.lean]
 
     def repeats(self) -> frozenset[Owner]:
-        """Who says again, and says nothing else, what is no line of a sketch: that a point is
-        itself or lies on its own line, a direction that follows from others, a size that is
-        known."""
+        """The constraints that say only what follows already and is no line of a sketch: that a
+        point is itself or lies on its own line, a direction that follows from others, a known
+        size."""
         found = {*self.facts.repeats, *self.lines.repeats}
         more = {fact.owner for fact in self.facts.facts if not isinstance(fact, Leans)}
         found |= {leans.owner for leans in self.directions.told
@@ -177,11 +178,11 @@ class Axes:
         return max(members, key=lambda line: counted[_cross(self.directions.bearing(line).lean)])
 
     def frame(self, line: Line) -> Frame:
-        """The frame of a line's class."""
+        """The frame of a line's class of directions."""
         return self._of_root[self.directions.bearing(line).root]
 
     def lean(self, line: Line) -> Lean:
-        """How a line leans against the first axis of its frame."""
+        """The direction of a line against the first axis of its frame."""
         known = self._leans.get(line)
         if known is None:
             known = self.directions.between(self.frame(line).line, line)
@@ -190,14 +191,15 @@ class Axes:
         return known
 
     def fixed_axis(self, line: Line) -> bool | None:
-        """Which coordinate all points of a line share: True for upwards; None where it leans."""
+        """Which coordinate all points of a line share: True if the line is vertical in its frame;
+        None if it is oblique."""
         lean = self.lean(line)
         return True if lean.level() else False if lean.upright() else None
 
     # -- equations
 
     def tell(self, form: Form, owners: frozenset[Owner]) -> None:
-        """Takes an equation form = 0."""
+        """Adds the equation form = 0."""
         equation = Equation(form, owners)
         told = self.system.add(form, len(self.equations))
         self.equations.append(equation)
@@ -212,7 +214,7 @@ class Axes:
         return Form.of(Coordinate(frame, upwards, knot))
 
     def between(self, frame: int, upwards: bool, first: Knot, second: Knot) -> Form:
-        """The way from a point's coordinate to another's as a form."""
+        """The difference of two points' coordinates as a form."""
         if first == second:
             return Form()
         return Form({Coordinate(frame, upwards, second): 1, Coordinate(frame, upwards, first): -1})
@@ -303,7 +305,7 @@ class Axes:
         self.tell(step - fact.value.times(sign), frozenset({fact.owner}))
 
     def sign(self, frame: Frame, upwards: bool, first: Knot, second: Knot) -> int:
-        """Which way along an axis the second point is drawn from the first."""
+        """On which side of the first point the second is drawn along an axis."""
         key = (frame.number, upwards, first, second)
         known = self._signs.get(key)
         if known is None:
@@ -316,16 +318,16 @@ class Axes:
         return self._frames_of.get(knot, set())
 
     def has_rails(self, frame: Frame, upwards: bool) -> bool:
-        """Whether distances along an axis of a frame are told from lines across it."""
+        """Whether distances along an axis of a frame are given from lines across it."""
         return frame.number == DATUM or (frame.number, upwards) in self._across
 
     def owners(self, form: Form) -> frozenset[Owner]:
-        """Who says how the form is reduced."""
+        """The constraints by which the form is reduced."""
         return frozenset(owner for mark in self.system.sources(form)
                          for owner in self.equations[mark].owners)
 
     def forget(self, fact: Apart) -> None:
-        """Takes away a distance that has become an equation."""
+        """Removes a distance that has become an equation."""
         self.loose.remove(fact)
 
 

@@ -15,8 +15,8 @@ from pertxogai.spelling.writing import Spelled, Writer
 
 
 class Interpretation:
-    """The axes of some facts, and their rails and spellings by style. made: the axes by which it
-    was found what follows from them, the last with all of it."""
+    """The axes of some facts, with their rails and encodings by style. made: the axes from which it
+    was found what follows from the facts, the last with all of it."""
 
     def __init__(self, said: Facts, made: Sequence[Axes]) -> None:
         self.said, self.made = said, made
@@ -26,7 +26,7 @@ class Interpretation:
 
     @staticmethod
     def of(said: Facts) -> Interpretation:
-        """Those of what some facts say of x and y, and what follows from it."""
+        """The interpretation of what some facts say about x and y, and what follows from it."""
         facts: Facts | None = said
         made = []
         while facts is not None:
@@ -37,12 +37,12 @@ class Interpretation:
 
     @property
     def axes(self) -> Axes:
-        """The axes with all that follows."""
+        """The axes with everything that follows."""
         return self.made[-1]
 
     def redrawn(self, said: Facts) -> Interpretation | None:
-        """Those of facts that differ by where things are drawn alone; None where they say another
-        thing, where a side is another than before, and where a direction was chosen by what is
+        """The interpretation of facts that differ only in drawn positions; None if they say
+        something else, if a side differs from before, or if a direction was chosen by what is
         drawn."""
         facts = self.axes.facts
         if not self.said.says(said) or facts.facts[:len(said.facts)] != self.said.facts:
@@ -64,7 +64,7 @@ class Interpretation:
         return self._rails[solves]
 
     def spelled(self, style: Style) -> Spelled:
-        """The drawing, spelled in a style."""
+        """The drawing, encoded in a style."""
         before = self._before.get(style)
         writer = Writer(self.axes, self.rails(style), style)
         if before is None or not writer.write_as(before):

@@ -63,7 +63,8 @@ class Pending:
 
 
 class Rails:
-    """The rails of a drawing in a style, the dimensions between them, and what they don't say."""
+    """The rails of a drawing in a style, the dimensions between them, and what they don't express.
+    A rail is a line shared by all points of the same x, or of the same y."""
 
     def __init__(self, axes: Axes, style: Style) -> None:
         self.axes = axes
@@ -85,7 +86,7 @@ class Rails:
             self._sizes.setdefault(Size(rest.key()), (size, rest.number))
 
     def of(self, axes: Axes) -> Rails:
-        """The same rails, of axes that say the same."""
+        """The same rails, for axes that say the same."""
         other = copy(self)
         other.axes = axes
         return other
@@ -123,34 +124,35 @@ class Rails:
         return Run(first, second, -value.number, equation.owners)
 
     def rail(self, coordinate: Coordinate) -> Rail | None:
-        """The rail of a coordinate; None where nothing is said of it."""
+        """The rail of a coordinate; None if nothing is known of it."""
         return self._rail_of.get(coordinate)
 
     def offset(self, rail: Rail) -> Number:
-        """Where among its points a rail runs: at 0 for the datum, else where most of them are."""
+        """Where a rail runs among its points: at 0 for the datum, else where most of the points
+        are."""
         if rail.datum():
             return 0
         counted = Counter(self.members[rail].values())
         return max(counted, key=lambda value: counted[value])
 
     def owners(self, first: Coordinate | None, second: Coordinate) -> frozenset[Owner]:
-        """Who says how far the second coordinate is from the first, or from the datum."""
+        """The constraints that say how far the second coordinate is from the first, or from the
+        datum."""
         form = Form.of(second) - (Form() if first is None else Form.of(first))
         return _owners(self.axes.equations[mark] for mark in self._system.sources(form))
 
     def number(self, form: Form) -> Number | None:
-        """The value of a form of sizes, in micrometres; None where it isn't known."""
+        """The value of a form of sizes, in micrometres; None if it isn't known."""
         rest = self.axes.system.reduced(form)
         return None if rest.terms else rest.number
 
     def size(self, unknown: Hashable) -> Number | None:
-        """The value of a size, in micrometres; None where it isn't known."""
+        """The value of a size, in micrometres; None if it isn't known."""
         value = self.axes.system.value(unknown)
         return None if value.terms else value.number
 
     def symbols(self, form: Form) -> Form:
-        """A form of coordinates and sizes in rails, each taken for itself, and what is unknown in
-        sizes."""
+        """A form of coordinates and sizes, in terms of rails and unknown sizes."""
         terms: dict[Hashable, Number] = {}
         number = form.number
         for key, factor in form.terms.items():
@@ -163,8 +165,8 @@ class Rails:
         return Form({key: small(each) for key, each in terms.items() if each}, small(number))
 
     def unfold(self, form: Form) -> Form:
-        """A form of rails and sizes in the first coordinate of each rail, and the first of each
-        size."""
+        """A form of rails and sizes, in terms of the first coordinate of each rail and the first of
+        each size."""
         total = Form(number=form.number)
         for key, factor in form.terms.items():
             if isinstance(key, Rail):
@@ -177,7 +179,7 @@ class Rails:
 
     @cached_property
     def pending(self) -> list[Pending]:
-        """The equations that the rails don't say."""
+        """The equations that the rails don't express."""
         found = []
         for number, equation in enumerate(self.axes.equations):
             form = self.symbols(equation.form)
@@ -187,7 +189,7 @@ class Rails:
 
     @cached_property
     def lost(self) -> frozenset[Owner]:
-        """Who says something that neither the rails nor the sizes can say."""
+        """The constraints that say something that neither the rails nor the sizes can express."""
         system = LinearSystem(lambda key: 0 if isinstance(key, Size) else 1)
         lost: set[Owner] = set()
         for each in self.pending:

@@ -22,16 +22,17 @@ from pertxogai.spelling.writing import written
 
 
 def spell(drawing: Drawing, style: Style) -> Spelled:
-    """The drawing in the language, in one style, without what only placed parts tell."""
+    """The drawing in the sketch language, in one style, without what is known only from placed
+    clusters."""
     axes = axes_of(drawing)
     return written(axes, Rails(axes, style), style)
 
 
 @dataclass(frozen=True)
 class Reading:
-    """How a drawing's words are taken. slots: ways between centres along a line are told for
-    radii. middles: regular polygons are told by the middles of opposite corners. ways: a middle
-    of two points is told along the line through them."""
+    """How a drawing's words are interpreted. slots: distances between centres along a line are
+    given for radii. middles: regular polygons are given by the midpoints of opposite corners. ways:
+    a midpoint of two points is given along the line through them."""
 
     slots: bool = True
     middles: bool = False
@@ -43,7 +44,7 @@ READINGS = (Reading(), Reading(middles=True), Reading(slots=False), Reading(ways
 
 
 def axes_of(drawing: Drawing, reading: Reading = READINGS[0]) -> Axes:
-    """What a drawing says of x and y."""
+    """What a drawing says about x and y."""
     return Interpretation.of(_read(lowered(drawing), reading)).axes
 
 
@@ -53,7 +54,7 @@ def interpreted(drawing: Drawing, reading: Reading) -> Interpretation:
 
 
 def axes_said(drawing: Drawing) -> Axes:
-    """What a drawing says of x and y, before a reading takes some of it otherwise."""
+    """What a drawing says about x and y, before a reading interprets some of it in another way."""
     return settled_axes(_with_meetings(lowered(drawing)))
 
 
@@ -63,7 +64,7 @@ def _with_meetings(heard: Facts) -> Facts:
 
 
 def readings(drawing: Drawing) -> Iterator[Interpretation]:
-    """How a drawing is spelled by each reading that takes it otherwise than those before."""
+    """The interpretations of a drawing: one for each reading that differs from those before."""
     return interpretations(lowered(drawing))
 
 

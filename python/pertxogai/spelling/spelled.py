@@ -40,9 +40,9 @@ class Contradiction:
 
 @dataclass(frozen=True)
 class Care:
-    """What else is asked of a spelling. insist: what is linear and told twice is spelled twice.
-    fine: an angle that is no ratio is told by two that add up to it, with a line of help. off:
-    what is told twice by points of its own."""
+    """Further options of an encoding. insist: encode linear constraints twice if they are given
+    twice. fine: pass an angle that is no ratio as two angles that add up to it, with an auxiliary
+    line. off: contradictions to encode by points of their own."""
 
     insist: bool = False
     fine: bool = False
@@ -60,13 +60,13 @@ class Behind:
 
 @dataclass(frozen=True)
 class Spelled:
-    """A drawing in the language. The sketch is `scale` times as large as the drawing.
-
-    said: who says each constraint, in their order. points: the name of each knot's point.
-    tracks: what each line stands for. left_out: who says something that isn't in the sketch.
-    headings: which way each line runs. rounded: values that had to be rounded. near: the numbers of
-    the angles that are told by the ratio next to them. behind: the lines of help behind a rail.
-    unmeasured: the points of help between which a distance stands for what has no value."""
+    """A drawing in the sketch language. The sketch is `scale` times as large as the drawing. said:
+    the constraints of the drawing behind each constraint of the sketch, in order. points: the name
+    of each knot's point; a knot is a class of coinciding points. tracks: what each line stands for.
+    headings: the direction of each line. left_out: the constraints of the drawing that aren't in
+    the sketch. rounded: values that had to be rounded. near: the numbers of the angles that are
+    passed as a near ratio. behind: the auxiliary lines behind a rail. unmeasured: the auxiliary
+    points between which a distance stands for something without a value."""
 
     style: Style
     sketch: language.Sketch
@@ -83,9 +83,9 @@ class Spelled:
 
     @cached_property
     def owners(self) -> tuple[frozenset[Owner], ...]:
-        """Who says each constraint, in their order."""
+        """The constraints of the drawing behind each constraint of the sketch, in order."""
         return tuple(said() for said in self.said)
 
     def tied(self) -> bool:
-        """Whether a line of it is told against the datum's axes; else all of it may turn."""
+        """Whether a line of it is tied to the datum's axes; otherwise all of it may turn."""
         return any(each.frame == DATUM for each in self.headings)

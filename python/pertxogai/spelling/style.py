@@ -5,23 +5,24 @@ from enum import Enum
 
 
 class Style(Enum):
-    """How x and y dimensions are spelled, and against what the direction of a line is told."""
+    """How x and y dimensions are encoded, and against which lines directions are given."""
 
     VALUES = "values"
-    """Points of one x or y share a line, and what is linear is solved: each point by its height
-    over such a line."""
+    """Points with the same x or y share a line, and linear equations are solved first: each point
+    is given by its height over such a line."""
     VALUES_NEAR = "values, angles from neighbours"
-    """As VALUES, and each direction against the line that the designer names."""
+    """As VALUES, with each direction given against the line that the designer names."""
     GRID = "grid"
-    """Points of one x or y share a line; each dimension by itself, from a point to such a line."""
+    """Points with the same x or y share a line; each dimension is passed by itself, from a point to
+    such a line."""
     FEET = "feet"
-    """Points of one x or y share a line; each dimension by itself, between the feet of two such
-    lines."""
+    """Points with the same x or y share a line; each dimension is passed by itself, between foot
+    points on two such lines."""
     def solves(self) -> bool:
-        """Whether what is linear is solved first."""
+        """Whether linear equations are solved first."""
         return self in (Style.VALUES, Style.VALUES_NEAR)
 
     def near(self) -> bool:
-        """Whether directions are told against the neighbour, and not against the frame's first
-        lines."""
+        """Whether directions are given against the neighbour, and not against the first lines of
+        the frame."""
         return self is Style.VALUES_NEAR

@@ -19,7 +19,7 @@ __all__ = ["Behind", "Care", "Contradiction", "Heading", "Spelled", "Track", "Wr
 
 
 def written(axes: Axes, rails: Rails, style: Style, care: Care = Care()) -> Spelled:
-    """The drawing, spelled in that style."""
+    """The drawing, encoded in that style."""
     writer = Writer(axes, rails, style, care)
     writer.write()
     repeats = Repeats(writer.layout, writer.heights)

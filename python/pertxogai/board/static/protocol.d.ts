@@ -210,7 +210,7 @@ export interface Mark {
   label?: [number, number];
 }
 
-/** What is drawn. */
+/** The drawing. */
 export interface Drawing {
   shapes: Shape[];
   constraints: Constraint[];

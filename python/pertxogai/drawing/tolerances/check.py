@@ -32,9 +32,9 @@ WORDS = ("length", "distance", "x", "y", "angle", "radius", "diameter")
 
 @dataclass(frozen=True)
 class Check:
-    """A measure that must lie between two limits, either of which may be left out. asked: the
-    dimension that is measured; its value counts nothing. Limits that are written with a sign count
-    a coordinate or a turn with its sign; else they count as on paper."""
+    """A measure that must lie between two limits; either may be omitted. asked: the dimension that
+    is measured; its value is ignored. If a limit is written with a sign, a coordinate or a turn is
+    measured with its sign; otherwise it is measured as on paper."""
 
     name: str
     asked: Valued
@@ -43,12 +43,12 @@ class Check:
 
     @property
     def is_angle(self) -> bool:
-        """Whether it counts degrees, and no lengths."""
+        """Whether it measures degrees, and not lengths."""
         return isinstance(self.asked, AngleBetween)
 
     @property
     def is_signed(self) -> bool:
-        """Whether its limits count a coordinate or a turn with its sign."""
+        """Whether it measures a coordinate or a turn with its sign."""
         return isinstance(self.asked, SENSED) and self.asked.sense is Sense.SIGNED
 
     def words(self) -> str:
@@ -57,11 +57,11 @@ class Check:
         return " ".join([*asked_of(self.asked), *filter(None, (low, UP_TO, high))])
 
     def line(self) -> str:
-        """Its line of the text."""
+        """Its line in the text."""
         return f"{WORD} {self.name} {self.words()}"
 
     def limits(self, values: Values) -> tuple[Fraction | None, Fraction | None]:
-        """The limits in micrometres or degrees. Raises WordFault where one can't be reckoned."""
+        """The limits in micrometres or degrees. Raises WordFault if one can't be computed."""
         reckon = degrees_of if self.is_angle else um_of
         low, high = (reckon(each, values) if each else None for each in (self.low, self.high))
         return low, high
@@ -69,8 +69,8 @@ class Check:
 
 @dataclass(frozen=True)
 class Tolerancing:
-    """What a drawing says of tolerances beside those of its dimensions: the general class, and what
-    must fit."""
+    """The tolerances of a drawing beside those of its dimensions: the general class, and the checks
+    of what must fit."""
 
     general: GeneralTolerance | None = None
     checks: tuple[Check, ...] = ()
@@ -81,7 +81,7 @@ class Tolerancing:
         return replace(self, checks=tuple(kept))
 
     def lines(self) -> list[str]:
-        """The lines of the text."""
+        """The lines in the text."""
         general = [] if self.general is None else [self.general.line()]
         return general + [each.line() for each in self.checks]
 

@@ -73,17 +73,18 @@ _TABLES = {Table.LINEAR: _LINEAR, Table.BROKEN_EDGE: _BROKEN_EDGE, Table.ANGULAR
 
 @dataclass(frozen=True)
 class GeneralTolerance:
-    """The class that holds for each dimension without a tolerance of its own."""
+    """The general tolerance class, for each dimension without a tolerance of its own."""
 
     grade: Grade
 
     def line(self) -> str:
-        """Its line of the text."""
+        """Its line in the text."""
         return f"{WORD} {PREFIX}{self.grade.value}"
 
     def off(self, table: Table, size_um: Fraction) -> Fraction | None:
-        """How far what has that size may be off to both sides: micrometres, or degrees of an angle,
-        whose size is the length of its shorter side; None where the standard gives none."""
+        """The permitted deviation to both sides of a dimension of that size: micrometres, or
+        degrees for an angle, whose size is the length of its shorter side; None if the standard
+        gives none."""
         if table is not Table.ANGULAR and size_um < LEAST_UM:
             return None
         column = 1 + list(Grade).index(self.grade)

@@ -22,9 +22,9 @@ _ANGLES: Units = {"deg": Fraction(1), "°": Fraction(1)}
 
 @dataclass(frozen=True)
 class Tolerance:
-    """How far a value may lie below and above, in micrometres, or in degrees of an angle. Less than
-    0 below means that its least is more than the value, and likewise above; together they aren't
-    less than 0. text: as it is written."""
+    """How far a value may lie below and above, in micrometres, or in degrees for an angle. A
+    negative `below` means that the least permitted value is above the nominal one, and likewise for
+    `above`; their sum isn't negative. text: the tolerance as written."""
 
     below: Fraction
     above: Fraction

@@ -39,7 +39,7 @@ class Name:
 
 @dataclass(frozen=True)
 class Negative:
-    """The same with the other sign."""
+    """The number with the other sign."""
 
     of: Node
     word: str
@@ -77,7 +77,7 @@ Node = Number | Name | Negative | Sum | Product | Call
 
 @dataclass(frozen=True)
 class Expression:
-    """An expression, with its text as it is written, single blanks between words."""
+    """An expression, and its text as written, with single blanks between words."""
 
     text: str
     tree: Node = field(compare=False, repr=False)
@@ -93,7 +93,7 @@ class Expression:
         return self.text[:1] in ("+", "-", "−")
 
     def evaluated(self, look_up: LookUp) -> Quantity:
-        """What it comes to. Raises WordFault at the part that can't be reckoned."""
+        """Its value. Raises WordFault at the part that can't be computed."""
         return _evaluated(self.tree, look_up)
 
 

@@ -24,12 +24,12 @@ PARTS = 10_000
 
 
 class Unit(Enum):
-    """What a parameter counts; the values are their words."""
+    """The unit of a parameter; the values are the words for it."""
 
     MM = "mm"
     DEGREES = "deg"
     PLAIN = ""
-    """No unit, as of a count of holes; of a value that is used as a length it is millimetres."""
+    """No unit, such as a count of holes; a value that is used as a length is in millimetres."""
 
 
 @dataclass(frozen=True)
@@ -54,7 +54,7 @@ class NamedValue:
 
 @dataclass(frozen=True)
 class Dimension:
-    """The constraint at a place, from 1; `present` counts its unit."""
+    """The constraint with that number, from 1; `present` is its value in its unit."""
 
     number: int
     unit: Unit
@@ -65,8 +65,9 @@ class Dimension:
         return drawing.called(self.number)
 
     def on(self, drawing: Drawing, number: Fraction) -> Drawing:
-        """The drawing with another number for it, in its unit; itself at the present one. An angle
-        by its ratio is one in degrees then, as a turn. Raises DrawingUnsound."""
+        """The drawing with another value for it, in its unit; with the present value the drawing
+        itself. An angle that was given by a ratio becomes one in degrees, as a turn. Raises
+        DrawingUnsound."""
         if number == self.present:
             return drawing
         old = drawing.constraints[self.number - 1]
@@ -87,13 +88,13 @@ class Dimension:
 
 
 Parameter = NamedValue | Dimension
-"""What may be given another number."""
+"""A value or dimension whose number may be changed."""
 
 
 def parameters(drawing: Drawing) -> tuple[Parameter, ...]:
-    """The values and then the dimensions of a sound drawing that follow from no value; without
-    values whose unit is another than mm or degrees. Of an angle by a ratio `present` is the turn in
-    degrees, to four digits behind the point."""
+    """The values, and then the dimensions that don't follow from values, of a sound drawing;
+    without values whose unit isn't mm or degrees. For an angle given by a ratio `present` is the
+    turn in degrees, to four decimals."""
     return (*_values(drawing), *_dimensions(drawing))
 
 

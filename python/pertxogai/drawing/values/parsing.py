@@ -35,7 +35,7 @@ _TIMES, _OVER = frozenset("*×·"), frozenset("/÷")
 
 
 def read_expression(text: str) -> Expression:
-    """The expression of a text. Raises WordFault at the word that is at fault."""
+    """Reads an expression from its text. Raises WordFault at the word at fault."""
     text = " ".join(text.split())
     parser = _Parser(text, _tokens(text))
     tree = parser.sum(0)

@@ -28,9 +28,9 @@ class Misfit(Exception):
 
 @dataclass(frozen=True)
 class Quantity:
-    """A number of millimetres to the power `length`, and of degrees to the power `angle`. One that
-    has neither is plain: beside millimetres it counts as millimetres. exact: whether no root in it
-    is other than a fraction; else it is taken to thirty places."""
+    """A number of millimetres to the power `length`, and of degrees to the power `angle`. A number
+    with neither is plain: beside millimetres it counts as millimetres. exact: false if it contains
+    a root that is no fraction, which is computed to thirty decimals."""
 
     number: Fraction
     length: int = 0
@@ -43,7 +43,7 @@ class Quantity:
         return not self.length and not self.angle
 
     def plus(self, other: Quantity) -> Quantity:
-        """The sum. Raises Misfit where the units don't fit."""
+        """The sum. Raises Misfit if the units don't fit."""
         length, angle = self._unit_with(other)
         exact, number = self.exact and other.exact, self.number + other.number
         if not exact and abs(number) < _NOTHING * max(abs(self.number), abs(other.number)):
@@ -56,17 +56,17 @@ class Quantity:
                                  self.angle + other.angle, self.exact and other.exact))
 
     def negative(self) -> Quantity:
-        """The same with the other sign."""
+        """The number with the other sign."""
         return replace(self, number=-self.number)
 
     def inverse(self) -> Quantity:
-        """One over it. Raises Misfit where it is 0."""
+        """The reciprocal. Raises Misfit for 0."""
         if not self.number:
             raise Misfit("comes to 0, and nothing is divided by 0")
         return _checked(Quantity(1 / self.number, -self.length, -self.angle, self.exact))
 
     def root(self) -> Quantity:
-        """The square root. Raises Misfit of what is negative, or has a unit without a root."""
+        """The square root. Raises Misfit for a negative number, or a unit without a root."""
         if self.number < 0:
             raise Misfit(f"comes to {self.text()}, which has no square root")
         if self.length % 2 or self.angle % 2:
@@ -76,13 +76,13 @@ class Quantity:
         return _checked(Quantity(root, self.length // 2, self.angle // 2, self.exact and exact))
 
     def um(self) -> Fraction:
-        """A length in micrometres. Raises Misfit of another unit."""
+        """A length in micrometres. Raises Misfit for another unit."""
         if self.angle or self.length not in (0, 1):
             raise Misfit(f"is in {self.unit_text()}, and no length")
         return self.number * UM_PER_MM
 
     def degrees(self) -> Fraction:
-        """An angle in degrees. Raises Misfit of another unit."""
+        """An angle in degrees. Raises Misfit for another unit."""
         if self.is_plain:
             raise Misfit("is a number without a unit, and no angle: write deg behind a number in "
                          "it, as 60deg")
@@ -91,15 +91,15 @@ class Quantity:
         return self.number
 
     def unit_text(self) -> str:
-        """Its unit, as `mm`, `mm²`, `deg/mm`; nothing where it is plain."""
+        """Its unit, such as `mm`, `mm²`, `deg/mm`; empty if it is plain."""
         above = [_power("mm", self.length), _power("deg", self.angle)]
         below = [_power("mm", -self.length), _power("deg", -self.angle)]
         over = "·".join(filter(None, above))
         return "/".join([over or "1", *filter(None, below)]) if any(below) else over
 
     def text(self) -> str:
-        """The number with its unit, for a person: to six places behind the point, or what is below
-        1 to six digits that count; with 'about' where that isn't the number itself."""
+        """The number with its unit, for people to read: to six decimals, or below 1 to six
+        significant digits; with 'about' if that isn't the exact number."""
         size, number = abs(self.number), float(self.number)
         shown = f"{number:.6f}" if size >= 1 else format(Decimal(f"{number:.6g}"), "f")
         about = "" if Fraction(shown) == self.number else "about "

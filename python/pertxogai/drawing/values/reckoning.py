@@ -17,7 +17,7 @@ from pertxogai.drawing.values.table import ValueFault, Values
 
 @dataclass(frozen=True)
 class ReckonedValue:
-    """A named value, how it is written, and what it comes to."""
+    """A named value, its text, and its result."""
 
     name: str
     text: str
@@ -25,15 +25,15 @@ class ReckonedValue:
 
 
 def reckoned_values(drawing: Drawing) -> tuple[ReckonedValue, ...]:
-    """The values of a sound drawing, in their order."""
+    """The values of a sound drawing, in order."""
     values = drawing.scene.values
     return tuple(ReckonedValue(each.name, each.expression.text, values.quantity(each.name))
                  for each in drawing.values)
 
 
 def rounded_roots(drawing: Drawing) -> tuple[int, ...]:
-    """The places, from 1, of the constraints of a sound drawing whose values were rounded, since a
-    root in their expressions is no fraction."""
+    """The numbers, from 1, of the constraints of a sound drawing whose values were rounded because
+    a root in their expressions is no fraction."""
     values = drawing.scene.values
     return tuple(number for number, each in enumerate(drawing.constraints, start=1)
                  if isinstance(each, VALUED) and each.expression is not None
@@ -41,9 +41,9 @@ def rounded_roots(drawing: Drawing) -> tuple[int, ...]:
 
 
 def with_values(drawing: Drawing, changes: Mapping[str, Expression]) -> Drawing:
-    """A sound drawing in which some values are others, with each expression reckoned anew. A name
-    that no value has is passed over. Raises DrawingUnsound, with the value or the constraint, where
-    that isn't sound."""
+    """A sound drawing with other expressions for some values, and all expressions computed again.
+    Names that no value has are ignored. Raises DrawingUnsound for a value or constraint that isn't
+    sound then."""
     values = tuple(replace(each, expression=changes.get(each.name, each.expression))
                    for each in drawing.values)
     return reckoned(replace(drawing, values=values))

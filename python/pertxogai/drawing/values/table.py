@@ -18,13 +18,13 @@ MOST_VALUES = 1_000
 
 @dataclass(frozen=True)
 class Value:
-    """A named value, and how it is written."""
+    """A named value, and its text."""
 
     name: str
     expression: Expression
 
     def line(self) -> str:
-        """Its line of the text."""
+        """Its line in the text."""
         return f"value {self.name} {self.expression.text}"
 
 

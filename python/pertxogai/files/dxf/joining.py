@@ -29,14 +29,15 @@ Way = tuple[Fraction, Fraction]
 
 @dataclass(frozen=True)
 class Outline:
-    """An outline: its shapes with the joints of the ends that meet, and what is offered besides.
-    No dimension is among either. A tangency that is offered at two ends says their joint too."""
+    """An outline: its shapes, with the joints of the ends that meet, and further constraints that
+    are offered. Neither has a dimension. A tangency that is offered at two ends includes their
+    joint."""
 
     sketch: FileSketch
     offered: tuple[Constraint, ...]
 
     def accepted(self) -> FileSketch:
-        """The sketch with all that is offered."""
+        """The sketch with everything that is offered."""
         said = {offer.at for offer in self.offered if isinstance(offer, Tangent)}
         kept = tuple(joint for joint in self.sketch.drawing.constraints
                      if not isinstance(joint, Coincident)

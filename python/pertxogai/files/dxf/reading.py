@@ -13,15 +13,13 @@ from pertxogai.files.dxf.entities import read_entities
 from pertxogai.files.dxf.joining import End, Outline, ends_of, joints, level, meeting, square
 
 TOLERANCE_UM = Fraction(10)
-"""How near ends lie that meet, where no other tolerance is asked for: 0.01 mm."""
+"""The distance within which ends meet, unless another tolerance is asked for: 0.01 mm."""
 
 
 def read_outline(path: Path, tolerance_um: Fraction = TOLERANCE_UM) -> Outline:
-    """The outline of a DXF file's model space; ends nearer than the tolerance, in micrometres
-    and above 0, are joined.
-
-    Raises FileRefusal where the file can't be read, is no DXF file, or has nothing to draw.
-    """
+    """The outline of a DXF file's model space; ends nearer than the tolerance, in micrometres and
+    above 0, are joined. Raises FileRefusal if the file can't be read, isn't a DXF file, or has
+    nothing to draw."""
     gathering = DrawingBuilder()
     shapes: list[Shape] = []
     for entity in read_entities(path):

@@ -22,10 +22,8 @@ SKETCH = "Sketcher::SketchObject"
 
 
 def read_freecad(path: Path) -> tuple[FileSketch, ...]:
-    """Every sketch of a `.FCStd` file, in the file's order, with what was left out told.
-
-    Raises FileRefusal where the file can't be read, is no FreeCAD file, or has no sketch.
-    """
+    """Every sketch of a `.FCStd` file, in the file's order, with what was left out. Raises
+    FileRefusal if the file can't be read, isn't a FreeCAD file, or has no sketch."""
     with open_archive(path) as archive:
         objects = objects_of(path, read_member(path, archive, DOCUMENT))
         _check_size(path, objects)

@@ -46,8 +46,8 @@ Written = dict[str, str]
 
 
 def write_freecad(path: Path, out: Path, good: Mapping[str, GoodJudgement]) -> None:
-    """Copies a file to `out` with the shapes of each sketch that is named where its judgement,
-    which is good, has them. Raises FileRefusal as `write_places`."""
+    """Copies a file to `out`, with the shapes of each named sketch at the positions of its good
+    judgement. Raises FileRefusal if the file can't be read or copied, or if `out` is the file."""
     write_places(path, out, {name: each.solution for name, each in good.items()})
 
 

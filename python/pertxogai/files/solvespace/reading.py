@@ -45,10 +45,8 @@ class Contents:
 
 
 def read_solvespace(path: Path) -> tuple[FileSketch, ...]:
-    """Every sketch of a `.slvs` file that is drawn in a plane, in the file's order.
-
-    Raises FileRefusal where the file can't be read, is no SolveSpace file, or has no sketch.
-    """
+    """Every sketch of a `.slvs` file that is drawn in a plane, in the file's order. Raises
+    FileRefusal if the file can't be read, isn't a SolveSpace file, or has no sketch."""
     contents = contents_of(path, read_lines(path))
     found = tuple(_sketch(group, contents) for group in sketch_groups(contents))
     if not found:

@@ -31,8 +31,8 @@ _VALUE, _LENGTH = b"Param.val=", b"Constraint.valA="
 
 
 def write_solvespace(path: Path, out: Path, good: Mapping[str, GoodJudgement]) -> None:
-    """Copies a file to `out` with the numbers of each sketch that is named where its judgement,
-    which is good, has them. Raises FileRefusal as `write_places`."""
+    """Copies a file to `out`, with the numbers of each named sketch from its good judgement. Raises
+    FileRefusal if the file can't be read or written, or if `out` is the file."""
     write_places(path, out, {name: each.solution for name, each in good.items()})
 
 

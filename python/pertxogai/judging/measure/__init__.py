@@ -1,4 +1,4 @@
-"""Each of a designer's constraints, measured on the printed whole numbers, exactly."""
+"""Each of a designer's constraints, measured exactly on the printed whole numbers."""
 
 from pertxogai.exact import Number
 from pertxogai.judging.measure.deviation import Because, Deviation, Implied, Unit, greatest

@@ -10,7 +10,7 @@ from pertxogai.drawing import Constraint, Drawing, PointRef, ShapeRef
 
 
 class Unit(Enum):
-    """What an amount counts."""
+    """The unit of an amount."""
 
     NM = "nm"
     """Nanometres."""
@@ -19,10 +19,10 @@ class Unit(Enum):
 
 
 class Because(Enum):
-    """Why something has to hold that no constraint asks for; the values are for a report."""
+    """Why something must hold that no constraint asks for; the values are for reports."""
 
     SHARED = "shares a point with"
-    """A point that a shape shares with another is one point."""
+    """A point that two shapes share is one point."""
     RIM = "is an end of the arc"
     """An arc's ends lie on its circle."""
     OUTER = "is given from outside as"
@@ -31,7 +31,8 @@ class Because(Enum):
 
 @dataclass(frozen=True)
 class Implied:
-    """What holds by the shapes themselves: a point, why, and the point or shape it is held to."""
+    """What holds because of the shapes themselves: a point, why, and the point or shape to which it
+    is tied."""
 
     point: PointRef
     because: Because
@@ -43,9 +44,9 @@ class Implied:
 
 @dataclass(frozen=True)
 class Deviation:
-    """How far a constraint is off: `amount` is the least whole number of units within which it
-    holds with the printed numbers; for an angle in degrees, whose cosine is no fraction, it may
-    be one more. `number` is the constraint's place, from 1, and None of what is implied."""
+    """The deviation of a constraint: `amount` is the least whole number of units within which it
+    holds at the printed numbers; for an angle in degrees, whose cosine is no fraction, it may be
+    one more. `number` is the number of the constraint, from 1, or None for something implied."""
 
     number: int | None
     of: Constraint | Implied
@@ -53,12 +54,12 @@ class Deviation:
     unit: Unit
 
     def called(self, drawing: Drawing) -> str:
-        """What it is called in a report."""
+        """Its name in a report."""
         return str(self.of) if self.number is None else drawing.called(self.number)
 
 
 def greatest(deviations: Iterable[Deviation], unit: Unit) -> Deviation | None:
-    """The first of the greatest deviations in this unit; None where there is none at all."""
+    """The first of the greatest deviations in this unit; None if there is none."""
     of_unit = [each for each in deviations if each.unit is unit]
     return max(of_unit, key=lambda each: each.amount) if of_unit else None
 

@@ -24,8 +24,8 @@ _PPB = 10 ** 9
 
 @dataclass(frozen=True)
 class Limit:
-    """Within how many nanometres a length has to hold, and within how many parts per 10^9 a
-    direction: the key `within` of the language, which has one number for both."""
+    """The limit for each constraint: nanometres for a length, parts per 10^9 for a direction. The
+    key `within` of the language has one number for both, and so has this."""
 
     amount: int = DEFAULT
 
@@ -34,8 +34,8 @@ class Limit:
             raise ValueError(f"a limit is a whole number from 1 to {MOST}")
 
     def beyond(self, deviations: Iterable[Deviation]) -> Iterator[Deviation]:
-        """The constraints that don't hold within it, each once, by what of it is off: its length,
-        or its direction. `deviations` has the nanometres of a constraint before its ppb."""
+        """The constraints that don't hold within it, each once, by its length or its direction.
+        `deviations` has the nanometres of a constraint before its ppb."""
         length_nm = 0
         for each in deviations:
             if each.unit is Unit.NM:
@@ -70,13 +70,13 @@ def is_direction(of: Constraint | Implied) -> bool:
 
 
 def amount_text(off: Deviation) -> str:
-    """How far something is off, for a person."""
+    """A deviation, for people to read."""
     return units_text(off.amount, off.unit)
 
 
 def units_text(amount: int, unit: Unit) -> str:
-    """An amount, for a person: in millimetres and degrees where it is a micrometre and more,
-    else in nanometres and ppb."""
+    """An amount, for people to read: in millimetres and degrees from a micrometre upwards, else in
+    nanometres and ppb."""
     if amount < 1000:
         return f"{amount} {unit.value}"
     if unit is Unit.NM:

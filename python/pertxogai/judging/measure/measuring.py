@@ -24,8 +24,8 @@ Deviations = tuple[Deviation, ...]
 
 @dataclass(frozen=True)
 class Measurement:
-    """A sound drawing on some places, and how far each of its constraints is off there. That is
-    measured when it is asked for, so that no measurement says what wasn't measured."""
+    """A sound drawing at some positions, and the deviation of each of its constraints there. It is
+    measured on demand, so no measurement reports what wasn't measured."""
 
     drawing: Drawing
     solution: Solution
@@ -35,21 +35,21 @@ class Measurement:
 
     @cached_property
     def by_constraint(self) -> tuple[Deviations, ...]:
-        """How far each constraint is off, in their order. Raises MissingPlace."""
+        """The deviations of each constraint, in order. Raises MissingPlace."""
         placed = Placed(self.drawing, self.solution)
         return tuple(self._known.get((number, id(of))) or _each(number, of, amounts(placed, of))
                      for number, of in enumerate(self.drawing.constraints, start=1))
 
     @cached_property
     def all(self) -> Deviations:
-        """All deviations in their order, behind those of the constraints what the shapes imply.
+        """All deviations in order: those of the constraints, then those of what the shapes imply.
         Raises MissingPlace."""
         implied = _implied_deviations(Placed(self.drawing, self.solution))
         return (*(each for some in self.by_constraint for each in some), *implied)
 
     def redrawn(self, drawing: Drawing, solution: Solution) -> Measurement:
-        """The measurement of what an edit has made of the drawing, on its places. What all is drawn
-        and lies as it did isn't measured again."""
+        """The measurement of an edited drawing at its positions. What is unchanged, as drawn and as
+        placed, isn't measured again."""
         found, elsewhere = Measurement(drawing, solution), moved(drawing, self.drawing)
         if elsewhere is not None and solution.frame == self.solution.frame:
             elsewhere |= solution.elsewhere(self.solution)
@@ -60,10 +60,9 @@ class Measurement:
 
 
 def measure(drawing: Drawing, solution: Solution) -> Deviations:
-    """How far each constraint of a sound drawing is off, in their order, and behind them what
-    its shapes imply. One that asks for a direction has two deviations: in nanometres, how far
-    the end of the shorter line lies off it, and in ppb. Raises MissingPlace where a place that is
-    spoken of wasn't printed."""
+    """The deviations of all constraints of a sound drawing, in order, and then those of what its
+    shapes imply. A constraint on a direction has two: in nanometres, how far the end of the shorter
+    line is off it, and in ppb. Raises MissingPlace if a position that is needed wasn't printed."""
     return Measurement(drawing, solution).all
 
 
@@ -74,7 +73,8 @@ def measure_one(drawing: Drawing, solution: Solution, number: int) -> Deviations
 
 
 def measure_placed(drawing: Drawing, solution: Solution) -> Deviations:
-    """As `measure`, of those alone whose places were all printed: one part of an open drawing."""
+    """Like `measure`, but only for those whose positions were all printed: one rigid cluster of an
+    under-constrained drawing."""
     return tuple(_deviations(Placed(drawing, solution)))
 
 

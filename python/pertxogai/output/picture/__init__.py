@@ -1,5 +1,4 @@
-"""Pictures as SVG. They are drawn in floating point: what is told as a number comes from the
-program's reports."""
+"""Pictures as SVG, drawn in floating point. Numbers in them come from the program's reports."""
 from pertxogai.output.picture.drawings import Marking, picture_of_designed, scene_of_designed
 from pertxogai.output.picture.marks import (
     Bow, Dimension, Dot, Ink, LengthBar, Manner, Mark, PointMm, Ring, Scene, Square, Stroke, Tag)

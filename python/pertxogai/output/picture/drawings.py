@@ -25,9 +25,9 @@ SPARE = Ink(Manner.SPARE)
 
 @dataclass(frozen=True)
 class Marking:
-    """What a picture of a drawing tells beside its shapes: the part of each shape, by its name;
-    which constraints may go, by their places from 1; the lines below; which shapes are free; and
-    the directions in which points still move."""
+    """What a picture of a drawing shows beside its shapes: the rigid cluster of each shape, by its
+    name; the numbers, from 1, of the removable constraints; the lines of text below; the shapes
+    that are free; and the directions in which points can still move."""
 
     parts: Mapping[str, int] = field(default_factory=dict)
     spare: frozenset[int] = frozenset()
@@ -42,7 +42,7 @@ def picture_of_designed(
     title: str = "a drawing",
     marking: Marking = Marking(),
 ) -> Picture:
-    """A drawing as it is, or where its points are placed, seen from its datum."""
+    """A drawing as drawn, or at its solved position, in the coordinates of its datum."""
     return picture_of(scene_of_designed(drawing, solution, title, marking))
 
 

@@ -9,7 +9,7 @@ PointMm = tuple[float, float]
 
 
 class Manner(Enum):
-    """How a mark is drawn; the value is its class in the SVG."""
+    """The style of a mark; the value is its class in the SVG."""
 
     EDGE = "edge"
     CONSTRUCTION = "construction"
@@ -22,8 +22,8 @@ class Manner(Enum):
 
 @dataclass(frozen=True)
 class Ink:
-    """How a mark is drawn, and of which part it has the colour: a number from 1, or None for
-    the one colour."""
+    """How a mark is drawn. part: the number, from 1, of the rigid cluster whose colour it has, or
+    None for the common colour."""
 
     manner: Manner = Manner.EDGE
     part: int | None = None
@@ -70,12 +70,12 @@ class Bow:
 
 
 Mark = Dot | Stroke | Ring | Bow
-"""What is drawn of a shape."""
+"""The drawing of a shape."""
 
 
 @dataclass(frozen=True)
 class LengthBar:
-    """A dimension between two places: a thin bar, and its text beside it."""
+    """A dimension between two points: a thin bar, and its text beside it."""
 
     start: PointMm
     end: PointMm
@@ -85,8 +85,8 @@ class LengthBar:
 
 @dataclass(frozen=True)
 class Tag:
-    """A text near a place, as that of an angle at a corner; or, with a radius, outside or
-    inside of a rim."""
+    """A text near a point, such as that of an angle at a corner; or, with a radius, outside or
+    inside a circle."""
 
     at: PointMm
     radius: float
@@ -96,8 +96,7 @@ class Tag:
 
 @dataclass(frozen=True)
 class Square:
-    """The small square of a right angle in the corner at a place, with sides along two
-    directions."""
+    """The small square that marks a right angle in a corner, with sides along two directions."""
 
     at: PointMm
     first: PointMm
@@ -115,12 +114,13 @@ class Arrow:
 
 
 Dimension = LengthBar | Tag | Square | Arrow
-"""A dimension as it is drawn."""
+"""The drawing of a dimension."""
 
 
 @dataclass(frozen=True)
 class Scene:
-    """All that a picture shows, and below it lines of text, each with the colour of a part."""
+    """Everything that a picture shows, and lines of text below it, each with the colour of a
+    cluster."""
 
     title: str
     marks: tuple[Mark, ...]

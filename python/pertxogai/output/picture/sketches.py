@@ -23,7 +23,7 @@ SPARE = Ink(Manner.SPARE)
 def picture_of_drawing(
     sketch: Sketch, title: str = "a sketch as drawn", below: Sequence[str] = ()
 ) -> Picture:
-    """The sketch as it is drawn, with its dimensions, and lines of text below it."""
+    """The sketch as drawn, with its dimensions, and lines of text below it."""
     layout = _Layout(sketch, as_drawn(sketch.elements))
     dimensions = tuple(layout.dimensions(sketch.constraints, BAR))
     legend = tuple((line, Ink()) for line in below)
@@ -31,7 +31,7 @@ def picture_of_drawing(
 
 
 def picture_of_shape(sketch: Sketch, shape: Shape, title: str = "a sketch as placed") -> Picture:
-    """The sketch as it is placed, in the frame of its places, with its dimensions."""
+    """The sketch as placed, in the coordinates of its positions, with its dimensions."""
     layout = _Layout(sketch, as_placed(shape.places))
     return picture_of(
         Scene(title, tuple(layout.marks(Ink())), tuple(layout.dimensions(sketch.constraints, BAR)))
@@ -44,9 +44,8 @@ def picture_of_parts(
     spare: Sequence[Spare] = (),
     title: str = "the parts of a sketch",
 ) -> Picture:
-    """The parts of a sketch, each in a colour, with its own shape laid on the drawing; one
-    without a shape as it is drawn. Constraints of `spare`, of which each may go by itself, are
-    marked."""
+    """The rigid clusters of a sketch, each in a colour, its own shape laid on the drawing; as drawn
+    if it has no shape. The removable constraints (`spare`) are marked."""
     marks: list[Mark] = []
     dimensions: list[Dimension] = []
     legend: list[tuple[str, Ink]] = []

@@ -58,13 +58,13 @@ class Picture:
         Path(path).write_text(self.svg, encoding="utf-8")
 
     def to_scale(self, paper: Fraction) -> Picture:
-        """The same to be printed: a millimetre of the drawing is `paper` millimetres long, and a
-        bar tells how long it is."""
+        """The same picture for printing: a millimetre of the drawing is `paper` millimetres long,
+        and a bar shows the scale."""
         return Picture("\n".join([*_Drawer(self.scene, paper).lines(), ""]), self.scene)
 
 
 def picture_of(scene: Scene) -> Picture:
-    """The picture of a scene."""
+    """Draws the picture of a scene."""
     return Picture("\n".join([*_Drawer(scene).lines(), ""]), scene)
 
 

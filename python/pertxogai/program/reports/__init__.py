@@ -1,5 +1,5 @@
-"""Every answer of the program as a value, read by a grammar that takes what docs/LANGUAGE.md
-says and nothing else."""
+"""Every answer of the program as a value, read by a grammar that accepts what docs/LANGUAGE.md says
+and nothing else."""
 from typing import TYPE_CHECKING
 
 if TYPE_CHECKING:

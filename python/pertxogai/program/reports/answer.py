@@ -19,8 +19,8 @@ if TYPE_CHECKING:
 
 
 class NoAnswer(NotAReport):
-    """The program ended with a status that has no whole report: a read, a write or memory failed.
-    `text` is what it had written: of a session whole replies, if memory ran out."""
+    """The program ended with a status that has no whole report: a read, a write or an allocation
+    failed. `text` is what it had written: if memory ran out in a session, whole replies."""
 
     def __init__(self, answer: Answer) -> None:
         super().__init__(
@@ -59,8 +59,8 @@ is needed."""
 
 
 def read_answer(words: Sequence[str], answer: Answer) -> Report:
-    """What the program answered to a command, as a value. Raises NotAReport, and NoAnswer where
-    there is none."""
+    """Reads the program's answer to a command. Raises NotAReport, and NoAnswer if there is no
+    report."""
     status, command = answer.status, words[0] if words else ""
     if status in _WHAT:
         raise NoAnswer(answer)

@@ -17,8 +17,8 @@ _PART = re.compile(
 
 
 class Verdict(Enum):
-    """Whether the dimensions are just as many as fix the sketch, too many, or leave several
-    parts."""
+    """The verdict: fully constrained (WELL), over-constrained (OVER), or under-constrained or not
+    found to be rigid (OPEN)."""
 
     WELL = "well"
     OVER = "over"
@@ -37,8 +37,8 @@ _GLOSSES = {Verdict.WELL: "fully constrained", Verdict.OVER: "over-constrained",
 
 @dataclass(frozen=True)
 class Part:
-    """A piece that is rigid by itself: how many constraints it holds and is due, and its
-    elements by number."""
+    """A rigid cluster: how many constraints it has (held) and needs (due), and its elements by
+    number."""
 
     number: int
     over: bool
@@ -57,7 +57,8 @@ class Part:
 
 @dataclass(frozen=True)
 class CheckReport:
-    """The verdict, the numbers of elements and constraints, and the parts in their order."""
+    """The verdict, the numbers of elements and constraints, and the rigid clusters (parts) in
+    order."""
 
     verdict: Verdict
     elements: int
@@ -74,12 +75,12 @@ class CheckReport:
         return head + "".join(part.text() for part in self.parts)
 
     def too_many(self) -> int:
-        """How many more constraints the parts that are over hold than they are due."""
+        """By how many constraints the over-constrained clusters exceed what they need."""
         return sum(part.held - part.due for part in self.parts if part.over)
 
 
 def read_check(text: str) -> CheckReport:
-    """The report of `check`. Raises NotAReport."""
+    """Reads the report of `check`. Raises NotAReport."""
     with whole(text, "check") as rows:
         return take_check(rows)
 

@@ -14,7 +14,7 @@ _NONE = re.compile("no completion (over|lines|angles|enough|stuck)")
 
 
 class Lack(Enum):
-    """Why no completion is given; its value is the word of the report."""
+    """Why no completion is given; the value is the word in the report."""
 
     OVER = "over"  #: a part is over
     LINES = "lines"  #: more than two elements, and all are lines
@@ -25,7 +25,7 @@ class Lack(Enum):
 
 @dataclass(frozen=True)
 class NoCompletion:
-    """Why no completion is given, and what `check` says of the sketch."""
+    """Why no completion is given, and the report of `check`."""
 
     why: Lack
     check: CheckReport
@@ -36,7 +36,7 @@ class NoCompletion:
 
 
 def read_complete(text: str) -> Sketch:
-    """What `complete` writes where it gives a completion. Raises NotAReport."""
+    """Reads what `complete` writes if it gives a completion. Raises NotAReport."""
     try:
         sketch = Sketch.parse(text)
     except Refusal as refusal:
@@ -47,7 +47,7 @@ def read_complete(text: str) -> Sketch:
 
 
 def read_no_completion(text: str) -> NoCompletion:
-    """What `complete` writes where it gives none. Raises NotAReport."""
+    """Reads what `complete` writes if it gives no completion. Raises NotAReport."""
     with whole(text, "complete") as rows:
         why = Lack(rows.take(_NONE)[1])
         check = take_check(rows)

@@ -10,7 +10,7 @@ _CLUSTER = re.compile(f"cluster ({COUNT}) : ({NAMES})")
 
 
 def read_derive(text: str) -> tuple[tuple[str, ...], ...]:
-    """The report of `derive`: the names of each cluster, in order. Raises NotAReport."""
+    """Reads the report of `derive`: the names of each cluster, in order. Raises NotAReport."""
     with whole(text, "derive") as rows:
         count = int(rows.take(_CLUSTERS)[1])
         return tuple(_cluster(rows, number) for number in range(1, count + 1))

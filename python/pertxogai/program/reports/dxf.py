@@ -24,7 +24,7 @@ class PointEntity:
 
 @dataclass(frozen=True)
 class LineEntity:
-    """A LINE between two places, in nanometres."""
+    """A LINE between two points, in nanometres."""
 
     x1_nm: int
     y1_nm: int
@@ -42,12 +42,12 @@ class CircleEntity:
 
 
 Entity = PointEntity | LineEntity | CircleEntity
-"""What the program writes of an element as DXF: places in nanometres."""
+"""The DXF entity of an element: coordinates in nanometres."""
 _CODES = {"POINT": (10, 20), "LINE": (10, 20, 11, 21), "CIRCLE": (10, 20, 40)}
 
 
 def read_dxf(text: str) -> tuple[Entity, ...]:
-    """The report of `dxf`: the entities in the order of the elements. Raises NotAReport."""
+    """Reads the report of `dxf`: the entities in the order of the elements. Raises NotAReport."""
     entities: list[Entity] = []
     with whole(text, "dxf") as rows:
         for form in _HEAD:

@@ -22,7 +22,8 @@ _STAYS = re.compile("stays over")
 
 @dataclass(frozen=True)
 class Turned:
-    """An angle or a block turns otherwise than it is drawn: drawn +1 or -1, placed -1, 0 or 1."""
+    """The orientation of an angle or a block differs from the drawn one: drawn +1 or -1, placed -1,
+    0 or 1."""
 
     drawn: int
     placed: int
@@ -34,9 +35,9 @@ class Turned:
 
 @dataclass(frozen=True)
 class Off:
-    """How far a constraint is off where those that are kept place its elements: what they give,
-    less what it says, in nm, or of an angle in parts per 10^9. It conflicts where it is turned or
-    off by more than the limit; else it repeats them."""
+    """The deviation of a constraint that is left out, where the kept ones place its elements: what
+    these give minus the value of the constraint, in nm, or for an angle in parts per 10^9. It
+    conflicts if it is flipped or off by more than the limit; otherwise it is redundant."""
 
     conflicts: bool
     amount: int
@@ -52,8 +53,8 @@ class Off:
 
 @dataclass(frozen=True)
 class Excessive:
-    """A constraint that is left out: its number, what it says, and how far off it is; None where
-    those that are kept have no places."""
+    """A constraint that is left out: its number, its line, and its deviation; None if the kept
+    constraints can't be placed."""
 
     number: int
     constraint: Constraint
@@ -66,15 +67,17 @@ class Excessive:
 
 @dataclass(frozen=True)
 class OverPart:
-    """A part that is over, and what is left out of it, by number. fault: why the constraints that
-    are kept have no places. Without one, and where nothing is measured, they are over too."""
+    """An over-constrained cluster, and the constraints that are left out of it, by number. fault:
+    why the kept constraints can't be placed. If there is no fault and nothing is measured, the kept
+    constraints are still over-constrained."""
 
     part: Part
     left_out: tuple[Excessive, ...]
     fault: Fault | None = None
 
     def stays_over(self) -> bool:
-        """Whether what is kept is over too, though none of it may go."""
+        """Whether the kept constraints are still over-constrained, though none of them can be left
+        out."""
         return self.fault is None and all(it.off is None for it in self.left_out)
 
     def text(self) -> str:
@@ -85,7 +88,7 @@ class OverPart:
 
 @dataclass(frozen=True)
 class ExcessReport:
-    """The parts that are over, in their order."""
+    """The over-constrained clusters, in order."""
 
     parts: tuple[OverPart, ...]
 
@@ -95,7 +98,7 @@ class ExcessReport:
 
 
 def read_excess(text: str) -> ExcessReport:
-    """The report of `excess`. Raises NotAReport."""
+    """Reads the report of `excess`. Raises NotAReport."""
     with whole(text, "excess") as rows:
         parts: list[OverPart] = []
         for _ in range(int(rows.take(_EXCESS)[1])):

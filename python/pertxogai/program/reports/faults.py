@@ -24,8 +24,8 @@ _TURNED = re.compile(f"fault ({CLUSTER}) turned drawn ([+-]) placed (-1|0|1)")
 
 
 class Phase(Enum):
-    """What a step was doing: constructing the element that the two clusters share which aren't
-    kept, or carrying the one or the other of these into place."""
+    """What a step was doing: constructing the element shared by the two clusters that are moved, or
+    moving the first or the second of them into place."""
 
     BUILD = "build"
     FIRST = "first"
@@ -33,15 +33,15 @@ class Phase(Enum):
 
 
 class Cause(Enum):
-    """Why a number has no root or quotient: it can't be told from 0, or no shape has it with the
-    choices of steps that the drawing makes."""
+    """Why a number has no root or quotient. FLAT: it can't be told from 0 (degenerate). GAP: no
+    shape has it with the choices of steps that the drawing makes (no real solution)."""
 
     FLAT = "flat"
     GAP = "gap"
 
 
 class Unit(Enum):
-    """What a tolerance is measured in: nanometres, or parts per 10^9."""
+    """The unit of a tolerance: nanometres, or parts per 10^9."""
 
     NM = "nm"
     PPB = "ppb"
@@ -49,8 +49,8 @@ class Unit(Enum):
 
 @dataclass(frozen=True)
 class StepAt:
-    """Where a step stopped: its number, its phase, the name of the number that was computed,
-    and the element."""
+    """Where a step stopped: its number, its phase, the name of the number that was computed, and
+    the element."""
 
     step: int
     phase: Phase
@@ -58,15 +58,15 @@ class StepAt:
     element: str
 
     def text(self) -> str:
-        """The front of the fault line."""
+        """The beginning of the fault line."""
         return f"fault s{self.step} {self.phase.value} {self.quantity} {self.element}"
 
 
 @dataclass(frozen=True)
 class NumberFault:
-    """A number under a root or of a divisor lies between `low` and `high`, in units of 2^-bits:
-    `flat` where it can't be told from 0, `gap` where no shape has it with these choices of steps:
-    by boxes on no grid, by points on this one."""
+    """The radicand or divisor lies between `low` and `high`, in units of 2^-bits. FLAT: it can't be
+    told from 0. GAP: no shape has it with these choices of steps; with boxes on no grid, with
+    points on this one."""
 
     at: StepAt
     cause: Cause
@@ -75,7 +75,7 @@ class NumberFault:
     bits: int
 
     def ends(self) -> tuple[Fraction, Fraction]:
-        """The two ends as numbers, in mm or mm² as the quantity has it."""
+        """The two ends as numbers, in mm or mm², depending on the quantity."""
         return Fraction(self.low, 1 << self.bits), Fraction(self.high, 1 << self.bits)
 
     def text(self) -> str:
@@ -85,7 +85,7 @@ class NumberFault:
 
 @dataclass(frozen=True)
 class RangeFault:
-    """A number passes what the grid holds: the proportions of the sketch are beyond it."""
+    """A number is out of the range of the grid: the proportions of the sketch are too extreme."""
 
     at: StepAt
     bits: int
@@ -97,8 +97,8 @@ class RangeFault:
 
 @dataclass(frozen=True)
 class FrameFault:
-    """A number passes what the grid holds when the placed whole is carried to where it is drawn:
-    the name of the number, and the element. No step and no dimension is to blame."""
+    """A number is out of range when the placed sketch is moved to its drawn position: the name of
+    the number, and the element. No step and no constraint causes this."""
 
     quantity: str
     element: str
@@ -111,8 +111,8 @@ class FrameFault:
 
 @dataclass(frozen=True)
 class ConstraintFault:
-    """The constraint of that number is met within `tolerance`, in nm or ppb, which is over the
-    limit."""
+    """The constraint of that number is met only within `tolerance`, in nm or ppb, which is above
+    the limit."""
 
     constraint: int
     tolerance: int
@@ -129,7 +129,8 @@ class ConstraintFault:
 
 @dataclass(frozen=True)
 class LineFault:
-    """The square of a line's normal is off 1 by `tolerance_ppb`, which is over the limit."""
+    """The squared length of a line's normal differs from 1 by `tolerance_ppb`, which is above the
+    limit."""
 
     name: str
     tolerance_ppb: int
@@ -144,8 +145,8 @@ class LineFault:
 
 @dataclass(frozen=True)
 class TurnedFault:
-    """A step, angle or block turns otherwise than it is drawn: drawn +1 or -1, placed -1, 0 or
-    1."""
+    """The orientation of a step, angle or block differs from the drawn one: drawn +1 or -1, placed
+    -1, 0 or 1."""
 
     of: ClusterName
     drawn: int
@@ -164,7 +165,7 @@ Fault = NumberFault | RangeFault | FrameFault | ConstraintFault | LineFault | Tu
 
 
 def read_fault(text: str) -> Fault:
-    """The fault that one line names. Raises NotAReport."""
+    """Reads a fault from its line. Raises NotAReport."""
     with whole(text, "a fault") as rows:
         return take_fault(rows)
 

@@ -16,15 +16,15 @@ _FAULT = re.compile(f"flip ({COUNT}) fault")
 
 @dataclass(frozen=True)
 class NoChoice:
-    """The step isn't in the plan, or leaves nothing open."""
+    """The step isn't in the plan, or leaves no choice."""
 
     step: ClusterName
 
 
 @dataclass(frozen=True)
 class Flipped:
-    """The answer to a list, by its number: its shape, why it has none, or the step that has no
-    choice."""
+    """The answer to a list, by its number: its shape, why it has none, or the first step that has
+    no choice."""
 
     number: int
     answer: Shape | Fault | NoChoice
@@ -38,7 +38,7 @@ class Flipped:
 
 
 def read_flips(text: str) -> tuple[Flipped, ...]:
-    """The report of `flips` of a sketch that is `well`. Raises NotAReport."""
+    """Reads the report of `flips` about a fully constrained sketch. Raises NotAReport."""
     answers: list[Flipped] = []
     with whole(text, "flips") as rows:
         while not rows.is_at_end():

@@ -16,8 +16,8 @@ _SUM_Y = re.compile(f"sum y ({WHOLE}) nm")
 
 @dataclass(frozen=True)
 class Grown:
-    """The sketch of that many elements: its counts, the sums of its points' places in nm, and
-    the tolerances."""
+    """The generated sketch: how many elements, constraints and steps it has, the sums of its
+    points' coordinates in nm, and the tolerances."""
 
     elements: int
     constraints: int
@@ -37,7 +37,7 @@ class Grown:
 
 
 def read_grow(text: str) -> Grown:
-    """The report of `grow`. Raises NotAReport."""
+    """Reads the report of `grow`. Raises NotAReport."""
     with whole(text, "grow") as rows:
         size = int(rows.take(_GROW)[1])
         elements, constraints = take_counts(rows)

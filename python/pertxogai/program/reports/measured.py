@@ -20,8 +20,8 @@ _UNPLACED = re.compile(f"measure fails element ({NAME})")
 
 @dataclass(frozen=True)
 class MeasuredOff:
-    """By how much the places are off a constraint: what they give, less what it says, in nm, or
-    of an angle in parts per 10^9; and how it turns where that is otherwise than drawn."""
+    """The residual of a constraint: what the positions give minus the value of the constraint, in
+    nm, or for an angle in parts per 10^9; and its orientation if that isn't as drawn."""
 
     number: int
     constraint: Constraint
@@ -39,13 +39,13 @@ class MeasuredOff:
 
 
 MeasuredFault = ConstraintFault | LineFault | TurnedFault
-"""What isn't met within the limit, or lies the other way round."""
+"""What isn't met within the limit, or is flipped."""
 
 
 @dataclass(frozen=True)
 class Measured:
-    """How far off each constraint is, by number; within what all holds; and what fails first,
-    None where nothing passes the limit and nothing is turned."""
+    """The residual of each constraint, by number; the least tolerances within which all hold; and
+    the first failure, None if nothing is above the limit and nothing is flipped."""
 
     offs: tuple[MeasuredOff, ...]
     tolerances: Tolerances
@@ -59,7 +59,7 @@ class Measured:
 
 @dataclass(frozen=True)
 class Unplaced:
-    """The first element that has no place, or is a circle of another radius."""
+    """The first element that has no position, or is a circle of another radius."""
 
     element: str
 
@@ -69,7 +69,7 @@ class Unplaced:
 
 
 def read_measure(text: str) -> Measured | Unplaced:
-    """The report of `measure`. Raises NotAReport."""
+    """Reads the report of `measure`. Raises NotAReport."""
     with whole(text, "measure") as rows:
         if found := rows.take_if(_UNPLACED):
             return Unplaced(found[1])

@@ -13,21 +13,21 @@ _OFFER = re.compile(f"offer ({COUNT}) (?:taken s({COUNT})|stale ({CLUSTER})|idle
 
 @dataclass(frozen=True)
 class Taken:
-    """The merge is done, and made the cluster of that step."""
+    """The merge is done; it made the cluster of that step."""
 
     step: ClusterName
 
 
 @dataclass(frozen=True)
 class Stale:
-    """That cluster isn't live."""
+    """That cluster doesn't exist any more."""
 
     cluster: ClusterName
 
 
 @dataclass(frozen=True)
 class Idle:
-    """All clusters live, and no rule merges them."""
+    """All clusters of the offer exist, and no rule merges them."""
 
 
 @dataclass(frozen=True)
@@ -49,8 +49,8 @@ class Offered:
 
 @dataclass(frozen=True)
 class OffersReport:
-    """The answers in the order of the offers, and the report of `check`, which is the same
-    whatever was offered."""
+    """The answers in the order of the offers, and the report of `check`, which doesn't depend on
+    the offers."""
 
     answers: tuple[Offered, ...]
     check: CheckReport
@@ -61,7 +61,7 @@ class OffersReport:
 
 
 def read_offers(text: str) -> OffersReport:
-    """The report of `offers`. Raises NotAReport."""
+    """Reads the report of `offers`. Raises NotAReport."""
     with whole(text, "offers") as rows:
         answers = tuple(_offer_of(found) for found in rows.take_all(_OFFER))
         return OffersReport(answers, take_check(rows))

@@ -14,8 +14,8 @@ _PARTS = re.compile(f"parts ({COUNT})")
 
 @dataclass(frozen=True)
 class PlacedPart:
-    """A part, and the shape of its own sketch in a frame of its own; or why that has no places;
-    None where the part is over."""
+    """A rigid cluster, and its shape in coordinates of its own; or why it has none; None if the
+    cluster is over-constrained."""
 
     part: Part
     shape: Solved | Fault | None
@@ -29,7 +29,7 @@ class PlacedPart:
 
 @dataclass(frozen=True)
 class PartsReport:
-    """The verdict, and the parts in their order, each placed by itself."""
+    """The verdict, and the rigid clusters in order, each placed by itself."""
 
     verdict: Verdict
     parts: tuple[PlacedPart, ...]
@@ -41,7 +41,7 @@ class PartsReport:
 
 
 def read_parts(text: str) -> PartsReport:
-    """The report of `parts`. Raises NotAReport."""
+    """Reads the report of `parts`. Raises NotAReport."""
     with whole(text, "parts") as rows:
         verdict = take_verdict(rows)
         count = int(rows.take(_PARTS)[1])

@@ -22,7 +22,7 @@ _STEP = re.compile(
 
 @dataclass(frozen=True)
 class Leaf:
-    """A constraint by its number, as a plan begins with it."""
+    """A constraint by its number, with which a plan begins."""
 
     number: int
     constraint: Constraint
@@ -34,8 +34,8 @@ class Leaf:
 
 @dataclass(frozen=True)
 class Branch:
-    """A cluster of the plan's tree: the step that made it and the three clusters that this
-    joins, or a leaf."""
+    """A cluster in the tree of a plan: the step that made it and the three clusters that the step
+    joined, or a leaf."""
 
     made_by: Step | Leaf
     joined: tuple[Branch, ...]
@@ -43,8 +43,8 @@ class Branch:
 
 @dataclass(frozen=True)
 class Plan:
-    """How a sketch that is `well` is constructed: a leaf for each constraint, and the steps in
-    their order."""
+    """How a fully constrained sketch is constructed: a leaf for each constraint, and the steps in
+    order."""
 
     elements: int
     constraints: int
@@ -64,7 +64,7 @@ class Plan:
         )
 
     def tree(self) -> Branch | None:
-        """The cluster of the last step with all that it joins; None for a sketch without
+        """The cluster of the last step with everything that it joins; None for a sketch without
         constraints."""
         made: dict[ClusterName, Branch] = {}
         for leaf in self.leaves:
@@ -76,8 +76,8 @@ class Plan:
         return list(made.values())[-1] if made else None
 
     def frame(self) -> Leaf | None:
-        """The constraint whose frame the places have: what each `keeps` leads to from the last
-        step down. None for a sketch without constraints."""
+        """The constraint in whose coordinates the positions are given: following `keeps` from the
+        last step down leads to it. None for a sketch without constraints."""
         leaves = {ClusterName(False, leaf.number): leaf for leaf in self.leaves}
         keeps = {ClusterName(True, step.number): step.keeps for step in self.steps}
         name = next(reversed([*leaves, *keeps]), None)
@@ -87,7 +87,7 @@ class Plan:
 
 
 def read_plan(text: str) -> Plan:
-    """The report of `plan` of a sketch that is `well`. Raises NotAReport."""
+    """Reads the report of `plan` about a fully constrained sketch. Raises NotAReport."""
     with whole(text, "plan") as rows:
         return take_plan(rows)
 

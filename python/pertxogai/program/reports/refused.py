@@ -13,7 +13,7 @@ _USAGE = re.compile("(usage: sketch [ -~]+)")
 
 @dataclass(frozen=True)
 class Usage:
-    """The words aren't of the form, which the line tells."""
+    """The arguments aren't valid; the line says what is."""
 
     line: str
 
@@ -23,14 +23,14 @@ class Usage:
 
 
 def read_refusal(text: str) -> Refused:
-    """The refusal that one line names. Raises NotAReport."""
+    """Reads a rejection from its line. Raises NotAReport."""
     with whole(text, "a refusal") as rows:
         found = rows.take(_REFUSED)
         return Refused(int(found[1]), code_of(rows, found[2], found[3]))
 
 
 def read_usage(text: str) -> Usage:
-    """The line of the form. Raises NotAReport."""
+    """Reads the usage line. Raises NotAReport."""
     with whole(text, "usage") as rows:
         return Usage(rows.take(_USAGE)[1])
 

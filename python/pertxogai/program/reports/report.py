@@ -45,4 +45,4 @@ Report = (
     | tuple[Reply, ...]
     | tuple[tuple[str, ...], ...]
 )
-"""What `read_answer` may return; some commands are answered by several values."""
+"""What `read_answer` may return; for some commands several values."""

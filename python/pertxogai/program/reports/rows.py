@@ -16,7 +16,7 @@ NAMES = rf"{NAME}(?: {NAME})*"
 
 
 class NotAReport(ProgramSpoke):
-    """A text is no report of the command that it should be one of."""
+    """A text isn't a report of the command that it should come from."""
 
 
 class Rows:

@@ -23,7 +23,7 @@ _END = re.compile("end")
 
 @dataclass(frozen=True)
 class Accepted:
-    """A line was done: the name of the element, or the `cI` of the constraint, that it made;
+    """A line was accepted: the name of the element, or the `cI` of the constraint, that it made;
     None for an edit that makes none."""
 
     name: str | None
@@ -35,7 +35,7 @@ class Accepted:
 
 @dataclass(frozen=True)
 class RefusedEdit:
-    """A line can't be done, and changed nothing."""
+    """A line was rejected, and changed nothing."""
 
     code: Code
 
@@ -45,11 +45,11 @@ class RefusedEdit:
 
 
 Reply = Accepted | RefusedEdit | CheckReport | Plan | Solved | Fault | Sketch
-"""What a line of a session is answered."""
+"""The reply to a line of a session."""
 
 
 def read_session(text: str) -> tuple[Reply, ...]:
-    """The replies of `session`, in order. Raises NotAReport."""
+    """Reads the replies of `session`, in order. Raises NotAReport."""
     replies: list[Reply] = []
     with whole(text, "session") as rows:
         while not rows.is_at_end():
@@ -58,7 +58,7 @@ def read_session(text: str) -> tuple[Reply, ...]:
 
 
 def read_reply(text: str) -> Reply:
-    """The reply to one line. Raises NotAReport."""
+    """Reads the reply to one line. Raises NotAReport."""
     with whole(text, "a line of a session") as rows:
         return _reply(rows)
 

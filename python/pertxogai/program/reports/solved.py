@@ -20,31 +20,31 @@ _ANGLE = re.compile(f"angle tolerance ({COUNT}) ppb at (?:line ({NAME})|c({COUNT
 
 @dataclass(frozen=True)
 class AtConstraint:
-    """The tolerance is needed by the constraint of that number."""
+    """The constraint of that number determines the tolerance."""
 
     number: int
 
     def text(self) -> str:
-        """As the report has it."""
+        """As the report writes it."""
         return f"c{self.number}"
 
 
 @dataclass(frozen=True)
 class AtLine:
-    """The tolerance is needed by the normal of that line."""
+    """The normal of that line determines the tolerance."""
 
     name: str
 
     def text(self) -> str:
-        """As the report has it."""
+        """As the report writes it."""
         return f"line {self.name}"
 
 
 @dataclass(frozen=True)
 class Tolerances:
-    """The least whole numbers within which the printed places meet each length, and each angle
-    and normal; and the first constraint or line that needs so much, None where there is nothing
-    to measure."""
+    """The least whole numbers within which the printed positions meet each length, and each angle
+    and normal; and the first constraint or line that determines each, None if there is nothing to
+    measure."""
 
     length_nm: int
     length_at: AtConstraint | None
@@ -62,33 +62,33 @@ class Tolerances:
 
 @dataclass(frozen=True)
 class Shape:
-    """Where elements lie, by number, in one frame, and how exactly."""
+    """The positions of elements, by number, in one coordinate system, and their tolerances."""
 
     places: tuple[Placed, ...]
     tolerances: Tolerances
 
     @property
     def length_tolerance_nm(self) -> int:
-        """Within so many nanometres each length holds."""
+        """The tolerance of lengths, in nanometres."""
         return self.tolerances.length_nm
 
     @property
     def length_at(self) -> AtConstraint | None:
-        """The first constraint that needs so much."""
+        """The first constraint that determines it."""
         return self.tolerances.length_at
 
     @property
     def angle_tolerance_ppb(self) -> int:
-        """Within so many parts per 10^9 each angle and normal holds."""
+        """The tolerance of angles and normals, in parts per 10^9."""
         return self.tolerances.angle_ppb
 
     @property
     def angle_at(self) -> AtConstraint | AtLine | None:
-        """The first line or angle that needs so much."""
+        """The first line or angle that determines it."""
         return self.tolerances.angle_at
 
     def place(self, name: str) -> Placed:
-        """Where the element of that name lies. Raises KeyError."""
+        """The position of the element of that name. Raises KeyError."""
         for placed in self.places:
             if placed.name == name:
                 return placed
@@ -101,8 +101,8 @@ class Shape:
 
 @dataclass(frozen=True)
 class Solved(Shape):
-    """The shape of a sketch that is `well`: also the number of steps, and the digits behind the
-    point of its grid."""
+    """The shape of a fully constrained sketch, with the number of steps, and the number of binary
+    digits of its grid."""
 
     steps: int
     bits: int
@@ -112,12 +112,12 @@ class Solved(Shape):
         return "verdict well\n" + self.text_behind_verdict()
 
     def text_behind_verdict(self) -> str:
-        """The same without the verdict, as `parts` has it."""
+        """The same without the line of the verdict, as `parts` writes it."""
         return f"steps {self.steps}\nbits {self.bits}\n{super().text()}"
 
 
 def read_solve(text: str) -> Solved:
-    """The report of `solve` of a sketch that has places. Raises NotAReport."""
+    """Reads the report of `solve` about a sketch that has coordinates. Raises NotAReport."""
     with whole(text, "solve") as rows:
         return take_solve(rows)
 

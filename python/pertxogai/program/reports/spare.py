@@ -14,7 +14,7 @@ _LINE = re.compile(f"c({COUNT}) : (.*)")
 
 @dataclass(frozen=True)
 class Spare:
-    """A constraint that may go by itself: its number and what it says."""
+    """A removable constraint: its number and its line."""
 
     number: int
     constraint: Constraint
@@ -25,7 +25,7 @@ class Spare:
 
 
 def read_spare(text: str) -> tuple[Spare, ...]:
-    """The report of `spare`, by number. Raises NotAReport."""
+    """Reads the report of `spare`, by number. Raises NotAReport."""
     with whole(text, "spare") as rows:
         found = [rows.take(_LINE) for _ in range(int(rows.take(_SPARE)[1]))]
         spare = tuple(Spare(int(it[1]), take_constraint(rows, it[2])) for it in found)

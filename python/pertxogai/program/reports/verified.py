@@ -16,8 +16,8 @@ _FAILS = re.compile(
 
 @dataclass(frozen=True)
 class Verified:
-    """The claim is right: its steps are a plan, and each length holds within length_nm, each
-    angle within angle_ppb."""
+    """The claim is right: its steps are a plan, each length holds within length_nm, and each angle
+    within angle_ppb."""
 
     steps: int
     length_nm: int
@@ -31,7 +31,7 @@ class Verified:
 
 
 class Failing(Enum):
-    """What of a claim may fail; its value is the word of the report."""
+    """What may fail in a claim; the value is the word in the report."""
 
     CLUSTER = ""  #: a step isn't legal, or a constraint doesn't hold
     PARTS = "parts"  #: the steps leave more than one part
@@ -42,8 +42,8 @@ class Failing(Enum):
 
 @dataclass(frozen=True)
 class ClaimFails:
-    """The first thing of a claim that fails: what it is, and the step, constraint or element;
-    None for the parts."""
+    """The first failure of a claim: what fails, and the step, constraint or element; None for the
+    parts."""
 
     what: Failing
     of: ClusterName | str | None
@@ -55,7 +55,7 @@ class ClaimFails:
 
 
 def read_verify(text: str) -> Verified | ClaimFails:
-    """The report of `verify`. Raises NotAReport."""
+    """Reads the report of `verify`. Raises NotAReport."""
     with whole(text, "verify") as rows:
         if found := rows.take_if(_VERIFIED):
             return Verified(int(found[1]), int(found[2]), int(found[3]))

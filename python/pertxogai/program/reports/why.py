@@ -18,8 +18,8 @@ _FOLLOWS = re.compile(f"c({COUNT}) : (.*) follows from((?: c{COUNT})+)")
 
 @dataclass(frozen=True)
 class Follows:
-    """A constraint that is left out: its number, what it says, and the numbers of the kept
-    constraints that tell it, none of which could be spared for that."""
+    """A constraint that is left out: its number, its line, and the numbers of the kept constraints
+    that it follows from. Without any one of these it wouldn't follow."""
 
     number: int
     constraint: Constraint
@@ -33,13 +33,14 @@ class Follows:
 
 @dataclass(frozen=True)
 class ReasonedPart:
-    """A part that is over, and what is left out of it, by number."""
+    """An over-constrained cluster, and the constraints that are left out of it, by number."""
 
     part: Part
     left_out: tuple[Follows, ...]
 
     def stays_over(self) -> bool:
-        """Whether what is kept is over too: what is left out weighs less than what is too much."""
+        """Whether the kept constraints are still over-constrained: those that are left out weigh
+        less than the excess."""
         weight = sum(_weight(it.constraint) for it in self.left_out)
         return weight < self.part.held - self.part.due
 
@@ -50,12 +51,12 @@ class ReasonedPart:
 
 @dataclass(frozen=True)
 class WhyReport:
-    """The parts that are over, in their order."""
+    """The over-constrained clusters, in order."""
 
     parts: tuple[ReasonedPart, ...]
 
     def stays_over(self) -> bool:
-        """Whether what is kept of some part is over too."""
+        """Whether the kept constraints of some cluster are still over-constrained."""
         return any(part.stays_over() for part in self.parts)
 
     def text(self) -> str:
@@ -74,7 +75,7 @@ def work_of(check: CheckReport, searched: bool) -> int:
 
 
 def read_why(text: str) -> WhyReport:
-    """The report of `why`. Raises NotAReport."""
+    """Reads the report of `why`. Raises NotAReport."""
     with whole(text, "why") as rows:
         parts: list[ReasonedPart] = []
         for _ in range(int(rows.take(_WHY)[1])):
