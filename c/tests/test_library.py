@@ -38,6 +38,16 @@ def judge(room):
     return room / "judge"
 
 
+def test_a_folder_has_the_shared_library_without_a_symbolic_link(room):
+    """`rt ci` refuses each symbolic link in the repository, where c/out is: with one the gate wouldn't run again."""
+    assert not [each for each in room.iterdir() if each.is_symlink()]
+    compiled("cc", "-std=c99", *STRICT, HERE / "examples/places.c", "-L", room, "-lsketch", "-o", room / "places_shared")
+    asked = run("objdump", "-p", room / "places_shared").stdout.decode()
+    assert "NEEDED               libsketch.so.1\n" in asked
+    done = run(room / "places_shared", env={"LD_LIBRARY_PATH": str(room)})
+    assert (done.returncode, done.stderr) == (0, b"")
+
+
 @pytest.mark.parametrize("sketch", SKETCHES, ids=lambda path: path.stem)
 def test_the_answers_are_the_programs(judge, sketch):
     for command in COMMANDS:

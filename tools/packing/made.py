@@ -19,6 +19,12 @@ class Made:
     time: int
     gate: str
 
+    @property
+    def shared(self) -> Path:
+        """The shared library, under the name in its SONAME."""
+        (path,) = self.library.glob("libsketch.so.*")
+        return path
+
 
 def gate_text(version: str, commit: str, line: str, program: Path, library: Path) -> str:
     """What a release says of its gate: a word and its value on each line."""

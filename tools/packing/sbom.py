@@ -23,7 +23,7 @@ def write_sbom(made: Made, to: Path) -> Path:
 def sbom(made: Made) -> dict[str, Any]:
     """The document as SPDX has it."""
     others = linked(said("rt", "version").strip(), _version("ldd"), _version("gcc"))
-    built = [made.program, made.library / "libsketch.a", (made.library / "libsketch.so").resolve(), made.wheel]
+    built = [made.program, made.library / "libsketch.a", made.shared, made.wheel]
     when = datetime.fromtimestamp(made.time, timezone.utc).strftime("%Y-%m-%dT%H:%M:%SZ")
     return {
         "spdxVersion": "SPDX-2.3", "dataLicense": "CC0-1.0", "SPDXID": "SPDXRef-DOCUMENT",

@@ -54,7 +54,7 @@ def stage(root: Path, places: Places, made: Made) -> None:
     root."""
     put(made.program, root / places.programs / "sketch")
     put(made.library / "sketch.h", root / places.headers / "sketch.h")
-    _stage_libraries(root / places.libraries, made.library)
+    _stage_libraries(root / places.libraries, made)
     _stage_flags(root, places, made)
     _stage_editors(root / places.shared, made.tree / "editors")
     stage_pages(root / places.pages, made.tree)
@@ -64,13 +64,11 @@ def stage(root: Path, places: Places, made: Made) -> None:
     _stage_manual(root / places.shared / "man", made.tree / "man")
 
 
-def _stage_libraries(folder: Path, library: Path) -> None:
+def _stage_libraries(folder: Path, made: Made) -> None:
     """Puts the static library, the shared one under the name in its SONAME, and the link to it that linkers look for."""
-    link = library / "libsketch.so"
-    shared = link.resolve()
-    for each in (library / "libsketch.a", shared):
+    for each in (made.library / "libsketch.a", made.shared):
         put(each, folder / each.name)
-    (folder / link.name).symlink_to(shared.name)
+    (folder / "libsketch.so").symlink_to(made.shared.name)
 
 
 def stage_pages(folder: Path, tree: Path) -> None:
