@@ -10,10 +10,10 @@ from fractions import Fraction
 from pertxogai.drawing.refusal import WordFault
 
 _NUMBER = r"([0-9]{1,7}(?:\.[0-9]{1,20})?)(mm|in|deg|°)?"
-_BOTH = re.compile(rf"(?:\+-|±){_NUMBER}\Z")
-_EACH = re.compile(rf"([-−+]){_NUMBER}([-−+]){_NUMBER}\Z")
-_SIGNED = re.compile(rf"[-−+]{_NUMBER}\Z")
-_PLAIN = re.compile(rf"[-−+]?{_NUMBER}\Z")
+_BOTH = rf"(?:\+-|±){_NUMBER}\Z"
+_EACH = rf"([-−+]){_NUMBER}([-−+]){_NUMBER}\Z"
+_SIGNED = rf"[-−+]{_NUMBER}\Z"
+_PLAIN = rf"[-−+]?{_NUMBER}\Z"
 Units = Mapping[str | None, Fraction]
 _LENGTHS: Units = {None: Fraction(1000), "mm": Fraction(1000), "in": Fraction(25_400)}
 """Micrometres of each unit."""
@@ -35,10 +35,10 @@ def split_tolerance(text: str) -> tuple[str, str]:
     """A value and the tolerance behind it, which is its last word; nothing where it has none.
     Raises WordFault where the words may be a tolerance or a sum."""
     value, _, last = text.rpartition(" ")
-    if value and (_BOTH.match(last) or _EACH.match(last)):
+    if value and (re.match(_BOTH, last) or re.match(_EACH, last)):
         return value, last
     before = value.rpartition(" ")[2]
-    if value and _SIGNED.match(last) and (_SIGNED.match(before) or _PLAIN.match(value)):
+    if value and re.match(_SIGNED, last) and (re.match(_SIGNED, before) or re.match(_PLAIN, value)):
         raise WordFault(last, "may be part of a tolerance or of a sum: write a tolerance without "
                               "blanks, such as +0.1-0.2, and a sum with blanks around its signs")
     return text, ""
@@ -48,7 +48,7 @@ def read_tolerance(word: str, of_angle: bool) -> Tolerance | None:
     """The tolerance of a word; None of an empty one. Raises WordFault at another unit."""
     if not word:
         return None
-    both, each = _BOTH.match(word), _EACH.match(word)
+    both, each = re.match(_BOTH, word), re.match(_EACH, word)
     if both is not None:
         off = _number(word, both[1], both[2], of_angle)
         return Tolerance(off, off, word)

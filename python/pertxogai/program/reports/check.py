@@ -1,17 +1,16 @@
 """What `check` answers: the verdict and the parts."""
 from __future__ import annotations
 
-import re
 from dataclasses import dataclass
 from enum import Enum
 
 from pertxogai.program.reports.rows import COUNT, NAMES, Rows, whole
 
-_VERDICT = re.compile("verdict (well|over|open)")
-_ELEMENTS = re.compile(f"elements ({COUNT})")
-_CONSTRAINTS = re.compile(f"constraints ({COUNT})")
-_PARTS = re.compile(f"parts ({COUNT})")
-_PART = re.compile(
+_VERDICT = "verdict (well|over|open)"
+_ELEMENTS = f"elements ({COUNT})"
+_CONSTRAINTS = f"constraints ({COUNT})"
+_PARTS = f"parts ({COUNT})"
+_PART = (
     f"part ({COUNT}) (sound|over) elements ({COUNT}) held ({COUNT}) due ({COUNT}) : ({NAMES})"
 )
 

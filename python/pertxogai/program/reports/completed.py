@@ -1,7 +1,6 @@
 """What `complete` answers: the sketch with what it lacks, or why none is given."""
 from __future__ import annotations
 
-import re
 from dataclasses import dataclass
 from enum import Enum
 
@@ -10,7 +9,7 @@ from pertxogai.language.sketch import Sketch
 from pertxogai.program.reports.check import CheckReport, Verdict, take_check
 from pertxogai.program.reports.rows import NotAReport, whole
 
-_NONE = re.compile("no completion (over|lines|angles|enough|stuck)")
+_NONE = "no completion (over|lines|angles|enough|stuck)"
 
 
 class Lack(Enum):

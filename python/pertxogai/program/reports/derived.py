@@ -1,12 +1,11 @@
 """What `derive` answers: the clusters that hold together where angles add up."""
 from __future__ import annotations
 
-import re
 
 from pertxogai.program.reports.rows import COUNT, NAMES, Rows, whole
 
-_CLUSTERS = re.compile(f"clusters ({COUNT})")
-_CLUSTER = re.compile(f"cluster ({COUNT}) : ({NAMES})")
+_CLUSTERS = f"clusters ({COUNT})"
+_CLUSTER = f"cluster ({COUNT}) : ({NAMES})"
 
 
 def read_derive(text: str) -> tuple[tuple[str, ...], ...]:

@@ -1,17 +1,16 @@
 """What `dxf` answers: the same places as `solve`, as entities with ends."""
 from __future__ import annotations
 
-import re
 from dataclasses import dataclass
 
 from pertxogai.program.reports.rows import Rows, whole
 
-_HEAD = [re.compile(line) for line in ("0", "SECTION", "2", "ENTITIES")]
-_TAIL = [re.compile(line) for line in ("ENDSEC", "0", "EOF")]
-_CODE = re.compile("(0|8|10|20|11|21|40)")
-_KIND = re.compile("(POINT|LINE|CIRCLE)")
-_LAYER = re.compile("0")
-_NUMBER = re.compile(r"(-?)(0|[1-9][0-9]*)\.([0-9]{6})")
+_HEAD = "0", "SECTION", "2", "ENTITIES"
+_TAIL = "ENDSEC", "0", "EOF"
+_CODE = "(0|8|10|20|11|21|40)"
+_KIND = "(POINT|LINE|CIRCLE)"
+_LAYER = "0"
+_NUMBER = r"(-?)(0|[1-9][0-9]*)\.([0-9]{6})"
 
 
 @dataclass(frozen=True)

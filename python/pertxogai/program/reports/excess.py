@@ -11,13 +11,13 @@ from pertxogai.program.reports.faults import Fault, Unit, take_fault
 from pertxogai.program.reports.plan import take_constraint
 from pertxogai.program.reports.rows import COUNT, WHOLE, Rows, whole
 
-_EXCESS = re.compile(f"excess ({COUNT})")
-_MEASURED = re.compile(
+_EXCESS = f"excess ({COUNT})"
+_MEASURED = (
     f"c({COUNT}) : (.*) (repeat|conflict) off ({WHOLE}) (nm|ppb)"
     "(?: turned drawn ([+-]) placed (-1|0|1))?"
 )
-_NAMED = re.compile(f"c({COUNT}) : (.*)")
-_STAYS = re.compile("stays over")
+_NAMED = f"c({COUNT}) : (.*)"
+_STAYS = "stays over"
 
 
 @dataclass(frozen=True)

@@ -15,12 +15,12 @@ _QUANTITIES = (
     "|span2|fx|fy|tx|ty|det1|det2|size"
 )
 _AT = f"fault s({COUNT}) (build|first|second) ({_QUANTITIES}) ({NAME})"
-_NUMBER = re.compile(f"{_AT} (flat|gap) ({WHOLE}) ({WHOLE}) bits (16|27|38)")
-_RANGE = re.compile(f"{_AT} range bits (16|27|38)")
-_FRAME = re.compile(f"fault frame ({_QUANTITIES}) ({NAME}) range bits (16|27|38)")
-_CONSTRAINT = re.compile(f"fault c({COUNT}) tolerance ({COUNT}) (nm|ppb) limit ({COUNT})")
-_LINE = re.compile(f"fault line ({NAME}) tolerance ({COUNT}) ppb limit ({COUNT})")
-_TURNED = re.compile(f"fault ({CLUSTER}) turned drawn ([+-]) placed (-1|0|1)")
+_NUMBER = f"{_AT} (flat|gap) ({WHOLE}) ({WHOLE}) bits (16|27|38)"
+_RANGE = f"{_AT} range bits (16|27|38)"
+_FRAME = f"fault frame ({_QUANTITIES}) ({NAME}) range bits (16|27|38)"
+_CONSTRAINT = f"fault c({COUNT}) tolerance ({COUNT}) (nm|ppb) limit ({COUNT})"
+_LINE = f"fault line ({NAME}) tolerance ({COUNT}) ppb limit ({COUNT})"
+_TURNED = f"fault ({CLUSTER}) turned drawn ([+-]) placed (-1|0|1)"
 
 
 class Phase(Enum):

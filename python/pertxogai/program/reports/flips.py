@@ -1,7 +1,6 @@
 """What `flips` answers: for each list of steps, the shape whose choices are turned over."""
 from __future__ import annotations
 
-import re
 from dataclasses import dataclass
 
 from pertxogai.language.clusters import ClusterName
@@ -9,9 +8,9 @@ from pertxogai.program.reports.faults import Fault, take_fault
 from pertxogai.program.reports.rows import COUNT, Rows, whole
 from pertxogai.program.reports.solved import Shape, take_shape
 
-_OK = re.compile(f"flip ({COUNT}) ok")
-_NO_CHOICE = re.compile(f"flip ({COUNT}) no-choice s({COUNT})")
-_FAULT = re.compile(f"flip ({COUNT}) fault")
+_OK = f"flip ({COUNT}) ok"
+_NO_CHOICE = f"flip ({COUNT}) no-choice s({COUNT})"
+_FAULT = f"flip ({COUNT}) fault"
 
 
 @dataclass(frozen=True)

@@ -1,17 +1,16 @@
 """What `grow` answers: a summary of `solve` on a sketch that the program makes itself."""
 from __future__ import annotations
 
-import re
 from dataclasses import dataclass
 
 from pertxogai.program.reports.check import Verdict, take_counts, take_verdict
 from pertxogai.program.reports.rows import COUNT, WHOLE, whole
 from pertxogai.program.reports.solved import Tolerances, take_tolerances
 
-_GROW = re.compile(f"grow ({COUNT})")
-_STEPS = re.compile(f"steps ({COUNT})")
-_SUM_X = re.compile(f"sum x ({WHOLE}) nm")
-_SUM_Y = re.compile(f"sum y ({WHOLE}) nm")
+_GROW = f"grow ({COUNT})"
+_STEPS = f"steps ({COUNT})"
+_SUM_X = f"sum x ({WHOLE}) nm"
+_SUM_Y = f"sum y ({WHOLE}) nm"
 
 
 @dataclass(frozen=True)

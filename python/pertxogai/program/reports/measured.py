@@ -12,10 +12,10 @@ from pertxogai.program.reports.plan import take_constraint
 from pertxogai.program.reports.rows import COUNT, NAME, WHOLE, NotAReport, Rows, whole
 from pertxogai.program.reports.solved import AtConstraint, AtLine, Tolerances, take_tolerances
 
-_OFF = re.compile(
+_OFF = (
     f"c({COUNT}) : (.*) off ({WHOLE}) (nm|ppb)(?: turned drawn ([+-]) placed (-1|0|1))?"
 )
-_UNPLACED = re.compile(f"measure fails element ({NAME})")
+_UNPLACED = f"measure fails element ({NAME})"
 
 
 @dataclass(frozen=True)

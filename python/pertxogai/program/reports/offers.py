@@ -8,7 +8,7 @@ from pertxogai.language.clusters import ClusterName
 from pertxogai.program.reports.check import CheckReport, take_check
 from pertxogai.program.reports.rows import CLUSTER, COUNT, cluster, whole
 
-_OFFER = re.compile(f"offer ({COUNT}) (?:taken s({COUNT})|stale ({CLUSTER})|idle)")
+_OFFER = f"offer ({COUNT}) (?:taken s({COUNT})|stale ({CLUSTER})|idle)"
 
 
 @dataclass(frozen=True)

@@ -1,7 +1,6 @@
 """What `parts` answers: the parts, each with where its own elements lie."""
 from __future__ import annotations
 
-import re
 from dataclasses import dataclass
 
 from pertxogai.program.reports.check import Part, Verdict, take_part, take_verdict, verdict_of
@@ -9,7 +8,7 @@ from pertxogai.program.reports.faults import Fault, take_fault
 from pertxogai.program.reports.rows import COUNT, Rows, whole
 from pertxogai.program.reports.solved import Solved, has_solved, take_solved
 
-_PARTS = re.compile(f"parts ({COUNT})")
+_PARTS = f"parts ({COUNT})"
 
 
 @dataclass(frozen=True)

@@ -11,10 +11,10 @@ from pertxogai.language.refusal import Faulty
 from pertxogai.program.reports.check import Verdict, take_counts, take_verdict
 from pertxogai.program.reports.rows import CLUSTER, COUNT, NAME, Rows, cluster, whole
 
-_STEPS = re.compile(f"steps ({COUNT})")
-_LEAF = re.compile(f"leaf c({COUNT}) : (.*)")
+_STEPS = f"steps ({COUNT})"
+_LEAF = f"leaf c({COUNT}) : (.*)"
 _CHOICES = "|".join(re.escape(choice.value) for choice in Choice)
-_STEP = re.compile(
+_STEP = (
     f"step s({COUNT}) joins ({CLUSTER}) ({CLUSTER}) ({CLUSTER}) at ({NAME}) ({NAME}) ({NAME})"
     f" keeps ({CLUSTER}) ({_CHOICES})"
 )

@@ -1,14 +1,13 @@
 """What is written where a text or the words are refused."""
 from __future__ import annotations
 
-import re
 from dataclasses import dataclass
 
 from pertxogai.language.refusal import Code, Refused
 from pertxogai.program.reports.rows import COUNT, Rows, whole
 
-_REFUSED = re.compile(f"refused line ({COUNT}) ([ES][1-9][0-9]?) ([a-z-]+)")
-_USAGE = re.compile("(usage: sketch [ -~]+)")
+_REFUSED = f"refused line ({COUNT}) ([ES][1-9][0-9]?) ([a-z-]+)"
+_USAGE = "(usage: sketch [ -~]+)"
 
 
 @dataclass(frozen=True)

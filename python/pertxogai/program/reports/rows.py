@@ -20,7 +20,8 @@ class NotAReport(ProgramSpoke):
 
 
 class Rows:
-    """The lines of a report from a place on."""
+    """The lines of a report from a place on. A form is a regular expression, which is compiled once
+    a line is first compared with it."""
 
     def __init__(self, text: str, what: str) -> None:
         self.what = what
@@ -29,30 +30,30 @@ class Rows:
         if self.lines.pop():
             raise NotAReport(f"no report of {what}: its last line has no end")
 
-    def take(self, form: re.Pattern[str]) -> re.Match[str]:
+    def take(self, form: str) -> re.Match[str]:
         """The next line, which has a form. Raises NotAReport."""
         found = self.take_if(form)
         if found is None:
             raise self.fault()
         return found
 
-    def take_if(self, form: re.Pattern[str]) -> re.Match[str] | None:
+    def take_if(self, form: str) -> re.Match[str] | None:
         """The next line where it has a form, else None, and it stays."""
-        found = form.fullmatch(self.lines[self.next]) if self.next < len(self.lines) else None
+        found = re.fullmatch(form, self.lines[self.next]) if self.next < len(self.lines) else None
         if found is not None:
             self.next += 1
         return found
 
-    def take_all(self, form: re.Pattern[str]) -> Iterator[re.Match[str]]:
+    def take_all(self, form: str) -> Iterator[re.Match[str]]:
         """The next lines, as long as they have a form."""
         found = self.take_if(form)
         while found is not None:
             yield found
             found = self.take_if(form)
 
-    def has(self, form: re.Pattern[str]) -> bool:
+    def has(self, form: str) -> bool:
         """Whether the next line has a form."""
-        return self.next < len(self.lines) and form.fullmatch(self.lines[self.next]) is not None
+        return self.next < len(self.lines) and re.fullmatch(form, self.lines[self.next]) is not None
 
     def is_at_end(self) -> bool:
         """Whether no line is left."""

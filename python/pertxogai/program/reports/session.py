@@ -1,7 +1,6 @@
 """What `session` answers: a reply to each line."""
 from __future__ import annotations
 
-import re
 from dataclasses import dataclass
 
 from pertxogai.language.refusal import Code, Refusal
@@ -13,12 +12,12 @@ from pertxogai.program.reports.refused import code_of
 from pertxogai.program.reports.rows import NAME, Rows, whole
 from pertxogai.program.reports.solved import Solved, take_solve
 
-_OK = re.compile(f"ok(?: ({NAME}))?")
-_REFUSED = re.compile("refused ([ES][1-9][0-9]?) ([a-z-]+)")
-_FAULT = re.compile("fault .*")
-_HEADER = re.compile("sketch [12]")
-_LINE = re.compile("(?!end$).*")
-_END = re.compile("end")
+_OK = f"ok(?: ({NAME}))?"
+_REFUSED = "refused ([ES][1-9][0-9]?) ([a-z-]+)"
+_FAULT = "fault .*"
+_HEADER = "sketch [12]"
+_LINE = "(?!end$).*"
+_END = "end"
 
 
 @dataclass(frozen=True)

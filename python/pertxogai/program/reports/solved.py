@@ -8,14 +8,14 @@ from pertxogai.language.places import Placed, PlacedCircle, PlacedLine, PlacedPo
 from pertxogai.program.reports.check import Verdict, take_verdict
 from pertxogai.program.reports.rows import COUNT, NAME, WHOLE, Rows, whole
 
-_STEPS = re.compile(f"steps ({COUNT})")
-_BITS = re.compile("bits (16|27|38)")
-_PLACE = re.compile(
+_STEPS = f"steps ({COUNT})"
+_BITS = "bits (16|27|38)"
+_PLACE = (
     f"(?:(point) ({NAME}) ({WHOLE}) ({WHOLE})|(line|circle) ({NAME}) ({WHOLE}) ({WHOLE})"
     f" ({WHOLE}))"
 )
-_LENGTH = re.compile(f"length tolerance ({COUNT}) nm at (?:c({COUNT})|none)")
-_ANGLE = re.compile(f"angle tolerance ({COUNT}) ppb at (?:line ({NAME})|c({COUNT})|none)")
+_LENGTH = f"length tolerance ({COUNT}) nm at (?:c({COUNT})|none)"
+_ANGLE = f"angle tolerance ({COUNT}) ppb at (?:line ({NAME})|c({COUNT})|none)"
 
 
 @dataclass(frozen=True)

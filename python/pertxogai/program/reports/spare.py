@@ -1,15 +1,14 @@
 """What `spare` answers: the constraints of which each may go by itself."""
 from __future__ import annotations
 
-import re
 from dataclasses import dataclass
 
 from pertxogai.language.constraints import Constraint
 from pertxogai.program.reports.plan import take_constraint
 from pertxogai.program.reports.rows import COUNT, whole
 
-_SPARE = re.compile(f"spare ({COUNT})")
-_LINE = re.compile(f"c({COUNT}) : (.*)")
+_SPARE = f"spare ({COUNT})"
+_LINE = f"c({COUNT}) : (.*)"
 
 
 @dataclass(frozen=True)

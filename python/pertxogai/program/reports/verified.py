@@ -1,15 +1,14 @@
 """What `verify` answers: that a claim is right, or what fails of it first."""
 from __future__ import annotations
 
-import re
 from dataclasses import dataclass
 from enum import Enum
 
 from pertxogai.language.clusters import ClusterName
 from pertxogai.program.reports.rows import CLUSTER, COUNT, NAME, cluster, whole
 
-_VERIFIED = re.compile(f"verified steps ({COUNT}) length ({COUNT}) nm angle ({COUNT}) ppb")
-_FAILS = re.compile(
+_VERIFIED = f"verified steps ({COUNT}) length ({COUNT}) nm angle ({COUNT}) ppb"
+_FAILS = (
     f"verify fails (?:({CLUSTER})|(parts)|(element|line) ({NAME})|(sign) ({CLUSTER}))"
 )
 

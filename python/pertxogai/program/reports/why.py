@@ -12,8 +12,8 @@ from pertxogai.program.reports.rows import COUNT, Rows, whole
 
 WORK = 256_000_000
 """What `why` answers within a second or two, by `work_of`."""
-_WHY = re.compile(f"why ({COUNT})")
-_FOLLOWS = re.compile(f"c({COUNT}) : (.*) follows from((?: c{COUNT})+)")
+_WHY = f"why ({COUNT})"
+_FOLLOWS = f"c({COUNT}) : (.*) follows from((?: c{COUNT})+)"
 
 
 @dataclass(frozen=True)
