@@ -12,6 +12,7 @@ from dataclasses import dataclass
 from enum import Enum
 from typing import TYPE_CHECKING, TypedDict
 
+from pertxogai.cached import cached_on
 from pertxogai.drawing import ORIGIN, Drawing
 from pertxogai.judging.mirrored import mirrored
 from pertxogai.judging.judged_drawing import JudgedDrawing
@@ -90,7 +91,7 @@ class GoodJudgement:
     judged: JudgedDrawing
 
     def __post_init__(self) -> None:
-        reasons = tuple(_against(self.judged))
+        reasons = _against(self.judged)
         if reasons:
             raise NotGood(reasons)
 
@@ -116,7 +117,7 @@ class GoodSketch:
     judged: JudgedSketch
 
     def __post_init__(self) -> None:
-        reasons = tuple(_against_sketch(self.judged))
+        reasons = _against_sketch(self.judged)
         if reasons:
             raise NotGood(reasons)
 
@@ -178,13 +179,14 @@ def _json(reason: Reason) -> ReasonJson:
             "off": off.amount if off else None, "unit": off.unit.value if off else None}
 
 
-def _against(judged: JudgedDrawing) -> Iterator[Reason]:
+@cached_on
+def _against(judged: JudgedDrawing) -> tuple[Reason, ...]:
     """Why the judgement on a drawing isn't good. What no constraint tells is looked at where
     nothing else is against it."""
-    found, solution = [*_plain_reasons(judged)], judged.judgement.solution
-    yield from found
-    if not found and solution is not None:
-        yield from _missing_or_mirrored(judged, solution)
+    found, solution = tuple(_plain_reasons(judged)), judged.judgement.solution
+    if found or solution is None:
+        return found
+    return tuple(_missing_or_mirrored(judged, solution))
 
 
 def _missing_or_mirrored(judged: JudgedDrawing, solution: Solution) -> Iterator[Reason]:
@@ -282,8 +284,14 @@ def _order(off: Deviation) -> tuple[bool, int]:
     return off.unit is Unit.PPB, -off.amount
 
 
-def _against_sketch(judged: JudgedSketch) -> Iterator[Reason]:
+@cached_on
+def _against_sketch(judged: JudgedSketch) -> tuple[Reason, ...]:
     """Why a judged sketch isn't good."""
+    return tuple(_reasons_of_sketch(judged))
+
+
+def _reasons_of_sketch(judged: JudgedSketch) -> Iterator[Reason]:
+    """These reasons, one by one."""
     solved, most = judged.solved, judged.limit.amount
     yield from _without_places(judged.check.verdict, solved, solved is not None)
     if not _is_of(judged.check, judged.sketch) or solved and not _places(solved, judged.sketch):
