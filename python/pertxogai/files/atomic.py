@@ -3,7 +3,6 @@
 from __future__ import annotations
 
 import os
-import tempfile
 from collections.abc import Iterator
 from contextlib import contextmanager
 from pathlib import Path
@@ -19,12 +18,13 @@ def written_whole(out: Path, given: Path) -> Iterator[IO[bytes]]:
     Raises FileRefusal where `out` is the file `given`, by whatever name, or can't be written;
     nothing is left behind then.
     """
+    from tempfile import NamedTemporaryFile  # What is only read imports no such thing.
+
     if out.exists() and given.exists() and out.samefile(given):
         raise FileRefusal(f"{out}: is the file that is read, and isn't written over: name another")
     half: Path | None = None
     try:
-        with tempfile.NamedTemporaryFile(dir=out.parent, prefix=".pertxogai-",
-                                         delete=False) as stream:
+        with NamedTemporaryFile(dir=out.parent, prefix=".pertxogai-", delete=False) as stream:
             half = Path(stream.name)
             yield stream
         half.chmod(0o666 & ~_umask())
