@@ -40,6 +40,8 @@ KIT_LICENCES = {
     "indexmap-apache": "indexmap/LICENSE-APACHE",
 }
 APART = shutil.ignore_patterns("out", "dist", ".git", "__pycache__", ".mypy_cache")
+WITHOUT_SYSTEM = "--force-depends", "--force-script-chrootless"
+"""How dpkg installs into a root that has no Debian."""
 NOON = 1764331200
 """28 November 2025, 12:00, in seconds since 1970."""
 
@@ -102,7 +104,7 @@ def installed(dist: Path, tmp_path_factory: pytest.TempPathFactory) -> Path:
     for name in ("updates", "info", "triggers"):
         (root / "var/lib/dpkg" / name).mkdir(parents=True)
     (root / "var/lib/dpkg/status").touch()
-    done("dpkg", f"--root={root}", "--force-depends", "--install", *packages)
+    done("dpkg", f"--root={root}", *WITHOUT_SYSTEM, "--install", *packages)
     listed = done("dpkg", f"--root={root}", "-l")
     assert all(f" {it.name.partition('_')[0]} " in listed.replace(":amd64", "") for it in packages)
     return root
@@ -204,6 +206,19 @@ def test_the_package_has_its_pages_and_what_editors_read(installed: Path) -> Non
     rights = {it.lstat().st_mode & 0o777 for it in (installed / "usr").rglob("*")
               if not it.is_symlink()}
     assert rights == {0o644, 0o755}
+
+
+def test_the_installed_python_is_compiled_and_goes_as_it_came(installed: Path, tmp_path: Path) -> None:
+    """Users can't write where it is installed: uncompiled, each command would compile it anew."""
+    if os.geteuid() != 0:
+        pytest.skip("only root installs packages")
+    root = tmp_path / "root"
+    shutil.copytree(installed, root, symlinks=True)
+    modules = root / "usr/lib/python3/dist-packages/pertxogai"
+    bare = [it for it in modules.rglob("*.py") if not [*it.parent.glob(f"__pycache__/{it.stem}.*.pyc")]]
+    assert not bare
+    done("dpkg", f"--root={root}", *WITHOUT_SYSTEM, "--remove", "pertxogai")
+    assert not modules.exists()
 
 
 def test_the_packages_say_what_they_need(dist: Path) -> None:

@@ -22,6 +22,15 @@ from pertxogai.commands import main
 
 sys.exit(main())
 """
+COMPILE = """#!/bin/sh
+# Keeps what Python compiles of the package; else each command would compile it anew, since users can't write there.
+set -e
+[ "$1" != configure ] || py3compile "$DPKG_ROOT/{folder}"
+"""
+REMOVE_COMPILED = """#!/bin/sh
+set -e
+find "$DPKG_ROOT/{folder}" -type d -name __pycache__ -prune -exec rm -r {{}} +
+"""
 MAINTAINER = "The Pertxogai authors (write to the place where you got this package)"
 CONTROL = """Package: {name}
 Version: {version}
@@ -58,8 +67,8 @@ CHANGES = """pertxogai ({version}) unstable; urgency=low
 @dataclass(frozen=True)
 class Package:
     """One Debian package: its name, section, description, relations (`{c}` is the least version of the C library,
-    `{version}` that of the release), which files below the staged root it takes, and whether the linker's cache is
-    made anew behind it."""
+    `{version}` that of the release), which files below the staged root it takes, whether the linker's cache is made
+    anew behind it, and which folder of Python modules below the root is compiled where it is installed."""
 
     name: str
     section: str
@@ -67,6 +76,7 @@ class Package:
     relations: str
     takes: tuple[str, ...]
     is_library: bool = False
+    modules: Path | None = None
 
 
 RUNTIME = Package(
@@ -95,7 +105,8 @@ MAIN = Package(
  Debian's own package sketch has a program of the same name.""",
     "Depends: libc6 (>= {c}), python3 (>= 3.11)\n"
     "Recommends: python3-ezdxf, python3-flask, python3-numpy, python3-scipy\n"
-    "Suggests: libpertxogai-sketch1\nConflicts: sketch", (f"{USR}/*",))
+    "Suggests: libpertxogai-sketch1\nConflicts: sketch", (f"{USR}/*",),
+    modules=PACKAGES / "pertxogai")
 BY_NEED = (DEVELOPMENT, RUNTIME, MAIN)
 """The packages, each of which takes what those before it have left: the link libsketch.so before the file that it leads
 to, since a pattern doesn't match a link that leads nowhere."""
@@ -153,7 +164,8 @@ def _write_pages(pages: Path, made: Made) -> None:
 
 
 def _write_control(package: Package, root: Path, made: Made) -> None:
-    """Writes what dpkg reads: what the package is and needs, and of a library that the linker's cache is made anew."""
+    """Writes what dpkg reads: what the package is and needs, of a library that the linker's cache is made anew, and of
+    Python modules that they are compiled."""
     files = [each for each in root.rglob("*") if each.is_file() and not each.is_symlink()]
     size = sum(each.stat().st_size for each in files) // 1024
     needed = c_library(made.program, made.library / "libsketch.so")
@@ -165,3 +177,7 @@ def _write_control(package: Package, root: Path, made: Made) -> None:
     (control / "control").write_text(told)
     if package.is_library:
         (control / "triggers").write_text("activate-noawait ldconfig\n")
+    if package.modules is not None:
+        for name, script in (("postinst", COMPILE), ("prerm", REMOVE_COMPILED)):
+            (control / name).write_text(script.format(folder=package.modules))
+            (control / name).chmod(0o755)
