@@ -4,6 +4,7 @@ by the first of 3.11 or later.
 start.py THIS OTHERS FITTING WORD ..: THIS is what this Python was called as, OTHERS are those to look at after it, with blanks
 between, FITTING is one that is new enough, '' where none is known yet. Older Pythons have to read this file too.
 """
+import gc
 import os
 import sys
 
@@ -35,8 +36,10 @@ def hand_on(python, others, fitting, words):
 
 def run(words):
     """The commands, and their exit status."""
+    gc.disable()  # What is imported stays, so looking through it for rubbish only takes time.
     from pertxogai.commands import main as do
 
+    gc.enable()
     return do(words)
 
 
