@@ -132,7 +132,7 @@ class Fit:
 
     @property
     def drawing(self) -> Drawing:
-        """The drawing."""
+        """The drawing that was checked."""
         return self.good.drawing
 
     @property

@@ -44,8 +44,9 @@ class LiveEnded(ProgramError):
 
 @dataclass
 class LiveProgram:
-    """A running program, and how many seconds it has for each reply. Once a reply didn't come, or
-    the talk was ended, no line is taken any more. One thread at a time may use it."""
+    """A running program, and its time limit for each reply, in seconds. After a reply that didn't
+    come, or after the end of the session, it takes no more lines. One thread at a time may use
+    it."""
 
     process: subprocess.Popen[bytes]
     seconds: float

@@ -63,11 +63,9 @@ class Solver(Protocol):
 
 @dataclass(frozen=True)
 class Program:
-    """The program as a file that is run once for each call.
-
-    seconds: how long a call may take. memory_mib: how much memory it may take, in MiB; None for
-    no limit. Any number of threads may share one.
-    """
+    """The program as a file that is run once for each call. seconds: the time limit of a call.
+    memory_mib: the memory limit of a call, in MiB; None for no limit. Any number of threads may
+    share one."""
 
     path: str
     seconds: float = 60.0

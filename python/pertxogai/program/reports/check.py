@@ -25,8 +25,8 @@ class Verdict(Enum):
 
     @property
     def gloss(self) -> str:
-        """What it means, in the trade's words. An open sketch needn't move: one that is rigid
-        without being built of triangles is open too."""
+        """Its meaning in the words of the trade. An `open` sketch needn't be movable: one that is
+        rigid without being built of triangles is `open` too."""
         return _GLOSSES[self]
 
 
