@@ -146,7 +146,7 @@ def test_the_mutants_are_counted() -> None:
     """The pages that say how many mutants there are, and in how many crates, say it right."""
     mutants = [*TOP.glob("crates/*/must-fail/*.edit")]
     crates = {it.parent.parent for it in mutants}
-    for page in ("README.md", "docs/CLAIMS.md"):
+    for page in ("README.md", "docs/CLAIMS.md", "docs/RELIABILITY.md"):
         text = (TOP / page).read_text()
         assert f"{len(mutants)} mutants" in text and f"{len(crates)} crates" in text, page
 
