@@ -76,6 +76,18 @@ def test_what_ties_loose_pieces_is_as_many_dimensions_as_are_missing(program, li
     assert joint.tie is tie and joint.shared == ()
 
 
+def test_a_point_that_is_level_with_another_is_tied_by_two_dimensions(program):
+    """The line through both is auxiliary: the first hole lacks its x and y, and the second one way
+    along that line."""
+    text = ("rectangle Plate 0 0 60 40\ncircle West 15 20 4\ncircle East 45 20 4\n"
+            "coincident PlateBottom.start Origin\nlength PlateBottom 60\nlength PlateRight 40\n"
+            "radius West 4\nequal West East\nhorizontal West East\n")
+    found = judge(read_drawing(text), program)
+    assert found.missing.count == 3
+    ties = {joint.second.elements: joint.tie for joint in found.missing.joints}
+    assert ties == {("West.centre",): Tie.LONE, ("East.centre",): Tie.SLIDE}
+
+
 def test_what_is_too_many_though_the_pieces_are_not_found_rigid_is_told_by_rank(program):
     """Two braced quadrilaterals, and four bars between them, of which three would be enough: merging
     doesn't join them, since no two of the bars meet."""

@@ -128,14 +128,14 @@ def _joint(names: Names, parts: tuple[Part, ...], pieces: tuple[Piece, ...], sho
     first = next((other for other in shown if other < place and mine & set(parts[other].elements)),
                  shown[0])
     shared = [name for name in parts[place].elements if name in parts[first].elements]
-    tie = _loose(parts[first], parts[place])
+    tie = _loose(pieces[first], pieces[place])
     if shared:
         tie = Tie.SLIDE if shared[0] in names.spelled.tracks else Tie.HINGE
     return Joint(pieces[first], pieces[place], tie, names.elements(shared))
 
 
-def _loose(first: Part, second: Part) -> Tie:
-    """What ties two parts that share nothing: a single point or line can't turn, so it takes one
-    dimension less than a part of several."""
-    lone = sum(len(part.elements) == 1 for part in (first, second))
+def _loose(first: Piece, second: Piece) -> Tie:
+    """What ties two clusters that share nothing. A single point or line can't turn, so it takes one
+    dimension less than several; the auxiliary lines of a point don't count."""
+    lone = sum(len(piece.elements) == 1 for piece in (first, second))
     return (Tie.LOOSE, Tie.LONE, Tie.LONE_PAIR)[lone]
