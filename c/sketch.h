@@ -1,7 +1,7 @@
 /* SPDX-License-Identifier: MIT OR Apache-2.0 */
 /* The sketch solver as a library: libsketch.a, or libsketch.so.
  *
- * A call takes a command, such as "check" or "solve place=points", and a text: what `./sketch` takes as its arguments
+ * A call takes a command, such as "check" or "solve place=points", and a text: what the program `sketch` takes as arguments
  * and on its standard input. It gives the status and the text of the program. docs/LANGUAGE.md describes the texts,
  * docs/EMBEDDING.md says how to link.
  *

@@ -90,8 +90,9 @@ DEVELOPMENT = Package(
     "libpertxogai-sketch-dev", "libdevel",
     """solver for planar CAD sketches whose every answer is proved (development)
  The header sketch.h, the static library, and what pkg-config reads, to link
- libsketch into programs in C and C++.""",
-    "Depends: libpertxogai-sketch1 (= {version})",
+ libsketch into programs in C and C++. The package pertxogai has the page on
+ it (docs/EMBEDDING.md) and examples in C.""",
+    "Depends: libpertxogai-sketch1 (= {version})\nSuggests: pertxogai",
     (f"{USR}/include/*", f"{USR / LIBRARIES}/libsketch.a", f"{USR / LIBRARIES}/libsketch.so",
      f"{USR / LIBRARIES}/pkgconfig"))
 MAIN = Package(
