@@ -110,9 +110,9 @@ def test_the_examples_say_what_the_guide_shows(room):
     # the height of C over A and B, with sides of 4, 3 and 9: its square is 81 - 11 * 11 = -40, in parts of 2^-38
     assert "fault s1 build height C gap -10995116277760 -10995116277760 bits 38" in replies
     assert replies[-3:] == ["point C 4000000 3000000", "length tolerance 0 nm at c1", "angle tolerance 0 ppb at none"]
-    compiled("cc", "-std=c99", *STRICT, HERE / "examples/reports.c", room / "libsketch.a", "-o", room / "reports")
+    compiled("cc", "-std=c99", *STRICT, HERE / "examples/diagnose.c", room / "libsketch.a", "-o", room / "diagnose")
     # of 40 the line says 41; the drawn C lies 50 from A; over 5 a C with two sides of 1 has a height whose square is 1 - 2.5 * 2.5
-    assert run(room / "reports").stdout.decode().splitlines() == [
+    assert run(room / "diagnose").stdout.decode().splitlines() == [
         "conflicting: distance A B 41, off by -1000000 nm", "redundant: distance B C 30, off by 0 nm",
         "missing: distance A C 50", "height of C in step s1: gap, between -5.25 and -5.25"]
     compiled("c++", "-std=c++17", *STRICT, HERE / "examples/judge.cpp", room / "libsketch.a", "-o", room / "judge_cpp")

@@ -1,4 +1,4 @@
-/* reports: reads what is more than coordinates: what is redundant or conflicts, what is missing, and why nothing is placed. */
+/* diagnose: reads what is more than coordinates: what is redundant or conflicts, what is missing, and why nothing is placed. */
 #include <stdio.h>
 
 #include "sketch.h"
