@@ -14,6 +14,7 @@ from pertxogai.search import pulling
 from pertxogai.search.dragging import Drag, Frame, Grip, NothingFree
 from pertxogai.search.pulling import Reach
 from pertxogai.search.searched import Searched
+from shared_drawings import ROUNDED_BRACKET
 
 MM = 1e6
 """Nanometres of a millimetre."""
@@ -221,33 +222,10 @@ length P2 15
 length P5 15
 length P6 50
 """
-FILLET = """segment Low 0 0 60 0
-segment Right Low.end 60 15
-segment In Right.end 25 15
-arc Round 25 25 15 25 25 15
-segment Up 15 25 15 50
-segment Top Up.end 0 50
-segment Left Top.end Low.start
-coincident Low.start Origin
-coincident Round.end In.end
-coincident Round.start Up.start
-tangent Round In
-tangent Round Up
-horizontal Low
-horizontal In
-horizontal Top
-vertical Right
-vertical Up
-vertical Left
-length Low 60
-length Right 15
-length Top 15
-length Left 50
-"""
 
 
 def test_the_missing_radius_of_a_bracket_follows_the_rim() -> None:
-    held = Dragged(FILLET, rim="Round", at=(25 - 10 / 2 ** 0.5, 25 - 10 / 2 ** 0.5))
+    held = Dragged(ROUNDED_BRACKET, rim="Round", at=(25 - 10 / 2 ** 0.5, 25 - 10 / 2 ** 0.5))
     for wanted in (12.0, 15.0, 8.0, 3.0):
         away = 15 + wanted - wanted / 2 ** 0.5
         held.to(away, away)

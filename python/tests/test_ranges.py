@@ -22,6 +22,7 @@ from pertxogai.ranging import FaultKind, NoRange, Ranging
 from pertxogai.ranging.faults import of_failure
 from pertxogai.ranging.search import MOST_TRIED, Search
 from pertxogai.spelling import Style, axes_of, spell
+from shared_drawings import LINK
 
 DRAWINGS = TOP / "python" / "tests" / "drawings"
 PLATE = """segment Bottom 0 0 118 0
@@ -186,28 +187,8 @@ def test_construction_lines_that_would_lie_mirrored_end_a_range(program):
     assert range_of(text, "High", program).low.at == Fraction("20.001")
 
 
-LINK = """segment Lower 0 -10 62 -9
-arc East 60 0.5 Lower.end 61 11
-segment Upper East.end 1 9
-arc West 0 0.3 Upper.end Lower.start
-circle Hole 59 1 4
-tangent Lower East
-tangent East Upper
-tangent Upper West
-tangent West Lower
-coincident West Origin
-horizontal West East
-distance West East 60
-radius East 10
-equal East West
-diameter Hole 8
-on Hole XAxis
-Slide: x Hole 36
-"""
-
-
 def test_a_hole_goes_on_over_the_chord_of_a_rounded_end(program):
-    found = range_of(LINK, "Slide", program)
+    found = range_of(LINK + "on Hole XAxis\nSlide: x Hole 36\n", "Slide", program)
     # The end is rounded by 10 about 60, and the hole's radius is 4.
     assert (found.low.at, found.high.at) == (0, Fraction("66.001"))
     assert found.high.fault.text == "East and Hole cross, but are drawn apart"

@@ -7,6 +7,7 @@ from pertxogai.drawing import read_drawing
 from pertxogai.judging import judge
 from pertxogai.judging.edges import Chord
 from pertxogai.judging.rims import Round
+from shared_drawings import LINK
 
 MM = 1_000_000
 CIRCLE = Round((0, 0), 5 * MM)
@@ -141,24 +142,6 @@ def test_what_is_drawn_so_is_not_told(program):
     assert not judge(read_drawing(text), program).warnings
     text = PLATE.format(x=5).replace("circle Hole", "construction circle Hole")
     assert not judge(read_drawing(text), program).warnings
-
-
-LINK = """segment Lower 0 -10 62 -9
-arc East 60 0.5 Lower.end 61 11
-segment Upper East.end 1 9
-arc West 0 0.3 Upper.end Lower.start
-circle Hole 59 1 4
-tangent Lower East
-tangent East Upper
-tangent Upper West
-tangent West Lower
-coincident West Origin
-horizontal West East
-distance West East 60
-radius East 10
-equal East West
-diameter Hole 8
-"""
 
 
 @pytest.mark.parametrize(("lines", "told"), [

@@ -12,6 +12,7 @@ from boards import Served, wait_for
 from browsing import Page
 from keystrokes import count_keystrokes, seconds_of
 from selenium.webdriver.common.keys import Keys
+from shared_drawings import ROUNDED_BRACKET
 
 Place = tuple[float, float]
 FOUR_BAR = """drawing 1
@@ -273,34 +274,8 @@ def test_a_slider_stays_on_its_line(page: Page) -> None:
     assert hand.length("Rod.start", "Rod.end") == pytest.approx(35, abs=1e-6)
 
 
-BRACKET = """drawing 1
-segment Low 0 0 60 0
-segment Right Low.end 60 15
-segment In Right.end 25 15
-arc Round 25 25 15 25 25 15
-segment Up 15 25 15 50
-segment Top Up.end 0 50
-segment Left Top.end Low.start
-coincident Low.start Origin
-coincident Round.end In.end
-coincident Round.start Up.start
-tangent Round In
-tangent Round Up
-horizontal Low
-horizontal In
-horizontal Top
-vertical Right
-vertical Up
-vertical Left
-length Low 60
-length Right 15
-length Top 15
-length Left 50
-"""
-
-
 def test_a_bracket_that_lacks_a_radius_is_whole_and_its_rim_is_dragged(page: Page) -> None:
-    hand = Hand(page, BRACKET)
+    hand = Hand(page, "drawing 1\n" + ROUNDED_BRACKET)
     assert "1 degree of freedom" in page.told()
     assert page.count("[data-name=Round] .free") == 1 and page.count("[data-name=Low] .free") == 0
     hand.take("Round")
