@@ -3,12 +3,16 @@ bars lie in one line, where nothing is left between two walls, where both deviat
 side; chains of radii and of holes on a circle; values that are expressions; general tolerances."""
 from __future__ import annotations
 
+from fractions import Fraction
 from math import atan, cos, degrees, radians, sin, sqrt
 
 import pytest
 
 from pertxogai.drawing import read_drawing
 from pertxogai.fitting import Answer, CheckedFit, Fit, UnknownFit, fit
+from pertxogai.fitting.placing import Placer
+from pertxogai.fitting.toleranced import Toleranced
+from pertxogai.judging.measure import Limit
 from pertxogai.output.fit_text import fit_lines
 
 
@@ -65,10 +69,13 @@ def test_a_crank_that_comes_past_its_dead_point(program) -> None:
     def slider(r: float, rod: float, d: float) -> float:
         return r * cos(radians(d)) + sqrt(rod ** 2 - (r * sin(radians(d))) ** 2)
 
-    (found,) = checks("check Slider y Rod.end 179.7 .. 180.3\nsegment Crank 0 0 0.5 50\n"
-                      "segment Rod Crank.end 0 180\ncoincident Crank.start Origin\n"
-                      "on Rod.end YAxis\nlength Crank 50 +-0.1\nlength Rod 130 +-0.1\n"
-                      "angle Crank +89.5deg +-2deg\n", program)
+    fits = fit(read_drawing(
+        "check Slider y Rod.end 179.7 .. 180.3\nsegment Crank 0 0 0.5 50\n"
+        "segment Rod Crank.end 0 180\ncoincident Crank.start Origin\non Rod.end YAxis\n"
+        "length Crank 50 +-0.1\nlength Rod 130 +-0.1\nangle Crank +89.5deg +-2deg\n"), program)
+    # Where the bars lie in one line the program says open; on both sides of that it places them.
+    (found,) = fits.checks
+    assert fits.answer is Answer.FITS and not fits.unplaced and fits.between
     assert worst(found) == rounded(slider(49.9, 129.9, 2.5), 180.2) == (179.7343, 180.2)
     assert found.turning_numbers == (5,) and found.answer is Answer.FITS
 
@@ -228,7 +235,46 @@ def test_more_of_a_coordinate_of_nothing_is_to_the_drawn_side(program) -> None:
     assert worst(gap) == (0, 0.2) and gap.answer is Answer.FITS
 
 
+def test_a_dead_point_that_only_two_angles_together_reach(program) -> None:
+    # The slider stands 1800 high where crank and rod lie in one line, at 90 degrees: there the
+    # program says open. Each angle alone leaves the crank short of 90, 89.4 or 89.6; together they
+    # take it to 90.3, where the slider is at 1799.9905. At 90, within both tolerances, it is 0.005
+    # beyond the limit.
+    found = fit(read_drawing(
+        "check Slider y Rod.end .. 1799.995\nsegment Arm 0 0 433 250\n"
+        "coincident Arm.start Origin\nlength Arm 500\nangle Arm +30deg +-0.7deg\n"
+        "segment Crank Arm.start 11.3 499.9\nlength Crank 500\n"
+        "angle Arm Crank +58.7deg +-0.9deg\nsegment Rod Crank.end 0 1799.8\n"
+        "on Rod.end YAxis\nlength Rod 1300\n"), program)
+    (slider,) = found.checks
+    assert worst(slider)[1] == 1800 and slider.answer is Answer.BEYOND
+    assert slider.worst.turning and any("it is open" in why for why in found.between)
+
+
 # -- what isn't sure, and what isn't known
+
+def test_what_cannot_be_placed_between_the_ends_is_not_known_to_fit(program) -> None:
+    # The pin of the crank stands 99.81 to 100 above the axis, and at 90 degrees the rod of 99.998
+    # is too short; at both ends, 86.5 and 90.5, it reaches.
+    found = fit(read_drawing(
+        "check Pin y Crank.end .. 101\nsegment Crank 0 0 2.6 99.97\n"
+        "coincident Crank.start Origin\nlength Crank 100\nangle Crank +88.5deg +-2deg\n"
+        "segment Rod Crank.end 5.16 0\non Rod.end XAxis\nlength Rod 99.998\n"), program)
+    (pin,) = found.checks
+    assert pin.answer is Answer.UNSURE and found.answer is Answer.UNSURE
+    assert "can't be placed" in found.unplaced[0] and not found.between
+
+
+def test_what_can_be_placed_on_one_side_only_is_no_case_between_two(program) -> None:
+    # Up to a base of 100.02 the triangle closes. 0.0205 more it doesn't, a thousandth of the
+    # tolerance less it does, and as much more it doesn't.
+    drawing = read_drawing("check Top y B.end 0 .. 2\n" + TRIANGLE)
+    placer = Placer(drawing, program, Limit())
+    placer.begin((Toleranced(3, Fraction(500), Fraction(500), False, False),), ())
+    assert placer.around((Fraction("20.5"),), 0) == [(Fraction("19.5"),)]
+    assert placer.unplaced and not placer.between
+
+
 
 def test_two_points_that_may_come_past_each_other_are_not_sure_to_stay_apart(program) -> None:
     # P lies 0.09 before Q and may move by 0.1: past it, to 0.01 behind, and so on it, where neither

@@ -10,7 +10,8 @@ from pertxogai.board.protocol import Checked, CheckAnswer, Contribution, Fitted,
 from pertxogai.drawing import Drawing
 from pertxogai.fitting import Answer, CheckedFit, Fit, NoFit, UnknownFit
 from pertxogai.judging.measure import Solution
-from pertxogai.output.fit_text import check_lines, number_text, unit_of, words_of_dimension
+from pertxogai.output.fit_text import (
+    check_lines, number_text, unit_of, unplaced_lines, words_of_dimension)
 from pertxogai.output.picture.drawings import DrawnPlaces
 
 ANSWERS: dict[Answer, CheckAnswer] = {
@@ -26,7 +27,7 @@ def checks_shown(drawing: Drawing, found: Fit | NoFit, shown: Solution | None) -
         return {"checks": [], "why": list(found.why)}
     where = DrawnPlaces(drawing, shown)
     checks = [_checked(where, number, each) for number, each in enumerate(found.checks, 1)]
-    return {"checks": checks, "why": list(found.unplaced)}
+    return {"checks": checks, "why": list(unplaced_lines(found))}
 
 
 def _checked(where: DrawnPlaces, number: int, found: CheckedFit | UnknownFit) -> Checked:

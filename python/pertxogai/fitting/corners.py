@@ -10,7 +10,7 @@ from random import Random
 
 from pertxogai.fitting.effects import Effect, ends_of, turning_at
 from pertxogai.fitting.gauges import Way
-from pertxogai.fitting.placing import NOISE, Case, Offs, Placer, Unplaced
+from pertxogai.fitting.placing import NOISE, Case, Offs, Placer
 from pertxogai.fitting.sums import Sums
 
 MOST_TOGETHER = 3
@@ -26,8 +26,10 @@ greatest."""
 TIMES = 4
 """What moves a check less than this number of times as much as corners are off the sums of the
 effects may change its sign there."""
+MANY = 20
+"""Of more dimensions than this number not all are tried that may change their sign so."""
 MOST_DOUBTFUL = 4
-"""At most this number of these dimensions is tried, those that move the check least."""
+"""Of many dimensions this number of those is tried, those that move the check least."""
 SAMPLES = 8
 """This number of corners is placed besides, taken at random: the same in each run."""
 SEED = 2768
@@ -77,19 +79,12 @@ class Corners:
 
     def _case(self, offs: Offs) -> Case:
         """A case; where it isn't placed, the one in which what doesn't move the check is held."""
-        try:
-            return self._placer.case(offs)
-        except Unplaced:
-            return self._placer.case(tuple(
-                off if each.gives() > NOISE else each.base.off
-                for off, each in zip(offs, self._effects)))
+        return self._placer.case(offs if self._placer.is_placed(offs) else self._held(offs))
 
-    def _is_placed(self, offs: Offs) -> bool:
-        try:
-            self._case(offs)
-        except Unplaced:
-            return False
-        return True
+    def _held(self, offs: Offs) -> Offs:
+        """A case with what doesn't move the check as at the base."""
+        return tuple(off if each.gives() > NOISE else each.base.off
+                     for off, each in zip(offs, self._effects))
 
     def _at(self, offs: Offs, side: int) -> int:
         """The least that the check measures in a case, or the greatest where the side is 1."""
@@ -110,7 +105,7 @@ class Corners:
             unsure += still if self._move_together(corners[0], still) else []
             doubtful = [place for place in sorted(gives, key=lambda place: gives[place])
                         if NOISE < gives[place] <= TIMES * bend and place not in unsure]
-            unsure += doubtful[:MOST_DOUBTFUL]
+            unsure += doubtful if len(gives) <= MANY else doubtful[:MOST_DOUBTFUL]
         return sorted(unsure, key=lambda place: -gives[place])
 
     def _move_together(self, corner: Offs, places: Sequence[int]) -> bool:
@@ -171,11 +166,15 @@ class Corners:
     def _best_within(self, offs: Offs, place: int, side: int) -> Offs:
         """The worst case of those in which one of the unsure lies otherwise."""
         three = [_with(offs, {place: off}) for off in ends_of(self._effects[place].dimension)]
-        cases = [offs, *three]
         where = turning_at([(case[place], self._at(case, side)) for case in three])
-        if where is not None and self._is_placed(_with(offs, {place: where})):
-            cases.append(_with(offs, {place: where}))
-        return max(cases, key=lambda case: side * self._at(case, side))
+        there = [] if where is None else self._around(_with(offs, {place: where}), place)
+        return max(offs, *three, *there, key=lambda case: side * self._at(case, side))
+
+    def _around(self, offs: Offs, place: int) -> list[Offs]:
+        """A case between the ends of a dimension, or those beside it; none where it can't be placed
+        there."""
+        around = self._placer.around
+        return around(offs, place) or around(self._held(offs), place)
 
     def _together(self, start: Offs, unsure: Sequence[int]) -> Iterator[Offs]:
         """Corners with all ends of the first of the unsure, and with the other end of the rest."""

@@ -14,10 +14,6 @@ from pertxogai.fitting.toleranced import MILLIONTHS, Toleranced
 NEAR = Fraction(1, 16)
 """A dimension with which nothing is placed at an end of its tolerance is tried at this part too."""
 
-BESIDE = Fraction(1, 1000)
-"""Where a check may turn round it is measured this part of the tolerance beside that, if need
-be."""
-
 
 @dataclass(frozen=True)
 class Reading:
@@ -118,6 +114,12 @@ class _One:
         """What the check measures with the dimension so far off. Raises Unplaced."""
         return _reading(off, self.placer.alone(self.place, off), self.number)
 
+    def readings_around(self, off: Fraction) -> list[Reading]:
+        """The same, or a little less and a little more off, where it can't be placed. Raises
+        Unplaced where it can't be placed there either."""
+        around = self.placer.around(self.placer.offs_alone(self.place, off), self.place)
+        return [self.reading(offs[self.place]) for offs in around] or [self.reading(off)]
+
 
 def _effect(one: _One, dimension: Toleranced, base: Reading) -> Effect:
     three = ends_of(dimension)
@@ -130,7 +132,7 @@ def _effect(one: _One, dimension: Toleranced, base: Reading) -> Effect:
         return Effect(dimension, (base,), base)
     where = turning_at([(each.off, each.value) for each in readings])
     if where is not None:
-        readings.append(_reading_near(one, where, dimension.width()))
+        readings += one.readings_around(where)
     return Effect(dimension, tuple(sorted(readings, key=lambda each: each.off)), base)
 
 
@@ -142,17 +144,6 @@ def _moves(one: _One, offs: Iterable[Fraction], base: Reading) -> bool:
             found.append(one.reading(off))
     others = [each.value for each in found if each.off != base.off]
     return not others or any(abs(value - base.value) > NOISE for value in others)
-
-
-def _reading_near(one: _One, where: Fraction, width: Fraction) -> Reading:
-    """What is measured there, or by a little beside it: where two bars lie in one line, a drawing
-    may have no places. Raises Unplaced where it has none beside it either."""
-    for beside in (Fraction(0), width * BESIDE, -width * BESIDE):
-        try:
-            return one.reading(where + beside)
-        except Unplaced as fault:
-            why = fault
-    raise why
 
 
 def _reading(off: Fraction, case: Case, number: int) -> Reading:

@@ -45,7 +45,8 @@ def fit_of(drawing: Drawing, program: Solver, limit: Limit) -> Fit | NoFit:
     checks = tuple(_checks(placer, dimensions.toleranced, gauges))
     if _are_exceeded(placer, checks):
         checks = tuple(_checks(placer, dimensions.toleranced, gauges))
-    return Fit(good, dimensions, checks, len(placer.cases), placer.unplaced,
+    checks = _with_gaps(placer, checks)
+    return Fit(good, dimensions, checks, len(placer.cases), placer.unplaced, placer.between,
                placer.loose_nm)
 
 
@@ -56,6 +57,18 @@ def _are_exceeded(placer: Placer, checks: Sequence[CheckedFit | UnknownFit]) -> 
         case.values[each.number] < each.worst.least - NOISE
         or case.highs[each.number] > each.worst.greatest + NOISE for case in cases)
         for each in checks)
+
+
+def _with_gaps(placer: Placer, checks: tuple[CheckedFit | UnknownFit, ...],
+               ) -> tuple[CheckedFit | UnknownFit, ...]:
+    """The same, each with whether a part that matters to it can't be placed. What is tried to find
+    that out may be one more such part."""
+    tried = 0
+    while tried != placer.tried:
+        tried = placer.tried
+        checks = tuple(each if isinstance(each, UnknownFit)
+                       else replace(each, has_gap=placer.has_gap(each.moving)) for each in checks)
+    return checks
 
 
 def _gauge(check: Check, good: GoodJudgement) -> Gauge | UnknownFit:

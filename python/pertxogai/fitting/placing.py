@@ -1,7 +1,7 @@
 """A drawing placed by the program with dimensions that lie off."""
 from __future__ import annotations
 
-from collections.abc import Iterator, Mapping, Sequence
+from collections.abc import Collection, Iterator, Mapping, Sequence
 from dataclasses import dataclass
 from fractions import Fraction
 
@@ -19,6 +19,11 @@ from pertxogai.program.reports import Verdict
 NOISE = 20
 """Millionths of a millimetre or a degree: what moves a check by no more is the rounding of places
 to whole nanometres, and of angles to ratios."""
+BESIDE = Fraction(1, 1000)
+"""Where a case between the ends of a dimension can't be placed, cases are tried this part of its
+tolerance to either side."""
+MOST_NAMED = 2
+"""A case names at most this number of dimensions."""
 Offs = tuple[Fraction, ...]
 """How far each dimension lies off, in their order, in micrometres or degrees."""
 
@@ -50,6 +55,7 @@ class Placer:
         self.nominal: Judgement = judge_edited(self._edited, program, limit=limit)
         self._known: dict[Offs, Case] = {}
         self._unplaced: dict[Offs, str] = {}
+        self._between: set[Offs] = set()
         self._dimensions: Sequence[Toleranced] = ()
         self._gauges: Sequence[Gauge] = ()
 
@@ -62,6 +68,11 @@ class Placer:
         """All that was placed and measured."""
         return self._known
 
+    @property
+    def tried(self) -> int:
+        """How many cases were tried."""
+        return len(self._known) + len(self._unplaced)
+
     def within(self) -> Iterator[tuple[Offs, Case]]:
         """The cases in which each dimension lies within its tolerance. As a drawing is given it
         may not, where both deviations lie on one side."""
@@ -71,8 +82,25 @@ class Placer:
 
     @property
     def unplaced(self) -> tuple[str, ...]:
-        """Which cases couldn't be placed, and why, each once."""
-        return tuple(dict.fromkeys(self._unplaced.values()))
+        """Which cases couldn't be placed, and why, each once; without those between two that
+        could."""
+        return tuple(dict.fromkeys(self._unplaced[offs] for offs in self._gaps()))
+
+    @property
+    def between(self) -> tuple[str, ...]:
+        """Which cases couldn't be placed though both beside them could, and why, each once."""
+        return tuple(dict.fromkeys(why for offs, why in self._unplaced.items()
+                                   if offs in self._between))
+
+    def _gaps(self) -> list[Offs]:
+        return [offs for offs in self._unplaced if offs not in self._between]
+
+    def has_gap(self, moving: Collection[int]) -> bool:
+        """Whether a part within tolerance can't be placed, with all dimensions held at the base but
+        for those of some places, from 0. Raises ProgramError."""
+        held = (tuple(off if place in moving else each.base for place, (off, each)
+                      in enumerate(zip(offs, self._dimensions))) for offs in self._gaps())
+        return not all(map(self.is_placed, held))
 
     @property
     def loose_nm(self) -> int:
@@ -93,8 +121,12 @@ class Placer:
     def alone(self, place: int, off: Fraction) -> Case:
         """The case next to the base in which one dimension is off, by its place from 0. Raises
         Unplaced and ProgramError."""
-        return self.case(tuple(off if number == place else each.base
-                               for number, each in enumerate(self._dimensions)))
+        return self.case(self.offs_alone(place, off))
+
+    def offs_alone(self, place: int, off: Fraction) -> Offs:
+        """How far off all are where one dimension is off, and the others are as at the base."""
+        return tuple(off if number == place else each.base
+                     for number, each in enumerate(self._dimensions))
 
     def case(self, offs: Offs) -> Case:
         """The case with the dimensions so far off. Raises Unplaced and ProgramError."""
@@ -107,6 +139,30 @@ class Placer:
                 self._unplaced[offs] = str(why)
                 raise
         return self._known[offs]
+
+    def is_placed(self, offs: Offs) -> bool:
+        """Whether a case can be placed. Raises ProgramError."""
+        try:
+            self.case(offs)
+        except Unplaced:
+            return False
+        return True
+
+    def around(self, offs: Offs, place: int) -> list[Offs]:
+        """A case with the dimension of that place, from 0, between its ends, where it can be
+        placed. Else those of the two cases that can with that dimension a little less and a little
+        more: bars that lie in one line have no places, and beside that they have. Raises
+        ProgramError."""
+        if self.is_placed(offs):
+            return [offs]
+        dimension, off = self._dimensions[place], offs[place]
+        little = dimension.width() * BESIDE
+        ends = max(off - little, -dimension.below), min(off + little, dimension.above)
+        both = [beside for end in ends if end != off
+                and self.is_placed(beside := (*offs[:place], end, *offs[place + 1:]))]
+        if len(both) == 2:
+            self._between.add(offs)
+        return both
 
     def tilts(self, number: int) -> bool:
         """Whether a check of two segments measured more at one end than at the other."""
@@ -132,13 +188,13 @@ class Placer:
 
     def _told(self, by_number: dict[int, Fraction]) -> str:
         """Which dimensions lie off."""
-        if len(by_number) > 1:
-            return f"with {len(by_number)} dimensions at the ends of their tolerances"
+        if len(by_number) > MOST_NAMED:
+            return f"with {len(by_number)} dimensions off their nominal values"
         angles = {each.number for each in self._dimensions if each.is_angle}
         called = self._edited.drawing.called
-        told = [f"with {called(number)} off by {_off_text(off, number in angles)}"
-                for number, off in by_number.items()]
-        return told[0] if told else "with nominal dimensions"
+        told = (f"{called(number)} off by {_off_text(off, number in angles)}"
+                for number, off in by_number.items())
+        return f"with {' and '.join(told) or 'nominal dimensions'}"
 
 
 def _off_text(off: Fraction, is_angle: bool) -> str:

@@ -60,7 +60,8 @@ class CheckedFit:
     in what gives a good part of it, or where one of two segments tilts. shares: those that give
     something, the greatest first. dimensions: all of them. tightened: where the first of the shares
     has one tolerance to both sides, and to tighten that alone is enough, to how many micrometres or
-    degrees, as the program placed it."""
+    degrees, as the program placed it. has_gap: whether a part within tolerance can't be placed, by
+    dimensions that move the check."""
 
     check: Check
     number: int
@@ -72,6 +73,14 @@ class CheckedFit:
     shares: tuple[Share, ...]
     dimensions: tuple[Toleranced, ...]
     tightened: Fraction | None = None
+    has_gap: bool = False
+
+    @property
+    def moving(self) -> frozenset[int]:
+        """The dimensions that move the check, by their places from 0."""
+        giving = {share.dimension for share in self.shares if share.gives > NOISE}
+        return self.worst.turning.union(place for place, each in enumerate(self.dimensions)
+                                        if each in giving)
 
     @property
     def placed(self) -> Range:
@@ -94,7 +103,7 @@ class CheckedFit:
         """Whether it fits in the worst case."""
         if not self.placed.lies_within(self.low, self.high):
             return Answer.BEYOND
-        if not self.reckoned.lies_within(self.low, self.high):
+        if self.has_gap or not self.reckoned.lies_within(self.low, self.high):
             return Answer.UNSURE
         return Answer.FITS
 
@@ -120,14 +129,16 @@ class UnknownFit:
 @dataclass(frozen=True)
 class Fit:
     """What comes of each check of a drawing that is good. placements: how many times it was placed
-    and measured. unplaced: which cases have no places, and why. loose_nm: how far a constraint is
-    off in a case at most; 0 where that is rounding."""
+    and measured. unplaced: which cases can't be placed, and why; between: those of which both cases
+    beside them can. loose_nm: how far a constraint is off in a case at most; 0 where that is
+    rounding."""
 
     good: GoodJudgement
     dimensions: Dimensions
     checks: tuple[CheckedFit | UnknownFit, ...]
     placements: int
     unplaced: tuple[str, ...] = ()
+    between: tuple[str, ...] = ()
     loose_nm: int = 0
 
     @property
@@ -148,7 +159,8 @@ class Fit:
 
     @property
     def answer(self) -> Answer:
-        """Whether all checks fit in the worst case; that isn't known where a case has no places."""
+        """Whether all checks fit in the worst case; that isn't known where a case can't be
+        placed."""
         answers = {each.answer for each in self.checks}
         if self.unplaced:
             answers.add(Answer.UNSURE)

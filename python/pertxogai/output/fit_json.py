@@ -70,14 +70,16 @@ class CheckJson(TypedDict):
 
 class FitJson(TypedDict):
     """What comes of the checks of a drawing. fits: null where it isn't known. why: why nothing is
-    known at all. unplaced: which cases have no places, and why. exact: the dimensions without a
-    tolerance; idle: those whose tolerance moves no check."""
+    known at all. unplaced: which cases can't be placed, and why; between: those of which both cases
+    beside them can. exact: the dimensions without a tolerance; idle: those whose tolerance moves no
+    check."""
 
     name: str
     fits: bool | None
     why: list[str]
     placements: int
     unplaced: list[str]
+    between: list[str]
     exact: list[str]
     idle: list[str]
     checks: list[CheckJson]
@@ -87,10 +89,11 @@ def fit_json(name: str, found: Fit | NoFit) -> FitJson:
     """What comes of the checks of a drawing of that name."""
     if isinstance(found, NoFit):
         return {"name": name, "fits": None, "why": list(found.why), "placements": 0,
-                "unplaced": [], "exact": [], "idle": [], "checks": []}
+                "unplaced": [], "between": [], "exact": [], "idle": [], "checks": []}
     called = found.drawing.called
     return {"name": name, "fits": found.answer.value, "why": [], "placements": found.placements,
-            "unplaced": list(found.unplaced), "exact": [*map(called, found.dimensions.exact)],
+            "unplaced": list(found.unplaced), "between": list(found.between),
+            "exact": [*map(called, found.dimensions.exact)],
             "idle": [called(each.number) for each in found.idle],
             "checks": [check_json(found.drawing, each) for each in found.checks]}
 

@@ -48,6 +48,8 @@ def fit_lines(name: str, found: Fit | NoFit) -> Iterator[str]:
 def _summary(found: Fit) -> str:
     count, exact = len(found.checks), len(found.dimensions.exact)
     said = ONE[found.checks[0].answer] if count == 1 else _answers(found)
+    if found.unplaced and all(each.answer is Answer.FITS for each in found.checks):
+        said += " where the part can be placed"
     counts = f", {exact} without one {'counts' if exact == 1 else 'count'} as exact" * bool(exact)
     return (f"{_count(count, 'check')}, {said}; "
             f"{_count(len(found.dimensions.toleranced), 'dimension')} with a tolerance{counts}")
@@ -100,10 +102,7 @@ def _share_lines(drawing: Drawing, found: CheckedFit) -> Iterator[str]:
 
 def _lines_of_all(found: Fit) -> Iterator[str]:
     """What is told beside the checks: which cases have no places, and what moves no check."""
-    for why in found.unplaced[:MOST_NAMED]:
-        yield f"  some parts within tolerance can't be placed: {why}"
-    if len(found.unplaced) > MOST_NAMED:
-        yield f"  and {len(found.unplaced) - MOST_NAMED} more such cases"
+    yield from (f"  {line}" for line in unplaced_lines(found))
     if found.loose_nm:
         yield (f"  the constraints are met within {found.loose_nm} nm in these cases, and no check"
                " is more exact")
@@ -112,6 +111,19 @@ def _lines_of_all(found: Fit) -> Iterator[str]:
                  for each in found.idle]
         more = [f"{len(words) - MOST_SHARES} more"] if len(words) > MOST_SHARES else []
         yield f"  these alone change no check: {', '.join(words[:MOST_SHARES] + more)}"
+
+
+def unplaced_lines(found: Fit) -> Iterator[str]:
+    """Which cases can't be placed, in lines."""
+    yield from _cases("some parts within tolerance can't be placed", found.unplaced)
+    yield from _cases("a case that can't be placed, between two that can", found.between)
+
+
+def _cases(said: str, cases: Sequence[str]) -> Iterator[str]:
+    """A few cases with what is said of them, and how many more there are."""
+    yield from (f"{said}: {why}" for why in cases[:MOST_NAMED])
+    if len(cases) > MOST_NAMED:
+        yield f"and {len(cases) - MOST_NAMED} more such cases"
 
 
 def _to(found: CheckedFit) -> str:
