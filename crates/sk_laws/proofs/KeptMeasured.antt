@@ -22,9 +22,9 @@ use Rattle.sk_cli.specs.ExcessReport.{IsMeasuredLeft}
 use Rattle.sk_cli.proofs.ExcessTold.{kept_places}
 use Rattle.sk_cli.proofs.PlacedSpots.{laid_spots}
 use Rattle.sk_answers.specs.MeasureAnswer.{TellsOffs}
-use Rattle.sk_laws.specs.NewNumbers.{places_renumbered, TellsOffsRenumbered}
+use Rattle.sk_laws.specs.NewNumbers.{TellsOffsRenumbered}
 use Rattle.sk_laws.specs.PrintedClaim.{printed_places}
-use Rattle.sk_laws.proofs.Renumbering.{each_renumbered}
+use Rattle.sk_laws.proofs.Renumbering.{each_renumbered, places_renumbered}
 use Rattle.sk_laws.proofs.RenumberedPlaces.{read_again, told_again, measured_of}
 
 module _ (request : Request) (own : Sketch) (sound : IsSoundSketch own) (left : List ConId) (text : List ℕ) (m : IsMeasuredLeft request own left text) where

@@ -25,19 +25,20 @@ use Rattle.sk_graph.specs.SketchGraph.{node_of, drawn_as, apart, distance_edge, 
 use Rattle.sk_graph.proofs.Fittings.{both_drawn}
 use Rattle.sk_graph.proofs.Given.{given_from}
 use Rattle.sk_graph.proofs.Soundness.{drawn_in, given_edge_id, given_block_id}
-use Rattle.sk_lang.specs.Renumbered.{place_of, pin_renumbered, rule_renumbered}
+use Rattle.sk_lang.specs.Renumbered.{place_of as new_element, pin_renumbered, rule_renumbered}
 use Rattle.sk_claims.specs.ClaimText.{IsDeclared}
-use Rattle.sk_laws.specs.NewNumbers.{new_number}
-use Rattle.sk_laws.proofs.Renumbering.{each_renumbered, element_renumbered, constraint_renumbered, IsNumbered, element_order, drawn_again}
+use Rattle.sk_edits.specs.Making.{HasConstraint}
+use Rattle.sk_laws.specs.NewNumbers.{new_constraint}
+use Rattle.sk_laws.proofs.Renumbering.{each_renumbered, element_renumbered, constraint_renumbered, element_order, drawn_again}
 
 abbrev pub node_renumbered : Sketch → Node → Node
-node_renumbered s n = record n { elem = place_of s n.elem }
+node_renumbered s n = record n { elem = new_element s n.elem }
 
 abbrev pub edge_renumbered : Sketch → Edge → Edge
-edge_renumbered s e = record { id = new_number s e.id; u = place_of s e.u; v = place_of s e.v; measure = e.measure }
+edge_renumbered s e = record { id = new_constraint s e.id; u = new_element s e.u; v = new_element s e.v; measure = e.measure }
 
 abbrev pub block_renumbered : Sketch → Block → Block
-block_renumbered s b = record { id = new_number s b.id; pins = map (pin_renumbered s) b.pins }
+block_renumbered s b = record { id = new_constraint s b.id; pins = map (pin_renumbered s) b.pins }
 
 abbrev pub graph_renumbered : Sketch → Graph → Graph
 graph_renumbered s g = record { nodes = map (node_renumbered s) g.nodes; edges = map (edge_renumbered s) g.edges; blocks = map (block_renumbered s) g.blocks }
@@ -55,7 +56,7 @@ module _ {X Y Z W : Type 0} (f : X → Option Y) (h : Z → Option W) (r : X →
       by None = refl
       by (Some y) = refl
 
-block_again : (s : Sketch) (k : ConId) (rule : Rule) → rule_block (new_number s k) (rule_renumbered s rule) ≡ option_map (block_renumbered s) (rule_block k rule)
+block_again : (s : Sketch) (k : ConId) (rule : Rule) → rule_block (new_constraint s k) (rule_renumbered s rule) ≡ option_map (block_renumbered s) (rule_block k rule)
 block_again s k (Distance u v len) = refl
 block_again s k (On u v) = refl
 block_again s k (Tangent u v) = refl
@@ -81,19 +82,19 @@ module _ (s : Sketch) (sound : IsSoundSketch s) where
     either_again true x y x' y' first second = first
     either_again false x y x' y' first second = second
 
-    apart_again : (u v : Elem) (len : ℤ) → IsDeclared s u × IsDeclared s v → apart (new_number s k) (place_of s u) (place_of s v) len ≡ edge_renumbered s (apart k u v len)
+    apart_again : (u v : Elem) (len : ℤ) → IsDeclared s u × IsDeclared s v → apart (new_constraint s k) (new_element s u) (new_element s v) len ≡ edge_renumbered s (apart k u v len)
     apart_again u v len (u_in, v_in) = rw (element_order s sound u v u_in v_in) (either_again (nat_lt u.0 v.0) _ _ _ _ refl refl)
 
-    distance_again : (u v : Elem) (len : Um) (a b : Shape) → IsDeclared s u × IsDeclared s v → distance_edge (new_number s k) (place_of s u) (place_of s v) len a b ≡ edge_renumbered s (distance_edge k u v len a b)
+    distance_again : (u v : Elem) (len : Um) (a b : Shape) → IsDeclared s u × IsDeclared s v → distance_edge (new_constraint s k) (new_element s u) (new_element s v) len a b ≡ edge_renumbered s (distance_edge k u v len a b)
     distance_again u v len a b both = either_again (is_line a) _ _ _ _ refl (either_again (is_line b) _ _ _ _ refl (apart_again u v len.0 both))
 
-    on_again : (u v : Elem) (b : Shape) → IsDeclared s u × IsDeclared s v → on_edge (new_number s k) (place_of s u) (place_of s v) b ≡ edge_renumbered s (on_edge k u v b)
+    on_again : (u v : Elem) (b : Shape) → IsDeclared s u × IsDeclared s v → on_edge (new_constraint s k) (new_element s u) (new_element s v) b ≡ edge_renumbered s (on_edge k u v b)
     on_again u v b both = either_again (is_line b) _ _ _ _ refl (apart_again u v _ both)
 
-    tangent_again : (u v : Elem) (a b : Shape) → tangent_edge (new_number s k) (place_of s u) (place_of s v) a b ≡ edge_renumbered s (tangent_edge k u v a b)
+    tangent_again : (u v : Elem) (a b : Shape) → tangent_edge (new_constraint s k) (new_element s u) (new_element s v) a b ≡ edge_renumbered s (tangent_edge k u v a b)
     tangent_again u v a b = either_again (is_line a) _ _ _ _ refl refl
 
-    edge_again : (rule : Rule) → IsSoundRule s rule → rule_edge (each_renumbered s) (new_number s k) (rule_renumbered s rule) ≡ option_map (edge_renumbered s) (rule_edge s k rule)
+    edge_again : (rule : Rule) → IsSoundRule s rule → rule_edge (each_renumbered s) (new_constraint s k) (rule_renumbered s rule) ≡ option_map (edge_renumbered s) (rule_edge s k rule)
     edge_again (Distance u v len) fits = rw (drawn_again s sound u, drawn_again s sound v) (ap Some (distance_again u v len (drawn_as s u) (drawn_as s v) (joined_declared s MayBeApart u v fits.0)))
     edge_again (On u v) fits = rw (drawn_again s sound v) (ap Some (on_again u v (drawn_as s v) (joined_declared s MayLieOn u v fits)))
     edge_again (Tangent u v) fits = rw (drawn_again s sound u, drawn_again s sound v) (ap Some (tangent_again u v (drawn_as s u) (drawn_as s v)))
@@ -114,8 +115,8 @@ module _ (s : Sketch) (sound : IsSoundSketch s) where
       ap (λ n. make n (graph_of again).edges (graph_of again).blocks) nodes ∙ ap (λ e. make (map (node_renumbered s) g.nodes) e (graph_of again).blocks) edges
       ∙ ap (λ b. make (map (node_renumbered s) g.nodes) (map (edge_renumbered s) g.edges) b) blocks
 
-pub edge_numbered : (s : Sketch) (e : Edge) → Contains (graph_of s).edges e → IsNumbered s e.id
+pub edge_numbered : (s : Sketch) (e : Edge) → Contains (graph_of s).edges e → HasConstraint s e.id
 edge_numbered s e e_in = (let from = given_from (edge_of s) s.constraints e e_in in (from.0, from.1, sym (given_edge_id s from.0 e from.2)))
 
-pub block_numbered : (s : Sketch) (b : Block) → Contains (graph_of s).blocks b → IsNumbered s b.id
+pub block_numbered : (s : Sketch) (b : Block) → Contains (graph_of s).blocks b → HasConstraint s b.id
 block_numbered s b b_in = (let from = given_from block_of s.constraints b b_in in (from.0, from.1, sym (given_block_id from.0 b from.2)))

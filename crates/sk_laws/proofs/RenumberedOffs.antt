@@ -26,9 +26,10 @@ use Rattle.sk_base.specs.SoundSketch.{IsSoundSketch}
 use Rattle.sk_base.proofs.Members.{mapped_from}
 use Rattle.sk_base.proofs.Pairs.{pairs_map, pairs_weaken}
 use Rattle.sk_graph.specs.SketchGraph.{graph_of}
-use Rattle.sk_lang.specs.Renumbered.{place_of, pin_renumbered, rule_renumbered}
+use Rattle.sk_lang.specs.Renumbered.{place_of as new_element, pin_renumbered, rule_renumbered}
 use Rattle.sk_measure.specs.Holding.{IsMet, AreAsGiven, FallsShort}
 use Rattle.sk_measure.specs.Items.{Item, constraint, block, Holds, GivesLess, IsOffBy, IsPairMet}
+use Rattle.sk_measure.specs.Least.{IsLeast}
 use Rattle.sk_measure.specs.Placing.{lies}
 use Rattle.sk_tolerance.specs.declared.OffBy.{OffBy}
 use Rattle.sk_tolerance.specs.declared.Turned.{Turned}
@@ -39,17 +40,22 @@ use Rattle.sk_tolerance.specs.Telling.{IsCompared}
 use Rattle.sk_tolerance.specs.Turns.{block_turns, senses, IsTurned, IsAsDrawn}
 use Rattle.sk_answers.specs.OffsThere.{IsOffThere}
 use Rattle.sk_claims.specs.ClaimText.{IsDeclared}
-use Rattle.sk_laws.specs.NewNumbers.{new_number, places_renumbered}
-use Rattle.sk_laws.proofs.Renumbering.{each_renumbered, constraint_renumbered, find_alike, IsNumbered, same_constraint, constraint_again, drawn_again, lies_again}
+use Rattle.sk_edits.specs.Making.{HasConstraint}
+use Rattle.sk_laws.specs.NewNumbers.{new_constraint}
+use Rattle.sk_laws.proofs.Renumbering.{each_renumbered, places_renumbered, constraint_renumbered, find_alike, same_constraint, constraint_again, drawn_again, lies_again}
 use Rattle.sk_laws.proofs.RenumberedGraphs.{edge_renumbered, block_renumbered, graph_renumbered, graph_again, edge_numbered, block_numbered}
 
 -- ---- offs
+
+-- where two properties hold of the same numbers, the least number of the one is that of the other
+pub least_alike : (P Q : ℕ → Type 0) → ((n : ℕ) → P n ↔ Q n) → (n : ℕ) → IsLeast P n → IsLeast Q n
+least_alike P Q alike n is = record { holds = (alike n).0 is.holds; least = λ m h. is.least m ((alike m).1 h) }
 
 -- where two items hold alike, they are off alike
 module _ (p q : Placed) (x y : Item) (alike : (n : ℕ) → Holds p x n ↔ Holds q y n) where
   off_again : (GivesLess p x → GivesLess q y) → (GivesLess q y → GivesLess p x) → (off : ℤ) → IsOffBy p x off → IsOffBy q y off
   off_again less_to less_from off by = record {
-    size = record { holds = (alike (unsigned_abs off)).0 by.size.holds; least = λ m h. by.size.least m ((alike m).1 h) };
+    size = least_alike (Holds p x) (Holds q y) alike (unsigned_abs off) by.size;
     less = ((λ below. less_to (by.less.0 below)), (λ less. by.less.1 (less_from less)));
   }
 
@@ -124,28 +130,28 @@ compared_again k signs (Some t) first = first_mapped (turned_renumbered k) IsTur
 -- ---- a constraint
 
 module _ (s : Sketch) (sound : IsSoundSketch s) (at : Placed) (declared : (spot : Spot) → Contains at.spots spot → IsDeclared s spot.elem) where
-  pub there : (u : Elem) → lies (places_renumbered s at) (place_of s u) ≡ lies at u
-  there u = lies_again s sound at declared u
+  lies_there : (u : Elem) → lies (places_renumbered s at) (new_element s u) ≡ lies at u
+  lies_there u = lies_again s sound at declared u
 
   pub constraint_holds : (e : Edge) (n : ℕ) → Holds at (constraint e) n ↔ Holds (places_renumbered s at) (constraint (edge_renumbered s e)) n
   constraint_holds e n = (
-    (λ h. met_there e.measure (lies at e.u) (lies at e.v) _ _ n (sym (there e.u)) (sym (there e.v)) h),
-    (λ h. met_there e.measure _ _ (lies at e.u) (lies at e.v) n (there e.u) (there e.v) h),
+    (λ h. met_there e.measure (lies at e.u) (lies at e.v) _ _ n (sym (lies_there e.u)) (sym (lies_there e.v)) h),
+    (λ h. met_there e.measure _ _ (lies at e.u) (lies at e.v) n (lies_there e.u) (lies_there e.v) h),
   )
 
   edge_off_again : (k : ConId) (e : Edge) (off : OffBy) → IsEdgeOff at e off → IsEdgeOff (places_renumbered s at) (edge_renumbered s e) (off_renumbered k off)
   edge_off_again k e off is = record {
     length = is.length;
     by = off_again at (places_renumbered s at) (constraint e) (constraint (edge_renumbered s e)) (constraint_holds e)
-        (λ h. short_there e.measure (lies at e.u) (lies at e.v) _ _ (sym (there e.u)) (sym (there e.v)) h)
-        (λ h. short_there e.measure _ _ (lies at e.u) (lies at e.v) (there e.u) (there e.v) h) off.off is.by;
+        (λ h. short_there e.measure (lies at e.u) (lies at e.v) _ _ (sym (lies_there e.u)) (sym (lies_there e.v)) h)
+        (λ h. short_there e.measure _ _ (lies at e.u) (lies at e.v) (lies_there e.u) (lies_there e.v) h) off.off is.by;
   }
 
   pair_to : (n : ℕ) (a b : Pin) → IsPairMet at n a b → IsPairMet (places_renumbered s at) n (pin_renumbered s a) (pin_renumbered s b)
-  pair_to n a b met = given_there a b (lies at a.elem) (lies at b.elem) _ _ n (sym (there a.elem)) (sym (there b.elem)) met
+  pair_to n a b met = given_there a b (lies at a.elem) (lies at b.elem) _ _ n (sym (lies_there a.elem)) (sym (lies_there b.elem)) met
 
   pair_from : (n : ℕ) (a b : Pin) → IsPairMet (places_renumbered s at) n (pin_renumbered s a) (pin_renumbered s b) → IsPairMet at n a b
-  pair_from n a b met = given_there a b _ _ (lies at a.elem) (lies at b.elem) n (there a.elem) (there b.elem) met
+  pair_from n a b met = given_there a b _ _ (lies at a.elem) (lies at b.elem) n (lies_there a.elem) (lies_there b.elem) met
 
   pub block_holds : (b : Block) (n : ℕ) → Holds at (block b) n ↔ Holds (places_renumbered s at) (block (block_renumbered s b)) n
   block_holds b n = (
@@ -162,27 +168,27 @@ module _ (s : Sketch) (sound : IsSoundSketch s) (at : Placed) (declared : (spot 
   }
 
   -- the new number is that of one constraint alone
-  number_back : (k j : ConId) → IsNumbered s k → new_number s k ≡ new_number s j → k ≡ j
+  number_back : (k j : ConId) → HasConstraint s k → new_constraint s k ≡ new_constraint s j → k ≡ j
   number_back k j numbered is =
       let tests = same_constraint s sound k j numbered in
-      let same : (new_number s k).0 ≡ (new_number s j).0 = ap (λ (i : ConId). i.0) is in
+      let same : (new_constraint s k).0 ≡ (new_constraint s j).0 = ap (λ (i : ConId). i.0) is in
       con_exact k j (grind (arith, nat_tests, tests, same))
 
-  by_again : (k : ConId) (off : OffBy) → IsOff at (graph_of s) k off → IsOff (places_renumbered s at) (graph_renumbered s (graph_of s)) (new_number s k) (off_renumbered (new_number s k) off)
+  by_again : (k : ConId) (off : OffBy) → IsOff at (graph_of s) k off → IsOff (places_renumbered s at) (graph_renumbered s (graph_of s)) (new_constraint s k) (off_renumbered (new_constraint s k) off)
   by_again k off is = record {
     edge = λ e e_in named.
         (let (d, d_in, made) = mapped_from (edge_renumbered s) (graph_of s).edges e e_in in
         let same : d.id ≡ k = number_back d.id k (edge_numbered s d d_in) (ap (λ (x : Edge). x.id) made ∙ named) in
-        subst (λ (x : Edge). IsEdgeOff (places_renumbered s at) x (off_renumbered (new_number s k) off)) made (edge_off_again (new_number s k) d off (is.edge d d_in same)));
+        subst (λ (x : Edge). IsEdgeOff (places_renumbered s at) x (off_renumbered (new_constraint s k) off)) made (edge_off_again (new_constraint s k) d off (is.edge d d_in same)));
     block = λ b b_in named.
         (let (d, d_in, made) = mapped_from (block_renumbered s) (graph_of s).blocks b b_in in
         let same : d.id ≡ k = number_back d.id k (block_numbered s d d_in) (ap (λ (x : Block). x.id) made ∙ named) in
-        subst (λ (x : Block). IsBlockOff (places_renumbered s at) x (off_renumbered (new_number s k) off)) made (block_off_again (new_number s k) d off (is.block d d_in same)));
+        subst (λ (x : Block). IsBlockOff (places_renumbered s at) x (off_renumbered (new_constraint s k) off)) made (block_off_again (new_constraint s k) d off (is.block d d_in same)));
   }
 
   turns_again : (k new : ConId) (three : Option (Pin × Pin × Pin)) → block_turns (places_renumbered s at) new (option_map (three_mapped (pin_renumbered s)) three) ≡ map (turned_renumbered new) (block_turns at k three)
   turns_again k new None = refl
-  turns_again k new (Some three) = rw (there three.0.elem, there three.1.elem, there three.2.elem) refl
+  turns_again k new (Some three) = rw (lies_there three.0.elem, lies_there three.1.elem, lies_there three.2.elem) refl
 
   senses_again : (k new : ConId) (rule : Rule) → senses (each_renumbered s) (places_renumbered s at) new (rule_renumbered s rule) ≡ map (turned_renumbered new) (senses s at k rule)
   senses_again k new (Distance u v len) = refl
@@ -190,15 +196,15 @@ module _ (s : Sketch) (sound : IsSoundSketch s) (at : Placed) (declared : (spot 
   senses_again k new (Tangent u v) = refl
   senses_again k new (Outside u v) = refl
   senses_again k new (Inside u v) = refl
-  senses_again k new (Angle l m ratio) = rw (drawn_again s sound l, drawn_again s sound m, there l, there m) refl
+  senses_again k new (Angle l m ratio) = rw (drawn_again s sound l, drawn_again s sound m, lies_there l, lies_there m) refl
   senses_again k new (rules.Block pins) = ap (block_turns (places_renumbered s at) new) (corners_again s pins) ∙ turns_again k new (corners pins)
 
   -- a constraint is off by as much, by its new number
-  pub off_there_again : (k : ConId) (off : OffBy) → IsOffThere at s k off → IsOffThere (places_renumbered s at) (each_renumbered s) (new_number s k) (off_renumbered (new_number s k) off)
+  pub off_there_again : (k : ConId) (off : OffBy) → IsOffThere at s k off → IsOffThere (places_renumbered s at) (each_renumbered s) (new_constraint s k) (off_renumbered (new_constraint s k) off)
   off_there_again k off is = record {
     constraint = constraint_renumbered s is.constraint;
     numbered = constraint_again s sound k ∙ ap (option_map (constraint_renumbered s)) is.numbered;
-    by = subst (λ (g : Graph). IsOff (places_renumbered s at) g (new_number s k) (off_renumbered (new_number s k) off)) (sym (graph_again s sound)) (by_again k off is.by);
-    turned = subst (λ (signs : List Turned). IsCompared signs (option_map (turned_renumbered (new_number s k)) off.turned)) (sym (senses_again k (new_number s k) is.constraint.rule))
-        (compared_again (new_number s k) (senses s at k is.constraint.rule) off.turned is.turned);
+    by = subst (λ (g : Graph). IsOff (places_renumbered s at) g (new_constraint s k) (off_renumbered (new_constraint s k) off)) (sym (graph_again s sound)) (by_again k off is.by);
+    turned = subst (λ (signs : List Turned). IsCompared signs (option_map (turned_renumbered (new_constraint s k)) off.turned)) (sym (senses_again k (new_constraint s k) is.constraint.rule))
+        (compared_again (new_constraint s k) (senses s at k is.constraint.rule) off.turned is.turned);
   }

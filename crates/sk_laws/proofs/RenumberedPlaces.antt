@@ -12,13 +12,13 @@ use Rattle.sk_base.specs.declared.Element.{Element}
 use Rattle.sk_base.specs.declared.Placed.{Placed}
 use Rattle.sk_base.specs.declared.Sketch.{Sketch}
 use Rattle.sk_base.specs.declared.Spot.{Spot}
-use Rattle.sk_base.specs.Places.{place_of as place_at}
+use Rattle.sk_base.specs.Places.{place_of}
 use Rattle.sk_base.specs.SoundSketch.{IsSoundSketch}
 use Rattle.sk_base.specs.Spelling.{whole_text}
 use Rattle.sk_base.proofs.Members.{mapped_from}
 use Rattle.sk_graph.specs.SketchGraph.{graph_of, node_of}
 use Rattle.sk_graph.proofs.Soundness.{graph_is_sound}
-use Rattle.sk_lang.specs.Renumbered.{place_of, renumbered}
+use Rattle.sk_lang.specs.Renumbered.{place_of as new_element, renumbered}
 use Rattle.sk_measure.specs.Placing.{AreSpotsOf, PlacesExactly}
 use Rattle.sk_measure.proofs.InOrder.{exactly_in_order}
 use Rattle.sk_tolerance.specs.declared.OffBy.{OffBy}
@@ -35,13 +35,14 @@ use Rattle.sk_answers.specs.MeasureAnswer.{all_numbers, TellsOffs}
 use Rattle.sk_answers.specs.MeasureReport.{measured_line}
 use Rattle.sk_answers.specs.OffsThere.{AreOffsPut}
 use Rattle.sk_answers.proofs.OffLines.{some_offs}
-use Rattle.sk_laws.specs.NewNumbers.{new_number, spot_renumbered, places_renumbered, tolerance_renumbered, line_renumbered, TellsOffsRenumbered}
+use Rattle.sk_laws.specs.NewNumbers.{new_constraint, tolerance_renumbered, line_renumbered, TellsOffsRenumbered}
 use Rattle.sk_laws.specs.PrintedClaim.{printed_places}
 use Rattle.sk_laws.proofs.OneOutcome.{same_offs}
 use Rattle.sk_laws.proofs.PrintedClaims.{read_there, told_there}
-use Rattle.sk_laws.proofs.Renumbering.{each_renumbered, element_renumbered, constraint_renumbered, renumbered_each, place_again}
+use Rattle.sk_laws.proofs.Renumbering.{each_renumbered, spot_renumbered, places_renumbered, element_renumbered, constraint_renumbered, renumbered_each, place_again}
 use Rattle.sk_laws.proofs.RenumberedOffs.{turned_renumbered, off_renumbered, off_there_again}
 use Rattle.sk_laws.proofs.RenumberedTolerances.{tolerance_again}
+use Rattle.sk_laws.proofs.SomeMeasures.{numbers_there}
 use Rattle.sk_laws.proofs.SomePlacements.{some_tolerance}
 
 flat_alike : {X Y : Type 0} (f g : X → List Y) (xs : List X) → ((x : X) → f x ≡ g x) → flat_map f xs ≡ flat_map g xs
@@ -53,7 +54,7 @@ spots_renumbered s [] [] are = tt
 spots_renumbered s [] (spot ∷ spots) are = absurd are
 spots_renumbered s (e ∷ es) [] are = absurd are
 spots_renumbered s (e ∷ es) (spot ∷ spots) are =
-    (record { elem = ap (place_of s) are.0.elem; has_kind = are.0.has_kind; bounded = are.0.bounded }, spots_renumbered s es spots are.1)
+    (record { elem = ap (new_element s) are.0.elem; has_kind = are.0.has_kind; bounded = are.0.bounded }, spots_renumbered s es spots are.1)
 
 -- an element's line has its label and its shape alone
 line_again : (s : Sketch) (e : Element) (o : Option At) → element_line (element_renumbered s e) o ≡ element_line e o
@@ -75,17 +76,17 @@ module _ (s : Sketch) (sound : IsSoundSketch s) (at : Placed) (exactly : PlacesE
   -- the printed places are in the same words
   text_again : printed_places (each_renumbered s) (places_renumbered s at) ≡ printed_places s at
   text_again =
-      let there = places_renumbered s at in
+      let here = places_renumbered s at in
       ap (λ (lines : List ℕ). lines ++ codes "end\n")
-      (flat_map-map (λ (e : Element). element_line e (place_at there e.number)) (element_renumbered s) s.elements
-      ∙ flat_alike _ (λ (e : Element). element_line e (place_at at e.number)) s.elements (λ e. line_again s e (place_at there (place_of s e.number)) ∙ ap (element_line e) (place_again s sound at declared e.number)))
+      (flat_map-map (λ (e : Element). element_line e (place_of here e.number)) (element_renumbered s) s.elements
+      ∙ flat_alike _ (λ (e : Element). element_line e (place_of at e.number)) s.elements (λ e. line_again s e (place_of here (new_element s e.number)) ∙ ap (element_line e) (place_again s sound at declared e.number)))
 
   -- the lines on constraints, whatever they have of the offs but the constraint that a sign names
   offs_again : (line : ConId → OffBy → List ℕ) → ((k : ConId) (off : OffBy) → line k (off_renumbered k off) ≡ line k off) → (ks : List ConId) (text : List ℕ)
-      → AreOffsPut (λ (k : ConId). line (new_number s k)) s at ks text → AreOffsPut line (each_renumbered s) (places_renumbered s at) (map (new_number s) ks) text
+      → AreOffsPut (λ (k : ConId). line (new_constraint s k)) s at ks text → AreOffsPut line (each_renumbered s) (places_renumbered s at) (map (new_constraint s) ks) text
   offs_again line same [] text is = is
   offs_again line same (k ∷ ks) text (off, more, there, rest, is) =
-      let new = new_number s k in
+      let new = new_constraint s k in
       (off_renumbered new off, more, off_there_again s sound at declared k off there, offs_again line same ks more rest, is ∙ ap (λ (words : List ℕ). words ++ more) (sym (same new off)))
 
   measured_again : (t : Sketch) (k : ConId) (off : OffBy) → measured_line t k (off_renumbered k off) ≡ measured_line t k off
@@ -94,19 +95,19 @@ module _ (s : Sketch) (sound : IsSoundSketch s) (at : Placed) (exactly : PlacesE
       ap (λ (words : List ℕ). (front ++ words) ++ codes "\n") (turned_again k off.turned)
 
   module _ (are : AreSpotsOf (graph_of s).nodes at.spots) (again : IsSoundSketch (each_renumbered s)) where
-    there : AreSpotsOf (graph_of (each_renumbered s)).nodes (places_renumbered s at).spots
-    there = spots_renumbered s s.elements at.spots are
+    spots_there : AreSpotsOf (graph_of (each_renumbered s)).nodes (places_renumbered s at).spots
+    spots_there = spots_renumbered s s.elements at.spots are
 
     exactly_there : PlacesExactly (graph_of (each_renumbered s)) (places_renumbered s at)
-    exactly_there = exactly_in_order (graph_of (each_renumbered s)) (places_renumbered s at) (graph_is_sound (each_renumbered s) again).nodes_rise there
+    exactly_there = exactly_in_order (graph_of (each_renumbered s)) (places_renumbered s at) (graph_is_sound (each_renumbered s) again).nodes_rise spots_there
 
     pub read_again : ReadsPlaces (each_renumbered s) (printed_places s at) (places_drawn (each_renumbered s) (places_renumbered s at))
     read_again =
         subst (λ (text : List ℕ). ReadsPlaces (each_renumbered s) text (places_drawn (each_renumbered s) (places_renumbered s at))) text_again
-        (read_there (each_renumbered s) again (places_renumbered s at) there exactly_there)
+        (read_there (each_renumbered s) again (places_renumbered s at) spots_there exactly_there)
 
     pub told_again : AllTold (places_drawn (each_renumbered s) (places_renumbered s at)) (each_renumbered s).elements
-    told_again = told_there (each_renumbered s) again (places_renumbered s at) there exactly_there
+    told_again = told_there (each_renumbered s) again (places_renumbered s at) spots_there exactly_there
 
     -- what is measured there is by how much the places are off the constraints of the sketch
     pub measured_of : (text : List ℕ) → TellsOffs (renumbered s) (places_renumbered s at) text → TellsOffsRenumbered s at text
@@ -114,9 +115,9 @@ module _ (s : Sketch) (sound : IsSoundSketch s) (at : Placed) (exactly : PlacesE
         let t = renumbered s in
         let is_each : each_renumbered s ≡ t = sym (renumbered_each s sound) in
         let here = places_renumbered s at in
-        let own = some_offs (line_renumbered s) s sound at exactly (all_numbers s) (λ k k_in. mapped_from (λ (c : Constraint). c.number) s.constraints k k_in) in
-        let numbers : map (new_number s) (all_numbers s) ≡ all_numbers (each_renumbered s) =
-        map-map (new_number s) (λ (c : Constraint). c.number) s.constraints ∙ sym (map-map (λ (c : Constraint). c.number) (constraint_renumbered s) s.constraints) in
+        let own = some_offs (line_renumbered s) s sound at exactly (all_numbers s) (numbers_there s sound at exactly) in
+        let numbers : map (new_constraint s) (all_numbers s) ≡ all_numbers (each_renumbered s) =
+        map-map (new_constraint s) (λ (c : Constraint). c.number) s.constraints ∙ sym (map-map (λ (c : Constraint). c.number) (constraint_renumbered s) s.constraints) in
         let put : AreOffsPut (measured_line t) t here (all_numbers t) own.0 =
         subst (λ (z : Sketch). AreOffsPut (measured_line t) z here (all_numbers z) own.0) is_each
         (subst (λ (ks : List ConId). AreOffsPut (measured_line t) (each_renumbered s) here ks own.0) numbers (offs_again (measured_line t) (measured_again t) (all_numbers s) own.0 own.1)) in

@@ -23,7 +23,7 @@ use Rattle.sk_base.specs.SoundSketch.{IsSoundSketch}
 use Rattle.sk_base.proofs.Members.{contains_head, contains_later, contains_mapped, mapped_from}
 use Rattle.sk_base.proofs.Unions.{union_cases}
 use Rattle.sk_graph.specs.SketchGraph.{graph_of}
-use Rattle.sk_lang.specs.Renumbered.{place_of}
+use Rattle.sk_lang.specs.Renumbered.{place_of as new_element}
 use Rattle.sk_measure.specs.Holding.{IsNormal}
 use Rattle.sk_measure.specs.Items.{Item, normal, constraint, block, Holds, IsOwnLeast}
 use Rattle.sk_measure.specs.Least.{IsLeast}
@@ -34,13 +34,14 @@ use Rattle.sk_tolerance.specs.Tolerances.{spotted_as, number_of, AllHold, normal
 use Rattle.sk_solve.specs.Placements.{IsTolerance}
 use Rattle.sk_tolerance.proofs.Worsts.{on_distance}
 use Rattle.sk_claims.specs.ClaimText.{IsDeclared}
-use Rattle.sk_laws.specs.NewNumbers.{new_number, places_renumbered, spotted_renumbered, tolerance_renumbered}
-use Rattle.sk_laws.proofs.Renumbering.{each_renumbered, IsNumbered, same_constraint, constraint_order}
+use Rattle.sk_edits.specs.Making.{HasConstraint}
+use Rattle.sk_laws.specs.NewNumbers.{new_constraint, spotted_renumbered, tolerance_renumbered}
+use Rattle.sk_laws.proofs.Renumbering.{each_renumbered, places_renumbered, same_constraint, constraint_order, lies_again}
 use Rattle.sk_laws.proofs.RenumberedGraphs.{node_renumbered, edge_renumbered, block_renumbered, graph_renumbered, graph_again, edge_numbered, block_numbered}
-use Rattle.sk_laws.proofs.RenumberedOffs.{first_mapped, there, constraint_holds, block_holds}
+use Rattle.sk_laws.proofs.RenumberedOffs.{first_mapped, least_alike, constraint_holds, block_holds}
 
 abbrev pub item_renumbered : Sketch → Item → Item
-item_renumbered s (normal line) = normal (place_of s line)
+item_renumbered s (normal line) = normal (new_element s line)
 item_renumbered s (constraint e) = constraint (edge_renumbered s e)
 item_renumbered s (block b) = block (block_renumbered s b)
 
@@ -83,7 +84,7 @@ module _ {X : Type 0} (number : X → ℕ) (f : X → X) where
       ap (put number (f x)) (union_mapped xs ys (λ z y z_in y_in. alike z y (contains_later x xs z z_in) (elim y_in [ inl h ↦ inl (contains_later x xs y h) | inr h ↦ inr h ])))
       ∙ put_mapped x (union number xs ys) (λ y y_in. alike x y (contains_head x xs) (elim (union_cases number xs ys y y_in) [ inl h ↦ inl (contains_later x xs y h) | inr h ↦ inr h ]))
 
-normal_again : (s : Sketch) (e : Elem) (kind : Kind) → normal_of_kind (place_of s e) kind ≡ map (item_renumbered s) (normal_of_kind e kind)
+normal_again : (s : Sketch) (e : Elem) (kind : Kind) → normal_of_kind (new_element s e) kind ≡ map (item_renumbered s) (normal_of_kind e kind)
 normal_again s e kinds.Point = refl
 normal_again s e kinds.Line = refl
 
@@ -100,7 +101,7 @@ angle_item_again s e (LineLine ratio sense) = refl
 module _ (s : Sketch) (sound : IsSoundSketch s) where
   -- the constraint is the sketch's
   abbrev IsOfSketch : Item → Type 0
-  IsOfSketch item = (k : ConId) × IsNumbered s k × (number_of item ≡ k.0) × (number_of (item_renumbered s item) ≡ (new_number s k).0)
+  IsOfSketch item = (k : ConId) × HasConstraint s k × (number_of item ≡ k.0) × (number_of (item_renumbered s item) ≡ (new_constraint s k).0)
 
   stand_alike : (x y : Item) → IsOfSketch x → IsOfSketch y → StandAlike number_of (item_renumbered s) x y
   stand_alike x y (k, k_in, is, new) (j, j_in, is', new') = (
@@ -145,45 +146,48 @@ anglewise_again s =
 module _ (s : Sketch) (sound : IsSoundSketch s) (at : Placed) (declared : (spot : Spot) → Contains at.spots spot → IsDeclared s spot.elem) where
   item_holds : (item : Item) (n : ℕ) → Holds at item n ↔ Holds (places_renumbered s at) (item_renumbered s item) n
   item_holds (normal line) n = (
-    (λ h. subst (λ p. IsNormal p n) (sym (there s sound at declared line)) h),
-    (λ h. subst (λ p. IsNormal p n) (there s sound at declared line) h),
+    (λ h. subst (λ p. IsNormal p n) (sym (lies_again s sound at declared line)) h),
+    (λ h. subst (λ p. IsNormal p n) (lies_again s sound at declared line) h),
   )
   item_holds (constraint e) n = constraint_holds s sound at declared e n
   item_holds (block b) n = block_holds s sound at declared b n
 
+  all_hold : (items : List Item) (n : ℕ) → AllHold at items n ↔ AllHold (places_renumbered s at) (map (item_renumbered s) items) n
+  all_hold items n = (
+    (λ all item h. (let from = mapped_from (item_renumbered s) items item h in subst (λ (x : Item). Holds (places_renumbered s at) x n) from.2 ((item_holds from.0 n).0 (all from.0 from.1)))),
+    (λ all item h. (item_holds item n).1 (all (item_renumbered s item) (contains_mapped (item_renumbered s) items item h))),
+  )
+
   least_again : (items : List Item) (n : ℕ) → IsLeast (AllHold at items) n → IsLeast (AllHold (places_renumbered s at) (map (item_renumbered s) items)) n
-  least_again items n is = record {
-    holds = λ item h. (let from = mapped_from (item_renumbered s) items item h in subst (λ (x : Item). Holds (places_renumbered s at) x n) from.2 ((item_holds from.0 n).0 (is.holds from.0 from.1)));
-    least = λ m all. is.least m (λ item h. (item_holds item m).1 (all (item_renumbered s item) (contains_mapped (item_renumbered s) items item h)));
-  }
+  least_again items = least_alike (AllHold at items) (AllHold (places_renumbered s at) (map (item_renumbered s) items)) (all_hold items)
 
-  own_least_to : (item : Item) (n : ℕ) → IsOwnLeast at item n → IsOwnLeast (places_renumbered s at) (item_renumbered s item) n
-  own_least_to item n own = record { holds = (item_holds item n).0 own.holds; least = λ m h. own.least m ((item_holds item m).1 h) }
-
-  own_least_from : (item : Item) (n : ℕ) → IsOwnLeast (places_renumbered s at) (item_renumbered s item) n → IsOwnLeast at item n
-  own_least_from item n own = record { holds = (item_holds item n).1 own.holds; least = λ m h. own.least m ((item_holds item m).0 h) }
+  own_least : (item : Item) (n : ℕ) → IsOwnLeast at item n ↔ IsOwnLeast (places_renumbered s at) (item_renumbered s item) n
+  own_least item n = (
+    least_alike (Holds at item) (Holds (places_renumbered s at) (item_renumbered s item)) (item_holds item) n,
+    least_alike (Holds (places_renumbered s at) (item_renumbered s item)) (Holds at item) (λ m. ((item_holds item m).1, (item_holds item m).0)) n,
+  )
 
   worst_again : (items : List Item) (n : ℕ) (worst : Option Spotted) → IsWorstUnlessNone at items n worst → IsWorstUnlessNone (places_renumbered s at) (map (item_renumbered s) items) n (option_map (spotted_renumbered s) worst)
   worst_again items n None none = ap (map (item_renumbered s)) none
   worst_again items n (Some worst) is = record {
     item = item_renumbered s is.item;
-    first = first_mapped (item_renumbered s) (λ i. IsOwnLeast at i n) (λ i. IsOwnLeast (places_renumbered s at) i n) (λ i own. own_least_to i n own) (λ i own. own_least_from i n own) items is.item is.first;
+    first = first_mapped (item_renumbered s) (λ i. IsOwnLeast at i n) (λ i. IsOwnLeast (places_renumbered s at) i n) (λ i. (own_least i n).0) (λ i. (own_least i n).1) items is.item is.first;
     named = spotted_again s is.item ∙ ap (spotted_renumbered s) is.named;
   }
 
   worst_length_again : (items : List Item) (n : ℕ) (worst : Option ConId) → IsWorstUnlessNone at items n (option_map (λ k. Con k) worst)
-      → IsWorstUnlessNone (places_renumbered s at) (map (item_renumbered s) items) n (option_map (λ k. Con k) (option_map (new_number s) worst))
+      → IsWorstUnlessNone (places_renumbered s at) (map (item_renumbered s) items) n (option_map (λ k. Con k) (option_map (new_constraint s) worst))
   worst_length_again items n None is = worst_again items n None is
   worst_length_again items n (Some k) is = worst_again items n (Some (Con k)) is
 
   pub tolerance_again : (t : Tolerance) → IsTolerance at (graph_of s) t → IsTolerance (places_renumbered s at) (graph_of (each_renumbered s)) (tolerance_renumbered s t)
   tolerance_again t is =
       let g = graph_of s in
-      let there = places_renumbered s at in
+      let here = places_renumbered s at in
       let renamed = tolerance_renumbered s t in
-      subst (λ (h : Graph). IsTolerance there h renamed) (sym (graph_again s sound)) (record {
-        lengths = subst (λ (items : List Item). IsLeast (AllHold there items) t.t) (sym (lengthwise_again s sound)) (least_again (lengthwise g) t.t is.lengths);
-        angles = subst (λ (items : List Item). IsLeast (AllHold there items) t.w) (sym (anglewise_again s)) (least_again (anglewise g) t.w is.angles);
-        worst_length = subst (λ (items : List Item). IsWorstUnlessNone there items t.t (option_map (λ k. Con k) renamed.worst_t)) (sym (lengthwise_again s sound)) (worst_length_again (lengthwise g) t.t t.worst_t is.worst_length);
-        worst_angle = subst (λ (items : List Item). IsWorstUnlessNone there items t.w renamed.worst_w) (sym (anglewise_again s)) (worst_again (anglewise g) t.w t.worst_w is.worst_angle);
+      subst (λ (h : Graph). IsTolerance here h renamed) (sym (graph_again s sound)) (record {
+        lengths = subst (λ (items : List Item). IsLeast (AllHold here items) t.t) (sym (lengthwise_again s sound)) (least_again (lengthwise g) t.t is.lengths);
+        angles = subst (λ (items : List Item). IsLeast (AllHold here items) t.w) (sym (anglewise_again s)) (least_again (anglewise g) t.w is.angles);
+        worst_length = subst (λ (items : List Item). IsWorstUnlessNone here items t.t (option_map (λ k. Con k) renamed.worst_t)) (sym (lengthwise_again s sound)) (worst_length_again (lengthwise g) t.t t.worst_t is.worst_length);
+        worst_angle = subst (λ (items : List Item). IsWorstUnlessNone here items t.w renamed.worst_w) (sym (anglewise_again s)) (worst_again (anglewise g) t.w t.worst_w is.worst_angle);
       })

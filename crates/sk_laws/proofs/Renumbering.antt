@@ -16,19 +16,19 @@ use Rattle.sk_base.specs.declared.Shape.TheVariants.{Point}
 use Rattle.sk_base.specs.declared.Sketch.{Sketch}
 use Rattle.sk_base.specs.declared.Spot.{Spot}
 use Rattle.sk_base.specs.Drawn.{element_of}
-use Rattle.sk_base.specs.Places.{place_of as place_at}
+use Rattle.sk_base.specs.Places.{place_of}
 use Rattle.sk_base.specs.Rising.{IsRising}
 use Rattle.sk_base.specs.SoundSketch.{IsSoundSketch}
 use Rattle.sk_base.proofs.Members.{contains_none, contains_head, contains_later, contains_cases}
-use Rattle.sk_edits.proofs.Places.{map_alike}
-use Rattle.sk_base.proofs.Pairs.{pairs_head, pairs_tail}
-use Rattle.sk_base.proofs.Unions.{which}
+use Rattle.sk_base.proofs.Unions.{which, rising_below, rising_tail}
 use Rattle.sk_claims.specs.ClaimText.{IsDeclared}
+use Rattle.sk_edits.specs.Making.{HasConstraint}
+use Rattle.sk_edits.proofs.Places.{map_alike}
 use Rattle.sk_entry.specs.NumberedConstraint.{constraint_of}
 use Rattle.sk_graph.specs.SketchGraph.{drawn_as}
-use Rattle.sk_lang.specs.Renumbered.{elements_from, place_of, rule_renumbered, constraints_from, renumbered}
+use Rattle.sk_lang.specs.Renumbered.{elements_from, place_of as new_element, rule_renumbered, constraints_from, renumbered}
 use Rattle.sk_measure.specs.Placing.{lies}
-use Rattle.sk_laws.specs.NewNumbers.{new_number, spot_renumbered, places_renumbered}
+use Rattle.sk_laws.specs.NewNumbers.{new_constraint}
 
 -- the place of the first item of that number
 abbrev place_in : {X : Type 0} → (X → ℕ) → List X → ℕ → ℕ
@@ -44,7 +44,7 @@ module _ {X : Type 0} (number : X → ℕ) where
 
   later_place : (x : X) (xs : List X) → IsRising number (x ∷ xs) → (y : X) → Contains xs y → place_in number (x ∷ xs) (number y) ≡ 1 + place_in number xs (number y)
   later_place x xs rises y later =
-      let below : number x < number y = pairs_head (λ a b. number a < number b) x xs rises y later in
+      let below : number x < number y = rising_below number x xs rises y later in
       next_place x xs (number y) (grind (arith, nat_tests))
 
   places_apart : (xs : List X) → IsRising number xs → (x : X) → Contains xs x → (n : ℕ) → (place_in number xs (number x) == place_in number xs n) ≡ (number x == n)
@@ -52,7 +52,7 @@ module _ {X : Type 0} (number : X → ℕ) where
   places_apart (y ∷ xs) rises x h n =
       elim (contains_cases y xs x h) [
         | inl here ↦ subst (λ z. (place_in number (y ∷ xs) (number z) == place_in number (y ∷ xs) n) ≡ (number z == n)) here (at_first (number y == n) refl)
-        | inr later ↦ at_later (pairs_head (λ a b. number a < number b) y xs rises x later) (later_place y xs rises x later) (places_apart xs (pairs_tail (λ a b. number a < number b) y xs rises) x later n) (number y == n) refl
+        | inr later ↦ at_later (rising_below number y xs rises x later) (later_place y xs rises x later) (places_apart xs (rising_tail number y xs rises) x later n) (number y == n) refl
       ]
     where
       at_first : (t : Bool) → (number y == n) ≡ t → (place_in number (y ∷ xs) (number y) == place_in number (y ∷ xs) n) ≡ (number y == n)
@@ -70,7 +70,7 @@ module _ {X : Type 0} (number : X → ℕ) where
       elim (contains_cases z xs y y_in) [
         | inl y_here ↦ absurd (elim (contains_cases z xs x x_in) [
           | inl x_here ↦ (let same : number x ≡ number y = ap number (sym x_here ∙ y_here) in omega arith)
-          | inr x_later ↦ (let above = pairs_head (λ a b. number a < number b) z xs rises x x_later in let same : number z ≡ number y = ap number y_here in omega arith)
+          | inr x_later ↦ (let above = rising_below number z xs rises x x_later in let same : number z ≡ number y = ap number y_here in omega arith)
         ])
         | inr y_later ↦ (
             let last = later_place z xs rises y y_later in
@@ -78,7 +78,7 @@ module _ {X : Type 0} (number : X → ℕ) where
               | inl x_here ↦ (let first = first_place z xs (number x) (let same : number z ≡ number x = ap number x_here in grind (arith, nat_tests)) in omega arith)
               | inr x_later ↦ (
                   let first = later_place z xs rises x x_later in
-                  let rest = places_below xs (pairs_tail (λ a b. number a < number b) z xs rises) x y x_later y_later below in omega arith)
+                  let rest = places_below xs (rising_tail number z xs rises) x y x_later y_later below in omega arith)
             ])
       ]
 
@@ -130,22 +130,25 @@ counted : {X Y : Type 0} (number : X → ℕ) (make : ℕ → X → Y) (n : ℕ)
 counted number make n [] rises = refl
 counted number make n (x ∷ xs) rises =
     let first : n + place_in number (x ∷ xs) (number x) ≡ n = (let is = first_place number x xs (number x) (grind (arith, nat_tests)) in omega arith) in
-    ap (λ ys. make n x ∷ ys) (counted number make (n + 1) xs (pairs_tail (λ a b. number a < number b) x xs rises)
+    ap (λ ys. make n x ∷ ys) (counted number make (n + 1) xs (rising_tail number x xs rises)
     ∙ map_alike (λ y. make (n + 1 + place_in number xs (number y)) y) (λ y. make (n + place_in number (x ∷ xs) (number y)) y) xs (λ y h.
     (let later = later_place number x xs rises y h in let same : n + 1 + place_in number xs (number y) ≡ n + place_in number (x ∷ xs) (number y) = omega arith in ap (λ m. make m y) same)))
     ∙ ap (λ m. make m x ∷ map (λ y. make (n + place_in number (x ∷ xs) (number y)) y) xs) (sym first)
 
--- the sketch has a constraint of that number
-abbrev pub IsNumbered : Sketch → ConId → Type 0
-IsNumbered s k = (c : Constraint) × Contains s.constraints c × (c.number ≡ k)
-
 -- ---- a sketch by new numbers
 
 abbrev pub element_renumbered : Sketch → Element → Element
-element_renumbered s e = record e { number = place_of s e.number }
+element_renumbered s e = record e { number = new_element s e.number }
 
 abbrev pub constraint_renumbered : Sketch → Constraint → Constraint
-constraint_renumbered s c = record { number = new_number s c.number; rule = rule_renumbered s c.rule }
+constraint_renumbered s c = record { number = new_constraint s c.number; rule = rule_renumbered s c.rule }
+
+-- the same places, by the new numbers of the elements
+abbrev pub spot_renumbered : Sketch → Spot → Spot
+spot_renumbered s spot = record spot { elem = new_element s spot.elem }
+
+abbrev pub places_renumbered : Sketch → Placed → Placed
+places_renumbered s at = record { spots = map (spot_renumbered s) at.spots }
 
 -- each element and each constraint by its new number
 abbrev pub each_renumbered : Sketch → Sketch
@@ -178,39 +181,39 @@ module _ (s : Sketch) (sound : IsSoundSketch s) where
       ∙ ap (λ (cs : List Constraint). make (map (element_renumbered s) s.elements) cs) (constraints_counted s 1 s.constraints ∙ counted (λ (x : Constraint). x.number.0) (constraint_by s) 1 s.constraints sound.constraints_rise)
 
   -- the new numbers of elements are told apart, and rise, as their own do
-  pub same_element : (u v : Elem) → IsDeclared s u → ((place_of s u).0 == (place_of s v).0) ≡ (u.0 == v.0)
+  pub same_element : (u v : Elem) → IsDeclared s u → ((new_element s u).0 == (new_element s v).0) ≡ (u.0 == v.0)
   same_element u v (e, e_in, is) = counted_same (λ (x : Element). x.number.0) s.elements sound.elements_rise u.0 v.0 (e, e_in, ap (λ (w : Elem). w.0) is)
 
-  pub element_order : (u v : Elem) → IsDeclared s u → IsDeclared s v → nat_lt (place_of s u).0 (place_of s v).0 ≡ nat_lt u.0 v.0
+  pub element_order : (u v : Elem) → IsDeclared s u → IsDeclared s v → nat_lt (new_element s u).0 (new_element s v).0 ≡ nat_lt u.0 v.0
   element_order u v (e, e_in, is) (f, f_in, is') =
       counted_order (λ (x : Element). x.number.0) s.elements sound.elements_rise u.0 v.0 (e, e_in, ap (λ (w : Elem). w.0) is) (f, f_in, ap (λ (w : Elem). w.0) is')
 
   -- and so are those of constraints
-  pub same_constraint : (k j : ConId) → IsNumbered s k → ((new_number s k).0 == (new_number s j).0) ≡ (k.0 == j.0)
+  pub same_constraint : (k j : ConId) → HasConstraint s k → ((new_constraint s k).0 == (new_constraint s j).0) ≡ (k.0 == j.0)
   same_constraint k j (c, c_in, is) = counted_same (λ (x : Constraint). x.number.0) s.constraints sound.constraints_rise k.0 j.0 (c, c_in, ap (λ (i : ConId). i.0) is)
 
-  pub constraint_order : (k j : ConId) → IsNumbered s k → IsNumbered s j → nat_lt (new_number s k).0 (new_number s j).0 ≡ nat_lt k.0 j.0
+  pub constraint_order : (k j : ConId) → HasConstraint s k → HasConstraint s j → nat_lt (new_constraint s k).0 (new_constraint s j).0 ≡ nat_lt k.0 j.0
   constraint_order k j (c, c_in, is) (d, d_in, is') =
       counted_order (λ (x : Constraint). x.number.0) s.constraints sound.constraints_rise k.0 j.0 (c, c_in, ap (λ (i : ConId). i.0) is) (d, d_in, ap (λ (i : ConId). i.0) is')
 
-  element_again : (u : Elem) → element_of (each_renumbered s) (place_of s u) ≡ option_map (element_renumbered s) (element_of s u)
-  element_again u = find_alike (element_renumbered s) (λ (x : Element). x.number.0 == u.0) (λ (x : Element). x.number.0 == (place_of s u).0) s.elements (λ x x_in. same_element x.number u (x, x_in, refl))
+  element_again : (u : Elem) → element_of (each_renumbered s) (new_element s u) ≡ option_map (element_renumbered s) (element_of s u)
+  element_again u = find_alike (element_renumbered s) (λ (x : Element). x.number.0 == u.0) (λ (x : Element). x.number.0 == (new_element s u).0) s.elements (λ x x_in. same_element x.number u (x, x_in, refl))
 
   -- an element is drawn as it was
-  pub drawn_again : (u : Elem) → drawn_as (each_renumbered s) (place_of s u) ≡ drawn_as s u
+  pub drawn_again : (u : Elem) → drawn_as (each_renumbered s) (new_element s u) ≡ drawn_as s u
   drawn_again u =
       ap (λ (o : Option Element). unwrap_or (option_map (λ (x : Element). x.shape) o) (Point (record { 0 = pos 0 }) (record { 0 = pos 0 }))) (element_again u)
       ∙ ap (λ (o : Option Shape). unwrap_or o (Point (record { 0 = pos 0 }) (record { 0 = pos 0 }))) (shape_kept s (element_of s u))
 
-  pub constraint_again : (k : ConId) → constraint_of (each_renumbered s) (new_number s k) ≡ option_map (constraint_renumbered s) (constraint_of s k)
-  constraint_again k = find_alike (constraint_renumbered s) (λ (x : Constraint). x.number.0 == k.0) (λ (x : Constraint). x.number.0 == (new_number s k).0) s.constraints (λ x x_in. same_constraint x.number k (x, x_in, refl))
+  pub constraint_again : (k : ConId) → constraint_of (each_renumbered s) (new_constraint s k) ≡ option_map (constraint_renumbered s) (constraint_of s k)
+  constraint_again k = find_alike (constraint_renumbered s) (λ (x : Constraint). x.number.0 == k.0) (λ (x : Constraint). x.number.0 == (new_constraint s k).0) s.constraints (λ x x_in. same_constraint x.number k (x, x_in, refl))
 
   module _ (at : Placed) (declared : (spot : Spot) → Contains at.spots spot → IsDeclared s spot.elem) where
     -- and lies where it did
-    pub place_again : (u : Elem) → place_at (places_renumbered s at) (place_of s u) ≡ place_at at u
+    pub place_again : (u : Elem) → place_of (places_renumbered s at) (new_element s u) ≡ place_of at u
     place_again u =
-        ap (option_map (λ (x : Spot). x.at)) (find_alike (spot_renumbered s) (λ (x : Spot). x.elem.0 == u.0) (λ (x : Spot). x.elem.0 == (place_of s u).0) at.spots (λ x x_in. same_element x.elem u (declared x x_in)))
+        ap (option_map (λ (x : Spot). x.at)) (find_alike (spot_renumbered s) (λ (x : Spot). x.elem.0 == u.0) (λ (x : Spot). x.elem.0 == (new_element s u).0) at.spots (λ x x_in. same_element x.elem u (declared x x_in)))
         ∙ place_kept s (find (λ (x : Spot). x.elem.0 == u.0) at.spots)
 
-    pub lies_again : (u : Elem) → lies (places_renumbered s at) (place_of s u) ≡ lies at u
+    pub lies_again : (u : Elem) → lies (places_renumbered s at) (new_element s u) ≡ lies at u
     lies_again u = ap (λ (o : Option At). unwrap_or o (places.Point (pos 0) (pos 0))) (place_again u)

@@ -29,7 +29,7 @@ use Rattle.sk_answers.proofs.MeasureTold.{as_measurement}
 use Rattle.sk_laws.proofs.SomePlacements.{some_tolerance}
 
 module _ (s : Sketch) (sketch : IsSoundSketch s) (at : Placed) (exactly : PlacesExactly (graph_of s) at) where
-  numbers_there : (k : ConId) → Contains (all_numbers s) k → (c : Constraint) × Contains s.constraints c × (c.number ≡ k)
+  pub numbers_there : (k : ConId) → Contains (all_numbers s) k → (c : Constraint) × Contains s.constraints c × (c.number ≡ k)
   numbers_there k k_in = mapped_from (λ (c : Constraint). c.number) s.constraints k k_in
 
   -- each constraint is off by so much

@@ -1,14 +1,13 @@
--- What is measured of a sketch where it is read, its elements and constraints numbered anew.
-use Rattle.std.specs.Prelude.{◌≡◌, ℕ, ◌+◌, ◌==◌, List, ◌++◌, map}
+-- What `measure` writes of a sketch numbered anew: how far off the constraints of the sketch itself are, by their new numbers.
+use Rattle.std.specs.Prelude.{◌≡◌, ℕ, ◌+◌, ◌==◌, List, ◌++◌}
 use Rattle.std.specs.List.{position_or_len}
 use Rattle.std.specs.Option.{option_map}
 use Rattle.sk_base.specs.declared.ConId.{ConId}
 use Rattle.sk_base.specs.declared.Constraint.{Constraint}
 use Rattle.sk_base.specs.declared.Placed.{Placed}
 use Rattle.sk_base.specs.declared.Sketch.{Sketch}
-use Rattle.sk_base.specs.declared.Spot.{Spot}
 use Rattle.sk_graph.specs.SketchGraph.{graph_of}
-use Rattle.sk_lang.specs.Renumbered.{place_of, renumbered}
+use Rattle.sk_lang.specs.Renumbered.{place_of as new_element, renumbered}
 use Rattle.sk_tolerance.specs.declared.OffBy.{OffBy}
 use Rattle.sk_tolerance.specs.declared.Spotted.{Spotted}
 use Rattle.sk_tolerance.specs.declared.Spotted.TheVariants.{Con, Line}
@@ -20,27 +19,20 @@ use Rattle.sk_answers.specs.MeasureReport.{measured_line}
 use Rattle.sk_answers.specs.OffsThere.{AreOffsPut}
 
 -- the new number of a constraint: its place, from 1
-abbrev pub new_number : Sketch → ConId → ConId
-new_number s k = record { 0 = 1 + position_or_len (λ (c : Constraint). c.number.0 == k.0) s.constraints }
-
--- the same places, by the new numbers of the elements
-abbrev pub spot_renumbered : Sketch → Spot → Spot
-spot_renumbered s spot = record spot { elem = place_of s spot.elem }
-
-abbrev pub places_renumbered : Sketch → Placed → Placed
-places_renumbered s at = record { spots = map (spot_renumbered s) at.spots }
+abbrev pub new_constraint : Sketch → ConId → ConId
+new_constraint s k = record { 0 = 1 + position_or_len (λ (c : Constraint). c.number.0 == k.0) s.constraints }
 
 -- the same tolerances, with what is worst by its new number
 abbrev pub spotted_renumbered : Sketch → Spotted → Spotted
-spotted_renumbered s (Con k) = Con (new_number s k)
-spotted_renumbered s (Line e) = Line (place_of s e)
+spotted_renumbered s (Con k) = Con (new_constraint s k)
+spotted_renumbered s (Line e) = Line (new_element s e)
 
 abbrev pub tolerance_renumbered : Sketch → Tolerance → Tolerance
-tolerance_renumbered s t = record t { worst_t = option_map (new_number s) t.worst_t; worst_w = option_map (spotted_renumbered s) t.worst_w }
+tolerance_renumbered s t = record t { worst_t = option_map (new_constraint s) t.worst_t; worst_w = option_map (spotted_renumbered s) t.worst_w }
 
 -- the line of `measure` on a constraint, by its new number
 abbrev pub line_renumbered : Sketch → ConId → OffBy → List ℕ
-line_renumbered s k off = measured_line (renumbered s) (new_number s k) off
+line_renumbered s k off = measured_line (renumbered s) (new_constraint s k) off
 
 -- by how much the places are off each constraint of the sketch, in order, and the least tolerances with which all holds
 -- there, in the words of `measure` on the sketch that is numbered anew

@@ -20,7 +20,6 @@ use Rattle.sk_verify.specs.Failing.{AllTold}
 use Rattle.sk_answers.specs.declared.Status.{Status}
 use Rattle.sk_answers.specs.declared.Status.TheVariants.{Done}
 use Rattle.sk_laws.specs.Headline.{HoldsAt}
-use Rattle.sk_laws.specs.NewNumbers.{places_renumbered}
 use Rattle.sk_answers.specs.MeasureAnswer.{all_numbers, HasPlaces, IsMeasurement, IsMeasureAnswer, TellsOffs}
 use Rattle.sk_answers.specs.OffsThere.{AreOffsPut}
 use Rattle.sk_cli.specs.Outcome.{IsAnswerOf, IsOutcome}
@@ -29,7 +28,7 @@ use Rattle.sk_laws.proofs.KeptMeasured.{left_read, left_told, left_measured}
 use Rattle.sk_laws.proofs.ClaimedTolerances.{tolerances_claimed}
 use Rattle.sk_laws.proofs.OneOutcome.{LowerLaws, same_off}
 use Rattle.sk_laws.proofs.PrintedClaims.{places_read, places_told}
-use Rattle.sk_laws.proofs.Renumbering.{each_renumbered, renumbered_each}
+use Rattle.sk_laws.proofs.Renumbering.{each_renumbered, places_renumbered, renumbered_each}
 use Rattle.sk_laws.proofs.SomeMeasures.{some_lines}
 use Rattle.sk_laws.proofs.WhyEnds.{answer_about}
 use Rattle.sk_laws.proofs.WhyMeasured.{offs_exactly}
