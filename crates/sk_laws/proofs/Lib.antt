@@ -32,5 +32,6 @@ pub mod SomePlacements
 pub mod SomeSessions
 pub mod SomeSpares
 pub mod Telling
+pub mod ToldAlike
 pub mod WhyEnds
 pub mod WhyMeasured

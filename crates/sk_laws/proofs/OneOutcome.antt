@@ -1,6 +1,6 @@
 -- Words and an input have one outcome at most.
 use Rattle.std.proofs.Common.{◌≡◌, ◌≢◌, ◌⊎◌, inl, inr, ℕ, ◌+◌, ◌<◌, ◌≤◌, List, [], ◌∷◌, ◌++◌, length, refl, sym, ap, ◌∙◌, subst, arith, append_assoc}
-use Rattle.std.specs.Prelude.{take, drop, ◌==◌, Bool, ℤ, Option}
+use Rattle.std.specs.Prelude.{take, drop, ◌==◌, Bool, ℤ, Contains, Option, Some}
 use Rattle.sk_base.specs.declared.ConId.{ConId}
 use Rattle.sk_base.specs.declared.Constraint.{Constraint}
 use Rattle.sk_base.specs.declared.Placed.{Placed}
@@ -35,6 +35,7 @@ use Rattle.sk_lines.specs.declared.Refusal.{Refusal}
 use Rattle.sk_lang.specs.Reading.{Reads, Refuses}
 use Rattle.sk_report.specs.CheckReport.{part_line, parts_head, check_report}
 use Rattle.sk_report.specs.RefusalLine.{refusal_line}
+use Rattle.sk_entry.specs.NumberedConstraint.{constraint_of}
 use Rattle.sk_graph.specs.SketchGraph.{graph_of}
 use Rattle.sk_verdict.specs.declared.Judgement.{Judgement}
 use Rattle.sk_verdict.specs.Judging.{IsJudgement}
@@ -542,12 +543,15 @@ same_parts law laws request s sound (p ∷ parts) number text another (below, mo
     is ∙ ap (λ t. (part_line s number p ++ t) ++ more) (same_below law laws request s sound p below below' told told')
     ∙ ap (λ t. (part_line s number p ++ below') ++ t) (same_parts law laws request s sound parts (number + 1) more more' rest rest') ∙ sym is'
 
+-- the constraint of that number is the sketch's
+pub of_that_number : (s : Sketch) (k : ConId) (c : Constraint) → constraint_of s k ≡ Some c → Contains s.constraints c × (c.number ≡ k)
+of_that_number s k c is = (let found = found_in (λ (x : Constraint). x.number.0 == k.0) s.constraints c is in (found.0, con_exact c.number k (grind (arith, nat_tests, found.1))))
+
 -- how far off a constraint is
 pub same_off : (at : Placed) (own : Sketch) (k : ConId) (off other : OffBy) → IsOffThere at own k off → IsOffThere at own k other → off ≡ other
 same_off at own k off other there there' =
-    let found = found_in (λ (x : Constraint). x.number.0 == k.0) own.constraints there.constraint there.numbered in
-    let named : there.constraint.number ≡ k = con_exact there.constraint.number k (grind (arith, nat_tests, found.1)) in
-    let has : HasNumber (graph_of own) k = subst (λ (j : ConId). HasNumber (graph_of own) j) named (number_there own there.constraint found.0) in
+    let found = of_that_number own k there.constraint there.numbered in
+    let has : HasNumber (graph_of own) k = subst (λ (j : ConId). HasNumber (graph_of own) j) found.1 (number_there own there.constraint found.0) in
     let one : there.constraint ≡ there'.constraint = (let first = there.numbered in let second = there'.numbered in cc) in
     let same = one_off at (graph_of own) k has off other there.by there'.by in
     let turned = one_compared (senses own at k there.constraint.rule) off.turned other.turned there.turned

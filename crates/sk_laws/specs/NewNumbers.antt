@@ -7,16 +7,18 @@ use Rattle.sk_base.specs.declared.Constraint.{Constraint}
 use Rattle.sk_base.specs.declared.Placed.{Placed}
 use Rattle.sk_base.specs.declared.Sketch.{Sketch}
 use Rattle.sk_graph.specs.SketchGraph.{graph_of}
+use Rattle.sk_lines.specs.Lines.{EndsLine}
 use Rattle.sk_lang.specs.Renumbered.{place_of as new_element, renumbered}
 use Rattle.sk_tolerance.specs.declared.OffBy.{OffBy}
 use Rattle.sk_tolerance.specs.declared.Spotted.{Spotted}
 use Rattle.sk_tolerance.specs.declared.Spotted.TheVariants.{Con, Line}
 use Rattle.sk_tolerance.specs.declared.Tolerance.{Tolerance}
+use Rattle.sk_report.specs.ExcessReport.{off_line}
 use Rattle.sk_report.specs.SolveReport.{tolerance_lines}
 use Rattle.sk_solve.specs.Placements.{IsTolerance}
 use Rattle.sk_answers.specs.MeasureAnswer.{all_numbers}
 use Rattle.sk_answers.specs.MeasureReport.{measured_line}
-use Rattle.sk_answers.specs.OffsThere.{AreOffsPut}
+use Rattle.sk_answers.specs.OffsThere.{IsOffThere, AreOffsPut}
 
 -- the new number of a constraint: its place, from 1
 abbrev pub new_constraint : Sketch → ConId → ConId
@@ -42,3 +44,15 @@ pub record TellsOffsRenumbered (s : Sketch) (at : Placed) (text : List ℕ) : Ty
   pub offs : AreOffsPut (line_renumbered s) s at (all_numbers s) lines
   pub tolerance : IsTolerance at (graph_of s) least
   pub is : text ≡ lines ++ tolerance_lines (renumbered s) (tolerance_renumbered s least)
+
+-- the line stands in the text, behind whole lines
+abbrev pub StandsIn : List ℕ → List ℕ → Type 0
+StandsIn line text = (before after : List ℕ) × EndsLine before × (text ≡ before ++ (line ++ after))
+
+-- the text of `excess` has its line on the constraint, and that of `measure` the line by its new number: the places are off
+-- it by the one amount that both lines tell
+pub record TellsAlike (limit : ℕ) (s : Sketch) (at : Placed) (told text : List ℕ) (k : ConId) : Type 0 where
+  pub off : OffBy
+  pub there : IsOffThere at s k off
+  pub left : StandsIn (off_line s limit k off) told
+  pub measured : StandsIn (line_renumbered s k off) text

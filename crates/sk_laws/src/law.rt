@@ -36,7 +36,7 @@ ghost use Rattle.sk_request.specs.Asking.{Asks, AreOfForm};
 ghost use Rattle.sk_request.specs.declared.Command.{Command};
 ghost use Rattle.sk_request.specs.declared.Account.TheVariants.{Excesses};
 ghost use Rattle.sk_laws.specs.Headline.{Tells, TellsAsAsked, RepliesNext, RepliesNextLive, HoldsAt};
-ghost use Rattle.sk_laws.specs.NewNumbers.{TellsOffsRenumbered};
+ghost use Rattle.sk_laws.specs.NewNumbers.{TellsAlike, TellsOffsRenumbered};
 ghost use Rattle.sk_laws.specs.PrintedClaim.{printed_text, printed_places, printed_claim};
 ghost use Rattle.sk_lang.specs.Front.{ReadsFront};
 ghost use Rattle.sk_lang.specs.Renumbered.{renumbered};
@@ -239,9 +239,10 @@ pub fn why_measure_ends()
 /// the claim's tolerance, and no sign is turned over (`accepted`); and the least tolerances there are no greater than the
 /// claim's (`tolerances`). Where `excess` measures what is left out of an own sketch, whatever its numbers, `measure` of a
 /// text that reads as this sketch numbered anew, with the element lines of these places and an `end` behind them, tells by
-/// how much the places are off each constraint of the own sketch, by its new number, so that by `same` each constraint
-/// that is left out is off by what `excess` told (`left`). With the element lines of `solve`, an `end` behind them and the
-/// same limit it is done, and tells the tolerances that `solve` told (`solved`).
+/// how much the places are off each constraint of the own sketch, by its new number (`left`). So each constraint that is
+/// left out has a line in both texts, and both tell that the places are off it by the same (`agrees`). With the element
+/// lines of `solve`, an `end` behind them and the same limit it is done, and tells the tolerances that `solve` told
+/// (`solved`).
 pub fn given_places_are_measured()
     ensures offs { (words : List (List ℕ)) (bytes text : List ℕ) (status : Status) (request : Request) (f : Front) (c : Claim) → IsOutcome words bytes status text → Asks words request
         → request.command ≡ Command.Measure → HasPlaces bytes f c → AllTold c f.sketch.elements → (offs line : List ℕ) × TellsOffs f.sketch c.at offs × (text ≡ offs ++ line) }
@@ -252,6 +253,9 @@ pub fn given_places_are_measured()
     ensures left { (asked : List (List ℕ)) (input text told : List ℕ) (status : Status) (request measures : Request) (own : Sketch) (left : List ConId) (m : IsMeasuredLeft request own left told) (f : Front)
         → IsSoundSketch own → IsOutcome asked input status text → Asks asked measures → measures.command ≡ Command.Measure → ReadsFront input f → f.sketch ≡ renumbered own → drop f.used input ≡ printed_places own m.at
         → (offs line : List ℕ) × TellsOffsRenumbered own m.at offs × (text ≡ offs ++ line) }
+    ensures agrees { (asked : List (List ℕ)) (input text told : List ℕ) (status : Status) (request measures : Request) (own : Sketch) (left : List ConId) (m : IsMeasuredLeft request own left told) (f : Front)
+        → IsSoundSketch own → IsOutcome asked input status text → Asks asked measures → measures.command ≡ Command.Measure → ReadsFront input f → f.sketch ≡ renumbered own → drop f.used input ≡ printed_places own m.at
+        → (k : ConId) → Contains left k → TellsAlike request.within own m.at told text k }
     ensures solved { (words asked : List (List ℕ)) (bytes input : List ℕ) (request measures : Request) (s : Sketch) (p : Plan) (at : Placed) (t : Tolerance) (f : Front)
         → Asks words request → Reads bytes s → HoldsAt request s p at t → Asks asked measures → measures.command ≡ Command.Measure → measures.within ≡ request.within
         → ReadsFront input f → f.sketch ≡ s → drop f.used input ≡ printed_places s at

@@ -1,9 +1,13 @@
 use Rattle.std.proofs.Common.{◌≡◌, ℕ, List, [], ◌++◌, ◌∙◌, append-nil, inl, refl, sym, subst, drop, take}
 use Rattle.std.proofs.lemmas.List.Elements.{Contains-append_left}
+use Rattle.sk_base.specs.declared.ConId.{ConId}
 use Rattle.sk_base.specs.declared.Placed.{Placed}
 use Rattle.sk_base.specs.declared.Sketch.{Sketch}
 use Rattle.sk_base.specs.SoundSketch.{IsSoundSketch}
 use Rattle.sk_graph.specs.SketchGraph.{graph_of}
+use Rattle.sk_lang.specs.declared.Front.{Front}
+use Rattle.sk_lang.specs.Front.{ReadsFront}
+use Rattle.sk_lang.specs.Renumbered.{renumbered}
 use Rattle.sk_claims.specs.ClaimText.{places_drawn}
 use Rattle.sk_claims.specs.PlaceReading.{ReadsPlaces}
 use Rattle.sk_tolerance.specs.declared.Tolerance.{Tolerance}
@@ -20,8 +24,11 @@ use Rattle.sk_verify.specs.Failing.{AllTold}
 use Rattle.sk_answers.specs.declared.Status.{Status}
 use Rattle.sk_answers.specs.declared.Status.TheVariants.{Done}
 use Rattle.sk_laws.specs.Headline.{HoldsAt}
+use Rattle.sk_laws.specs.NewNumbers.{TellsAlike, TellsOffsRenumbered}
+use Rattle.sk_laws.specs.PrintedClaim.{printed_places}
 use Rattle.sk_answers.specs.MeasureAnswer.{all_numbers, HasPlaces, IsMeasurement, IsMeasureAnswer, TellsOffs}
 use Rattle.sk_answers.specs.OffsThere.{AreOffsPut}
+use Rattle.sk_cli.specs.ExcessReport.{IsMeasuredLeft}
 use Rattle.sk_cli.specs.Outcome.{IsAnswerOf, IsOutcome}
 use Rattle.sk_laws.proofs.AcceptedOffs.{within_claimed, not_turned_there}
 use Rattle.sk_laws.proofs.KeptMeasured.{left_read, left_told, left_measured}
@@ -30,6 +37,7 @@ use Rattle.sk_laws.proofs.OneOutcome.{LowerLaws, same_off}
 use Rattle.sk_laws.proofs.PrintedClaims.{places_read, places_told}
 use Rattle.sk_laws.proofs.Renumbering.{each_renumbered, places_renumbered, renumbered_each}
 use Rattle.sk_laws.proofs.SomeMeasures.{some_lines}
+use Rattle.sk_laws.proofs.ToldAlike.{told_alike}
 use Rattle.sk_laws.proofs.WhyEnds.{answer_about}
 use Rattle.sk_laws.proofs.WhyMeasured.{offs_exactly}
 use Rattle.sk_laws.proofs.law.given_places_are_measured.Goals as goal
@@ -60,6 +68,23 @@ solved_measured limit request s sound p at t holds same =
       ),
     )
 
+-- what is measured where `excess` measures what it leaves out
+left_offs : LowerLaws → (asked : List (List ℕ)) (input text told : List ℕ) (status : Status) (request measures : Request) (own : Sketch) (left : List ConId) (m : IsMeasuredLeft request own left told) (f : Front)
+    → IsSoundSketch own → IsOutcome asked input status text → Asks asked measures → measures.command ≡ Measure → ReadsFront input f → f.sketch ≡ renumbered own → drop f.used input ≡ printed_places own m.at
+    → (offs line : List ℕ) × TellsOffsRenumbered own m.at offs × (text ≡ offs ++ line)
+left_offs laws asked input text told status request measures own left m f sketch outcome asks is front same rest =
+    let each : f.sketch ≡ each_renumbered own = same ∙ renumbered_each own sketch in
+    let again = subst (λ (z : Sketch). IsSoundSketch z) each (laws.sound (take f.used input) f.sketch front.reads) in
+    let claim = places_drawn (each_renumbered own) (places_renumbered own m.at) in
+    let has : HasPlaces input f claim = record {
+      sketch = front;
+      placed = subst (λ (z : Sketch). ReadsPlaces z (drop f.used input) claim) (sym each)
+          (subst (λ (bs : List ℕ). ReadsPlaces (each_renumbered own) bs claim) (sym rest) (left_read request own sketch left told m again));
+    } in
+    let there : AllTold claim f.sketch.elements = subst (λ (z : Sketch). AllTold claim z.elements) (sym each) (left_told request own sketch left told m again) in
+    let found = offs_exactly laws measures.within input text status (measure_about asked input text status measures outcome asks is) f claim has there in
+    (found.0, found.1, left_measured request own sketch left told m again found.0 (subst (λ (z : Sketch). TellsOffs z claim.at found.0) same found.2), found.3)
+
 pub returns : goal.returns
 returns c =
     let sound = c.readable_is_sound.ensures.sound in
@@ -79,18 +104,10 @@ returns c =
       accepted = λ s claim k off sketch accepted there.
           (let within = within_claimed s sketch claim accepted k off there in (within.0, within.1, not_turned_there s sketch claim accepted k off there));
       tolerances = λ s claim t sketch accepted least. tolerances_claimed s sketch claim accepted t least;
-      left = λ asked input text told status request measures own left m f sketch outcome asks is front same rest.
-          (let each : f.sketch ≡ each_renumbered own = same ∙ renumbered_each own sketch in
-          let again = subst (λ (z : Sketch). IsSoundSketch z) each (sound (take f.used input) f.sketch front.reads) in
-          let claim = places_drawn (each_renumbered own) (places_renumbered own m.at) in
-          let has : HasPlaces input f claim = record {
-            sketch = front;
-            placed = subst (λ (z : Sketch). ReadsPlaces z (drop f.used input) claim) (sym each)
-                (subst (λ (bs : List ℕ). ReadsPlaces (each_renumbered own) bs claim) (sym rest) (left_read request own sketch left told m again));
-          } in
-          let there : AllTold claim f.sketch.elements = subst (λ (z : Sketch). AllTold claim z.elements) (sym each) (left_told request own sketch left told m again) in
-          let found = offs_exactly laws measures.within input text status (measure_about asked input text status measures outcome asks is) f claim has there in
-          (found.0, found.1, left_measured request own sketch left told m again found.0 (subst (λ (z : Sketch). TellsOffs z claim.at found.0) same found.2), found.3));
+      left = λ asked input text told status request measures own left m f sketch outcome asks is front same rest. left_offs laws asked input text told status request measures own left m f sketch outcome asks is front same rest;
+      agrees = λ asked input text told status request measures own left m f sketch outcome asks is front same rest k k_in.
+          (let found = left_offs laws asked input text told status request measures own left m f sketch outcome asks is front same rest in
+          subst (λ (words : List ℕ). TellsAlike request.within own m.at told words k) (sym found.3) (told_alike request own left told m found.0 found.1 found.2 k k_in));
       solved = λ words asked bytes input request measures s p at t f asks reads holds asks' is same front sketch rest.
           (let sound_s = sound bytes s reads in
           let claim = places_drawn s at in
