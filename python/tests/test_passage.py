@@ -7,6 +7,7 @@ from math import cos, radians, sin
 import pytest
 
 from pertxogai.drawing import PointRef, Which, read_drawing
+from pertxogai.judging.edges import Edges
 from pertxogai.judging.measure import Solution
 from pertxogai.ranging.passage import Passage
 from pertxogai.ranging.things import Things
@@ -26,9 +27,10 @@ def solution(points, radii):
 
 def is_clear(text, places, numbers=SHARES):
     """places: of a number from 0 to 100 the points and the radii."""
-    solutions = [solution(*places(each / 100)) for each in numbers]
-    things = Things.of(read_drawing(text), solutions[0], frozenset(), False)
-    return Passage.of(things, numbers, [things.placed(each) for each in solutions]).is_clear()
+    drawing = read_drawing(text)
+    edges = [Edges(drawing, solution(*places(each / 100))) for each in numbers]
+    things = Things.of(edges[0], frozenset(), False)
+    return Passage.of(things, numbers, [things.placed(each) for each in edges]).is_clear()
 
 
 def circles(a, b, one=1, other=1):
@@ -105,7 +107,8 @@ def test_what_touches_all_the_way_is_clear():
 
 
 def test_fractions_of_a_nanometre_are_placed():
-    things = Things.of(read_drawing(CIRCLES), solution(*circles((0, 0), (50, 0))), (), False)
+    drawing = read_drawing(CIRCLES)
+    things = Things.of(Edges(drawing, solution(*circles((0, 0), (50, 0)))), (), False)
     odd = Solution({PointRef("A", Which.CENTRE): (Fraction(1, 3), 0),
                     PointRef("B", Which.CENTRE): (50 * MM, 0)}, {"A": MM, "B": MM})
-    assert things.placed(odd).ends.shape == (2, 2, 2)
+    assert things.placed(Edges(drawing, odd)).ends.shape == (2, 2, 2)

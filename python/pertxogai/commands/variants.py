@@ -131,7 +131,7 @@ def drawing_of(drawing: Drawing, columns: Sequence[str], variant: Variant) -> Dr
             said[places[column]] = told
     except WordFault as fault:
         raise DrawingUnsound(f"variant {variant.name}", fault.word, fault.what) from None
-    return reckoned(replace(drawing, values=values, constraints=tuple(said)))
+    return reckoned(drawing.with_numbers(tuple(said), values))
 
 
 def _valued(value: Value, given: Mapping[str, str]) -> Value:

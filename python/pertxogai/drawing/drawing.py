@@ -4,7 +4,7 @@ from __future__ import annotations
 
 from collections.abc import Iterator
 from copy import copy
-from dataclasses import dataclass
+from dataclasses import dataclass, replace
 from fractions import Fraction
 from functools import cached_property
 
@@ -60,6 +60,16 @@ class Drawing:
         in which the same points coincide."""
         found = copy(self)
         vars(found)["meetings"] = other.meetings.redrawn(found)
+        return found
+
+    def with_numbers(self, said: tuple[Constraint, ...],
+                     values: tuple[Value, ...] | None = None) -> Drawing:
+        """The same with other numbers in its constraints, and with other values. Which of its
+        points are one, and where they are drawn, is taken over."""
+        found = replace(self, constraints=said, values=self.values if values is None else values)
+        vars(found)["scene"] = (self.scene if values is None
+                                else self.scene.with_values(Values(values)))
+        vars(found)["meetings"] = self.meetings.redrawn(found)
         return found
 
     @cached_property

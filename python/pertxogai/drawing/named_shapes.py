@@ -4,16 +4,18 @@ the named values."""
 from __future__ import annotations
 
 from collections.abc import Iterable
+from copy import copy
 from fractions import Fraction
 from functools import lru_cache
 
 from pertxogai.cached import cached_on
 from pertxogai.drawing.geometry import (
     Anchor, Arc, Axis, Circle, Datum, Origin, Point, Segment, Shape)
-from pertxogai.drawing.places import Place
+from pertxogai.drawing.places import NM_PER_UM, Place
 from pertxogai.drawing.references import ORIGIN, X_AXIS, Y_AXIS, PointRef, Which
 from pertxogai.drawing.roots import root_near
 from pertxogai.drawing.values.table import Values
+from pertxogai.exact import whole_near
 
 
 class NamedShapes:
@@ -25,8 +27,15 @@ class NamedShapes:
         self._shapes: dict[str, Shape | Datum] = {
             ORIGIN.shape: Origin(), X_AXIS.name: Axis(False), Y_AXIS.name: Axis(True)}
         self._drawn: dict[PointRef, Place] = {}
+        self._drawn_nm: dict[PointRef, tuple[int, int]] = {}
         for shape in shapes:
             self.add(shape)
+
+    def with_values(self, values: Values) -> NamedShapes:
+        """The same shapes, beside other values."""
+        other = copy(self)
+        other.values = values
+        return other
 
     def add(self, shape: Shape) -> None:
         """Adds a shape, whose name must be free."""
@@ -61,6 +70,15 @@ class NamedShapes:
         if known is None:
             spot = spot_of(self.shape(ref.shape), ref.which)
             known = self._drawn[ref] = self.drawn(spot) if isinstance(spot, PointRef) else spot
+        return known
+
+    def drawn_nm(self, ref: PointRef) -> tuple[int, int]:
+        """Where a point is drawn, in whole nanometres."""
+        known = self._drawn_nm.get(ref)
+        if known is None:
+            at = self.drawn(ref)
+            known = self._drawn_nm[ref] = (whole_near(at.x_um * NM_PER_UM),
+                                           whole_near(at.y_um * NM_PER_UM))
         return known
 
     def drawn_radius_um(self, name: str) -> Fraction:

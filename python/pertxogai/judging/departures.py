@@ -5,14 +5,14 @@ All is by whole numbers of nanometres. A drawing that isn't tied to the datum's 
 compared as it lies once it has been turned, as a whole, the way that fits best."""
 from __future__ import annotations
 
-from collections.abc import Iterator, Sequence
+from collections.abc import Collection, Iterator, Sequence
 from dataclasses import dataclass
 from enum import Enum
 
 from pertxogai.drawing import Arc, Circle, Drawing, Segment
 from pertxogai.exact import Vector, cross, dot
-from pertxogai.judging.edges import Chord, Edge, Edges, boxes_meet
-from pertxogai.judging.insides import leavers
+from pertxogai.judging.edges import Chord, Edge, Edges, boxes_meet, corners, leaders_of
+from pertxogai.judging.insides import Loops
 from pertxogai.judging.measure.solution import Solution
 from pertxogai.judging.rims import Rim, Round
 
@@ -48,16 +48,48 @@ class Departure:
 def warnings(drawing: Drawing, solution: Solution, free: bool = False) -> tuple[Departure, ...]:
     """Every departure of a placed drawing, edge by edge. `free`: whether nothing ties the
     drawing to the datum's directions, so that all of it may have turned."""
-    edges = Edges(drawing, solution)
-    segments = [shape for shape in drawing.geometry if isinstance(shape, Segment)]
-    found = [edges.of_shape(shape) for shape in segments]
-    outline = [edge for edge, shape in zip(found, segments) if not shape.construction]
-    rims = [Rim.of(drawing, solution, shape) for shape in drawing.geometry
-            if isinstance(shape, Circle | Arc) and not shape.construction
-            and shape.name in solution.radii]
-    return (*_reversals(found, free), *_corners(edges, outline), *_crossings(edges, outline),
-            *_cut_rims(outline, rims),
-            *(Departure(DepartureKind.LEAVES, each) for each in leavers(edges, outline, rims)))
+    return Comparison(drawing, solution.radii).warnings(Edges(drawing, solution), free)
+
+
+class Comparison:
+    """What of a drawing may depart from how it is drawn, whatever its dimensions are. sized: the
+    circles and arcs of which a radius is placed."""
+
+    def __init__(self, drawing: Drawing, sized: Collection[str]) -> None:
+        self._segments = [each for each in drawing.geometry if isinstance(each, Segment)]
+        self._outline = [each for each in self._segments if not each.construction]
+        self._rims = [each for each in drawing.geometry if isinstance(each, Circle | Arc)
+                      and not each.construction and each.name in sized]
+        self._ends = [leaders_of(drawing, each) for each in self._outline]
+        self._corners = corners(self._ends)
+        self._loops = Loops([*self._ends, *(leaders_of(drawing, each) if isinstance(each, Arc)
+                                            else None for each in self._rims)])
+
+    def warnings(self, edges: Edges, free: bool) -> tuple[Departure, ...]:
+        """Every departure of a placed drawing, which may differ from this one by its dimensions.
+        Raises MissingPlace."""
+        outline = [*map(edges.of, self._outline)]
+        rims = [Rim.of(edges.drawing, edges.solution, each) for each in self._rims]
+        return (*_reversals([*map(edges.of, self._segments)], free), *self._turned(outline),
+                *self._crossings(outline), *_cut_rims(outline, rims),
+                *(Departure(DepartureKind.LEAVES, each)
+                  for each in self._loops.leavers([*outline, *rims])))
+
+    def _turned(self, outline: Sequence[Edge]) -> Iterator[Departure]:
+        """The corners that turn to the other side than they are drawn."""
+        for first, second in self._corners:
+            one, other = outline[first], outline[second]
+            before = cross(one.drawn.way, other.drawn.way)
+            if before * cross(one.placed.way, other.placed.way) < 0:
+                yield Departure(DepartureKind.OTHER_SIDE, (one.name, other.name))
+
+    def _crossings(self, outline: Sequence[Edge]) -> Iterator[Departure]:
+        """The edges that cross, are drawn apart, and don't end in one point."""
+        for first, second in sorted(boxes_meet([each.placed for each in outline])):
+            one, other = outline[first], outline[second]
+            if one.placed.crosses(other.placed) and not one.drawn.crosses(other.drawn):
+                if set(self._ends[first]).isdisjoint(self._ends[second]):
+                    yield Departure(DepartureKind.CROSSES, (one.name, other.name))
 
 
 def _reversals(edges: Sequence[Edge], free: bool) -> Iterator[Departure]:
@@ -76,22 +108,6 @@ def _turn(edges: Sequence[Edge]) -> Vector:
     ways = [(edge.drawn.way, edge.placed.way) for edge in edges]
     turn = sum(dot(*each) for each in ways), sum(cross(*each) for each in ways)
     return turn if any(turn) else (1, 0)
-
-
-def _corners(edges: Edges, outline: Sequence[Edge]) -> Iterator[Departure]:
-    for first, second in edges.corners(outline):
-        one, other = outline[first], outline[second]
-        before = cross(one.drawn.way, other.drawn.way)
-        if before * cross(one.placed.way, other.placed.way) < 0:
-            yield Departure(DepartureKind.OTHER_SIDE, (one.name, other.name))
-
-
-def _crossings(edges: Edges, outline: Sequence[Edge]) -> Iterator[Departure]:
-    for first, second in sorted(boxes_meet([each.placed for each in outline])):
-        one, other = outline[first], outline[second]
-        if one.placed.crosses(other.placed) and not one.drawn.crosses(other.drawn):
-            if set(edges.leaders(one)).isdisjoint(edges.leaders(other)):
-                yield Departure(DepartureKind.CROSSES, (one.name, other.name))
 
 
 def _cut_rims(outline: Sequence[Edge], rims: Sequence[Rim]) -> Iterator[Departure]:

@@ -2,7 +2,7 @@
 from __future__ import annotations
 
 from collections.abc import Iterator, Sequence
-from dataclasses import dataclass
+from dataclasses import dataclass, field
 from itertools import combinations
 from typing import Protocol
 
@@ -58,40 +58,63 @@ class Edge:
         return sides < 0 if sides else None
 
 
+Side = Segment | Arc | Distance
+"""What has an edge."""
+Ends = tuple[PointRef, PointRef]
+
+
+def name_of(side: Side) -> str:
+    """What the edge of a side is called."""
+    return f"{side.first} {side.second}" if isinstance(side, Distance) else side.name
+
+
+def ends_of(side: Side) -> Ends:
+    """The two points between which an edge runs."""
+    if isinstance(side, Distance):
+        return side.first, side.second
+    return PointRef(side.name, Which.START), PointRef(side.name, Which.END)
+
+
+def leaders_of(drawing: Drawing, side: Side) -> Ends:
+    """The points that stand for all that are one with the ends of an edge."""
+    start, end = map(drawing.meetings.leader, ends_of(side))
+    return start, end
+
+
+def corners(ends: Sequence[Ends]) -> list[tuple[int, int]]:
+    """The places of each two edges that end in one point, by the leaders of their ends."""
+    through: dict[PointRef, list[int]] = {}
+    for place, leaders in enumerate(ends):
+        for leader in set(leaders):
+            through.setdefault(leader, []).append(place)
+    return sorted({pair for places in through.values() for pair in combinations(places, 2)})
+
+
 @dataclass(frozen=True)
 class Edges:
-    """Makes the edges of a placed drawing."""
+    """Makes the edges of a placed drawing, each once."""
 
     drawing: Drawing
     solution: Solution
+    _made: dict[str, Edge] = field(default_factory=dict, init=False, repr=False, compare=False)
 
-    def of_shape(self, shape: Segment | Arc) -> Edge:
+    def of(self, side: Side) -> Edge:
         """Raises MissingPlace."""
-        ends = PointRef(shape.name, Which.START), PointRef(shape.name, Which.END)
-        return self._edge(shape.name, ends)
+        name = name_of(side)
+        known = self._made.get(name)
+        if known is None:
+            known = self._made[name] = self._edge(name, ends_of(side))
+        return known
 
-    def of_distance(self, told: Distance) -> Edge:
-        """Raises MissingPlace."""
-        return self._edge(f"{told.first} {told.second}", (told.first, told.second))
-
-    def leaders(self, edge: Edge) -> tuple[PointRef, PointRef]:
+    def leaders(self, edge: Edge) -> Ends:
         """The points that stand for all that are one with its ends."""
         start, end = map(self.drawing.meetings.leader, edge.ends)
         return start, end
 
-    def corners(self, edges: Sequence[Edge]) -> list[tuple[int, int]]:
-        """The places of each two edges that end in one point."""
-        through: dict[PointRef, list[int]] = {}
-        for place, edge in enumerate(edges):
-            for leader in set(self.leaders(edge)):
-                through.setdefault(leader, []).append(place)
-        return sorted({pair for places in through.values() for pair in combinations(places, 2)})
-
-    def _edge(self, name: str, ends: tuple[PointRef, PointRef]) -> Edge:
-        drawn = [(whole_near(at.x_um * 1000), whole_near(at.y_um * 1000))
-                 for at in map(self.drawing.drawn, ends)]
+    def _edge(self, name: str, ends: Ends) -> Edge:
+        start, end = map(self.drawing.scene.drawn_nm, ends)
         placed = [(whole_near(x), whole_near(y)) for x, y in map(self.solution.spot, ends)]
-        return Edge(name, ends, Chord(*drawn), Chord(*placed))
+        return Edge(name, ends, Chord(start, end), Chord(*placed))
 
 
 class Boxed(Protocol):

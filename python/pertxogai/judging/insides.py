@@ -8,7 +8,7 @@ from itertools import permutations
 from pertxogai.classes import Classes
 from pertxogai.drawing import PointRef
 from pertxogai.exact import Vector, between, cross, dot, square
-from pertxogai.judging.edges import Edge, Edges
+from pertxogai.judging.edges import Edge, Ends
 from pertxogai.judging.rims import TOUCHING_NM, Rim, Round
 
 
@@ -71,43 +71,51 @@ class Loop:
         return [(each.start, each.end) for each in chords]
 
 
-def leavers(edges: Edges, outline: Sequence[Edge],
-            rims: Sequence[Rim]) -> Iterator[tuple[str, str]]:
-    """Each circle or closed outline that lies on the other side of another outline than it is
-    drawn, and the name of that one's first edge. What lies on that one is on no side of it."""
-    loops = [*_loops(edges, outline, rims)]
-    for thing, loop in permutations(loops, 2):
-        if thing.lies_within(loop, False) is not thing.lies_within(loop, True):
-            if not any(thing.is_unsure(loop, each) for each in (False, True)):
-                yield thing.name, loop.name
+class Loops:
+    """The circles of a drawing, and its closed outlines, by the places of their edges and rims
+    among all of these: whatever its dimensions are."""
+
+    def __init__(self, ends: Sequence[Ends | None]) -> None:
+        """ends: the leaders of the ends of each edge and arc; None of a circle."""
+        self._places = (*((place,) for place, each in enumerate(ends) if each is None),
+                        *_outlines(ends))
+        self._drawn: dict[tuple[int, int], bool] = {}
+
+    def leavers(self, things: Sequence[Edge | Rim]) -> Iterator[tuple[str, str]]:
+        """Each circle or closed outline that lies on the other side of another outline than it is
+        drawn, and the name of that one's first edge. What lies on that one is on no side of it.
+        things: the edges and rims in their order, as they are drawn and placed."""
+        loops = [_loop([things[place] for place in places]) for places in self._places]
+        for one, other in permutations(range(len(loops)), 2):
+            thing, loop = loops[one], loops[other]
+            if (one, other) not in self._drawn:
+                self._drawn[one, other] = thing.lies_within(loop, False)
+            if self._drawn[one, other] is not thing.lies_within(loop, True):
+                if not any(thing.is_unsure(loop, each) for each in (False, True)):
+                    yield thing.name, loop.name
 
 
-def _loops(edges: Edges, outline: Sequence[Edge], rims: Sequence[Rim]) -> Iterator[Loop]:
-    """The circles, and the outlines in which each point ends two edges."""
-    yield from (Loop(each.name, (), (each,)) for each in rims if each.placed.ends is None)
-    things: list[Edge | Rim] = [*outline, *(each for each in rims if each.placed.ends is not None)]
-    ends = [_ends(edges, each) for each in things]
+def _outlines(ends: Sequence[Ends | None]) -> Iterator[tuple[int, ...]]:
+    """The places of each outline in which each point ends two edges."""
     classes: Classes[PointRef] = Classes()
     count: dict[PointRef, int] = {}
-    for start, end in ends:
+    for start, end in filter(None, ends):
         classes.join(start, end)
         for each in (start, end):
             count[each] = count.get(each, 0) + 1
     parts: dict[PointRef, list[int]] = {}
-    for place, (start, _) in enumerate(ends):
-        parts.setdefault(classes.leader(start), []).append(place)
+    for place, pair in enumerate(ends):
+        if pair is not None:
+            parts.setdefault(classes.leader(pair[0]), []).append(place)
     for places in parts.values():
-        if all(count[each] == 2 for place in places for each in ends[place]):
-            mine = [things[place] for place in places]
-            yield Loop(mine[0].name, tuple(each for each in mine if isinstance(each, Edge)),
-                       tuple(each for each in mine if isinstance(each, Rim)))
+        if all(count[each] == 2 for place in places for each in ends[place] or ()):
+            yield tuple(places)
 
 
-def _ends(edges: Edges, thing: Edge | Rim) -> tuple[PointRef, PointRef]:
-    if isinstance(thing, Edge):
-        return edges.leaders(thing)
-    start, end = map(edges.drawing.meetings.leader, thing.ends())
-    return start, end
+def _loop(mine: Sequence[Edge | Rim]) -> Loop:
+    """The circle, or the outline, of these edges and rims."""
+    return Loop(mine[0].name, tuple(each for each in mine if isinstance(each, Edge)),
+                tuple(each for each in mine if isinstance(each, Rim)))
 
 
 def _is_on_way(spot: Vector, start: Vector, end: Vector) -> bool:

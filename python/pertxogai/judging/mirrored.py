@@ -7,10 +7,12 @@ by itself, since each may be turned over about it."""
 from __future__ import annotations
 
 from collections.abc import Collection, Iterable, Iterator, Sequence
+from dataclasses import dataclass
+from functools import cached_property
 
 from pertxogai.drawing import AngleBetween, Arc, Distance, Drawing, PointRef, Segment, Sense
 from pertxogai.judging.blocks import blocks
-from pertxogai.judging.edges import Edge, Edges
+from pertxogai.judging.edges import Edge, Edges, Ends, Side, corners, leaders_of
 from pertxogai.judging.measure.solution import Solution
 from pertxogai.judging.told_runs import ToldRuns
 
@@ -24,32 +26,69 @@ def mirrored(drawing: Drawing, solution: Solution) -> Iterator[tuple[str, ...]]:
     first, and the points that are held by distances alone; then what has construction lines too,
     and each point that is held by distances from two others, if none of its edges was named before.
     Raises MissingPlace."""
-    edges, words = Edges(drawing, solution), _Words(drawing)
-    named: set[str] = set()
-    for piece in _pieces(edges):
-        names = tuple(each.name for each in piece)
-        if named.isdisjoint(names) and _is_mirrored(edges, piece, words):
-            named.update(names)
-            yield names
+    return Pieces.of(drawing).mirrored(Edges(drawing, solution))
 
 
-def _is_mirrored(edges: Edges, piece: Sequence[Edge], words: _Words) -> bool:
+@dataclass(frozen=True)
+class Piece:
+    """What has its edges, and the places of each two of them that end in one point."""
+
+    sides: tuple[Side, ...]
+    corners: tuple[tuple[int, int], ...]
+
+
+@dataclass(frozen=True)
+class Pieces:
+    """The pieces of a drawing, whatever its dimensions are."""
+
+    pieces: tuple[Piece, ...]
+
+    @staticmethod
+    def of(drawing: Drawing) -> Pieces:
+        """Outlines come first, and then what `mirrored` says."""
+        found = ((sides, [leaders_of(drawing, each) for each in sides])
+                 for sides in map(tuple, _pieces(drawing)))
+        return Pieces(tuple(Piece(sides, tuple(corners(ends))) for sides, ends in found))
+
+    def mirrored(self, edges: Edges) -> Iterator[tuple[str, ...]]:
+        """What lies mirrored of a placed drawing that has these pieces, as `mirrored` says. Raises
+        MissingPlace."""
+        words = _Words(edges.drawing)
+        named: set[str] = set()
+        for piece in self.pieces:
+            sides = [*map(edges.of, piece.sides)]
+            names = tuple(each.name for each in sides)
+            if named.isdisjoint(names) and _is_mirrored(sides, piece.corners, words):
+                named.update(names)
+                yield names
+
+
+def _is_mirrored(sides: Sequence[Edge], places: Iterable[tuple[int, int]], words: _Words) -> bool:
     """Whether each corner of a piece turns to the other side than it is drawn, and no words tell
     the turn of one."""
-    corners = [(piece[first], piece[second]) for first, second in edges.corners(piece)]
-    turns = [first.turns(second) for first, second in corners]
+    met = [(sides[first], sides[second]) for first, second in places]
+    turns = [first.turns(second) for first, second in met]
     return (True in turns and False not in turns
-            and not any(words.tell(*corner) for corner in corners))
+            and not any(words.tell(*corner) for corner in met))
 
 
 class _Words:
     """What the words tell of corners, so that the drawing doesn't choose how they turn."""
 
     def __init__(self, drawing: Drawing) -> None:
-        angles = [each for each in drawing.constraints if isinstance(each, AngleBetween)]
-        self._runs = ToldRuns(drawing)
-        self._angled = _lines(angles)
-        self._turned = _lines(each for each in angles if each.sense is Sense.SIGNED)
+        self._drawing = drawing
+
+    @cached_property
+    def _runs(self) -> ToldRuns:
+        return ToldRuns(self._drawing)
+
+    @cached_property
+    def _angled(self) -> frozenset[str]:
+        return _lines(_angles(self._drawing))
+
+    @cached_property
+    def _turned(self) -> frozenset[str]:
+        return _lines(each for each in _angles(self._drawing) if each.sense is Sense.SIGNED)
 
     def tell(self, first: Edge, second: Edge) -> bool:
         """Whether words tell the turn of a corner: they tell the directions of both edges, and
@@ -77,41 +116,43 @@ class _Words:
             for run, drawn in zip(self._runs.run(*edge.ends), edge.drawn.way))
 
 
+def _angles(drawing: Drawing) -> list[AngleBetween]:
+    return [each for each in drawing.constraints if isinstance(each, AngleBetween)]
+
+
 def _lines(angles: Iterable[AngleBetween]) -> frozenset[str]:
     return frozenset(line.name for each in angles for line in (each.first, each.second))
 
 
-def _pieces(edges: Edges) -> Iterator[list[Edge]]:
-    """The edges of each piece: first of outlines and of points that are held by distances alone,
-    then with construction lines, then single points that are held by distances."""
-    shapes = [each for each in edges.drawing.geometry if isinstance(each, (Segment, Arc))]
-    told = [each for each in edges.drawing.constraints if isinstance(each, Distance)]
+def _pieces(drawing: Drawing) -> Iterator[list[Side]]:
+    """What has the edges of each piece: first of outlines and of points that are held by distances
+    alone, then with construction lines, then single points that are held by distances."""
+    shapes = [each for each in drawing.geometry if isinstance(each, (Segment, Arc))]
+    told = [each for each in drawing.constraints if isinstance(each, Distance)]
     outline = [each for each in shapes if not each.construction]
     for drawn in (outline, shapes):
-        found = [edges.of_shape(each) for each in drawn]
-        ended = {leader for edge in found for leader in edges.leaders(edge)}
-        beside = (edges.of_distance(each) for each in told)
-        found += [each for each in beside if ended.isdisjoint(edges.leaders(each))]
-        yield from _outlines(edges, found)
-    yield from _points_by_distances(edges, shapes, [edges.of_distance(each) for each in told])
+        found: list[Side] = [*drawn]
+        ended = {leader for each in found for leader in leaders_of(drawing, each)}
+        found += [each for each in told if ended.isdisjoint(leaders_of(drawing, each))]
+        yield from _outlines(found, [leaders_of(drawing, each) for each in found])
+    yield from _points_by_distances(drawing, shapes, told)
 
 
-def _outlines(edges: Edges, found: Sequence[Edge]) -> Iterator[list[Edge]]:
+def _outlines(found: Sequence[Side], ends: Sequence[Ends]) -> Iterator[list[Side]]:
     """What closes up; and of what doesn't, what hangs together."""
-    closed = [each for each in blocks([edges.leaders(edge) for edge in found])
-              if len(each) >= LEAST_CLOSED]
+    closed = [each for each in blocks(ends) if len(each) >= LEAST_CLOSED]
     in_closed = {place for each in closed for place in each}
     open_ones = [place for place in range(len(found)) if place not in in_closed]
-    chains = _hanging_together(open_ones, edges.corners(found))
+    chains = _hanging_together(open_ones, corners(ends))
     for piece in sorted([sorted(each) for each in (*closed, *chains)]):
         yield [found[place] for place in piece]
 
 
 def _hanging_together(places: Collection[int],
-                      corners: Iterable[tuple[int, int]]) -> list[set[int]]:
+                      met: Iterable[tuple[int, int]]) -> list[set[int]]:
     """The groups of places that corners join."""
     groups = {place: {place} for place in places}
-    for first, second in corners:
+    for first, second in met:
         if first in groups and second in groups and groups[first] is not groups[second]:
             less, more = sorted((groups[first], groups[second]), key=len)
             more |= less
@@ -119,19 +160,19 @@ def _hanging_together(places: Collection[int],
     return list({id(group): group for group in groups.values()}.values())
 
 
-def _points_by_distances(edges: Edges, shapes: Sequence[Segment | Arc],
-                         told: Sequence[Edge]) -> Iterator[list[Edge]]:
+def _points_by_distances(drawing: Drawing, shapes: Sequence[Segment | Arc],
+                         told: Sequence[Distance]) -> Iterator[list[Side]]:
     """Each point in which no shape ends, with two distances from it, and the segment or distance
     between the two others."""
-    drawn = [edges.of_shape(each) for each in shapes]
-    ended = {leader for edge in drawn for leader in edges.leaders(edge)}
-    straight = [edge for edge, shape in zip(drawn, shapes) if isinstance(shape, Segment)]
-    ways: dict[PointRef, dict[PointRef, Edge]] = {}
+    ended = {leader for each in shapes for leader in leaders_of(drawing, each)}
+    ways: dict[PointRef, dict[PointRef, Side]] = {}
     for each in told:
-        first, second = edges.leaders(each)
+        first, second = leaders_of(drawing, each)
         ways.setdefault(first, {})[second] = ways.setdefault(second, {})[first] = each
-    across = {frozenset(edges.leaders(each)): each for each in (*told, *straight)}
+    straight = [each for each in shapes if isinstance(each, Segment)]
+    across: dict[frozenset[PointRef], Side] = {
+        frozenset(leaders_of(drawing, each)): each for each in (*told, *straight)}
     for third in across.values():
-        one, other = (ways.get(end, {}) for end in edges.leaders(third))
+        one, other = (ways.get(end, {}) for end in leaders_of(drawing, third))
         for point in (one.keys() & other.keys()) - ended:
             yield [third, one[point], other[point]]

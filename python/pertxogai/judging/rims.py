@@ -102,8 +102,7 @@ class Rim:
         centre = PointRef(shape.name, Which.CENTRE)
         ends = [PointRef(shape.name, each) for each in (Which.START, Which.END)
                 if isinstance(shape, Arc)]
-        drawn = [(whole_near(at.x_um * 1000), whole_near(at.y_um * 1000))
-                 for at in map(drawing.drawn, (centre, *ends))]
+        drawn = [*map(drawing.scene.drawn_nm, (centre, *ends))]
         placed = [(whole_near(x), whole_near(y)) for x, y in map(solution.spot, (centre, *ends))]
         radius = whole_near(drawing.drawn_radius_um(shape.name) * 1000)
         return Rim(shape.name, _round(drawn, radius),

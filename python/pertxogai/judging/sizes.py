@@ -7,6 +7,7 @@ from __future__ import annotations
 
 from collections.abc import Iterator, Mapping
 from fractions import Fraction
+from functools import cached_property
 
 from pertxogai.drawing import X_AXIS, Y_AXIS
 from pertxogai.drawing.places import NM_PER_UM
@@ -21,11 +22,16 @@ class Sizes:
     """The sizes that a drawing says, and that its placed points say, these in nanometres."""
 
     def __init__(self, facts: Facts, spots: Mapping[Knot, PointNm]) -> None:
-        self._system = LinearSystem(rank)
         self._facts = facts
         self._spots = spots
+
+    @cached_property
+    def _system(self) -> LinearSystem:
+        """What is said, solved once a radius is asked for."""
+        system = LinearSystem(rank)
         for number, form in enumerate(self._forms()):
-            self._system.add(form, number)
+            system.add(form, number)
+        return system
 
     def radius_nm(self, name: str) -> int | None:
         """The radius of a circle or an arc in whole nanometres; None where nothing tells it, or

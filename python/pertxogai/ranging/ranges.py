@@ -10,8 +10,8 @@ from pertxogai.drawing import (
 from pertxogai.drawing.checks import MOST_UM
 from pertxogai.drawing.numbers import MOST_MM
 from pertxogai.drawing.values.parameters import Dimension, NamedValue
+from pertxogai.judging.edges import Edges
 from pertxogai.judging.measure import Limit
-from pertxogai.judging.measure.solution import Solution
 from pertxogai.program import Solver
 from pertxogai.ranging.faults import Fault, FaultKind
 from pertxogai.ranging.passage import Passage
@@ -118,7 +118,7 @@ class _Numbers:
         low, high = _limits(ranging.drawing, of)
         self.low, self.high = min(low, self.present), max(high, self.present)
         self._things = ranging.way.things
-        self._placements = {self.present: self._things.placed(ranging.way.solution)}
+        self._placements = {self.present: self._things.placed(ranging.way.edges)}
         self._ways = [ranging.way]
 
     def _number(self, steps: int) -> Fraction:
@@ -132,7 +132,7 @@ class _Numbers:
         fault: Fault | None = None
         for way in self._ways:
             found = way.placed(drawing)
-            if isinstance(found, Solution):
+            if isinstance(found, Edges):
                 self._placements[number] = self._things.placed(found)
                 return None
             fault = found
@@ -144,7 +144,7 @@ class _Numbers:
         if isinstance(found, Fault):
             return found
         self._ways.append(found)
-        self._placements[number] = self._things.placed(found.solution)
+        self._placements[number] = self._things.placed(found.edges)
         return None
 
     def is_clear(self, numbers: Sequence[int]) -> bool:

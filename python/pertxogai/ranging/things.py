@@ -2,7 +2,7 @@
 floats: whole circles, and chords of edges and arcs."""
 from __future__ import annotations
 
-from collections.abc import Collection, Iterator
+from collections.abc import Collection, Iterator, Sequence
 from dataclasses import dataclass
 from itertools import combinations
 from math import atan2, ceil, cos, hypot, pi, sin
@@ -16,12 +16,13 @@ from pertxogai.drawing import (
     PointRef, Segment, Tangent, Which)
 from pertxogai.exact import between, cross, dot
 from pertxogai.judging.departures import Departure, DepartureKind
-from pertxogai.judging.edges import Chord, Edge, Edges
-from pertxogai.judging.measure.solution import Solution
+from pertxogai.judging.edges import Chord, Edge, Edges, leaders_of, name_of
 from pertxogai.judging.rims import Rim, Round
 
 Array: TypeAlias = NDArray[np.float64]
 Indices: TypeAlias = NDArray[np.intp]
+Straight: TypeAlias = Segment | Distance | Edge
+"""What goes straight from point to point: a segment, the way of a told distance, or an axis."""
 Piece: TypeAlias = tuple[float, float, float, float, float, float]
 """A chord from x, y to x, y, or a circle round a centre that stands twice; the radius of a circle,
 else 0; how far an arc bulges beyond its chord. All in nm."""
@@ -49,71 +50,83 @@ class Placement:
 
 @dataclass(frozen=True)
 class Things:
-    """What of a drawing may come to cross or to turn about. starts: where the pieces of each thing
-    begin. pairs: the places of two things that are drawn apart and end nowhere together. known:
-    what lies otherwise than it is drawn from the beginning. is_free: whether nothing ties it to the
-    datum's directions, so that no edge has a drawn way."""
+    """What of a drawing may come to cross or to turn about, whatever its dimensions are. outline,
+    rims: the edges, and the circles and arcs, that may cross. counts: of how many pieces each of
+    these is. pairs: the places of two of them that are drawn apart and end nowhere together. runs:
+    what runs its drawn way: nothing, where nothing ties it to the datum's directions. meeting: each
+    two straight things that locate one point."""
 
-    drawing: Drawing
-    known: Collection[Departure]
-    is_free: bool
+    outline: tuple[Segment, ...]
+    rims: tuple[Circle | Arc, ...]
     counts: tuple[int, ...]
     pairs: Indices
+    runs: tuple[Segment, ...]
+    meeting: tuple[tuple[Straight, Straight], ...]
 
     @staticmethod
-    def of(drawing: Drawing, solution: Solution, known: Collection[Departure],
-           is_free: bool) -> Things:
-        """The things of a drawing, of which one placement is known. Raises MissingPlace."""
-        edges = Edges(drawing, solution)
-        things: list[Edge | Rim] = [*_outline(edges), *_rims(drawing, solution)]
-        counts = tuple(_count(each.drawn) for each in things)
+    def of(edges: Edges, known: Collection[Departure], is_free: bool) -> Things:
+        """The things of a drawing, of which one placement is known. known: what lies otherwise than
+        it is drawn there. Raises MissingPlace."""
+        shapes = edges.drawing.geometry
+        segments = tuple(each for each in shapes if isinstance(each, Segment))
+        outline = tuple(each for each in segments if not each.construction)
+        rims = tuple(each for each in shapes
+                     if isinstance(each, Circle | Arc) and not each.construction)
+        things = _placed(edges, outline, rims)
         pairs = [places for places in combinations(range(len(things)), 2)
                  if _may_cross(edges, things[places[0]], things[places[1]], known)]
-        return Things(drawing, known, is_free, counts, np.array(pairs, np.intp).reshape(-1, 2))
+        return Things(outline, rims, tuple(_count(each.drawn) for each in things),
+                      np.array(pairs, np.intp).reshape(-1, 2), () if is_free else segments,
+                      tuple(_meeting(edges.drawing, segments)))
 
     def starts(self) -> Indices:
         """The place of the first piece of each thing."""
         return np.cumsum([0, *self.counts[:-1]], dtype=np.intp)
 
-    def placed(self, solution: Solution) -> Placement:
-        """A placement of all. Raises MissingPlace."""
-        edges = Edges(self.drawing, solution)
-        things: list[Edge | Rim] = [*_outline(edges), *_rims(self.drawing, solution)]
+    def placed(self, edges: Edges) -> Placement:
+        """A placement of all, of this drawing or of one with other dimensions. Raises
+        MissingPlace."""
+        things = _placed(edges, self.outline, self.rims)
         pieces = np.array([piece for each, count in zip(things, self.counts)
                            for piece in _pieces(each.placed, count)], float).reshape(-1, 6)
-        turns = (_turn(*each) for each in self._crossing(edges))
-        runs = np.array([*self._runs(edges), *turns], float)
+        turns = (_turn(_edge(edges, one), _edge(edges, other)) for one, other in self.meeting)
+        runs = np.array([*(_run(edges.of(each)) for each in self.runs), *turns], float)
         return Placement(pieces[:, :4].reshape(-1, 2, 2), pieces[:, 4], pieces[:, 5], runs)
 
-    def _runs(self, edges: Edges) -> Iterator[float]:
-        """How far each edge runs its drawn way."""
-        for shape in () if self.is_free else self.drawing.geometry:
-            if isinstance(shape, Segment):
-                edge = edges.of_shape(shape)
-                drawn = edge.drawn.way
-                yield float(dot(drawn, edge.placed.way)) / (hypot(*drawn) or 1)
 
-    def _straight(self, edges: Edges) -> list[Edge]:
-        """What goes straight from point to point: segments, and the ways of told distances."""
-        told = (each for each in self.drawing.constraints if isinstance(each, Distance))
-        shapes = (each for each in self.drawing.geometry if isinstance(each, Segment))
-        return [*map(edges.of_shape, shapes), *map(edges.of_distance, told)]
+def _placed(edges: Edges, outline: Sequence[Segment],
+            rims: Sequence[Circle | Arc]) -> list[Edge | Rim]:
+    """Edges and rims, as they are drawn and placed."""
+    return [*map(edges.of, outline),
+            *(Rim.of(edges.drawing, edges.solution, each) for each in rims)]
 
-    def _crossing(self, edges: Edges) -> Iterator[tuple[Edge, Edge]]:
-        """Each two straight things that locate one point: those that end there, and the lines that
-        it lies on or at a distance from, as the centre of a circle that touches them."""
-        straight, leader = self._straight(edges), self.drawing.meetings.leader
-        lines = {each.name: each for each in (*straight, *AXES)}
-        through: dict[PointRef, dict[str, Edge]] = {}
-        for edge in straight:
-            for end in edges.leaders(edge):
-                through.setdefault(end, {})[edge.name] = edge
-        for each in self.drawing.constraints:
-            for line, point in _lines_by_points(each):
-                if line in lines:
-                    through.setdefault(leader(point), {})[line] = lines[line]
-        for met in through.values():
-            yield from combinations(met.values(), 2)
+
+def _edge(edges: Edges, straight: Straight) -> Edge:
+    return straight if isinstance(straight, Edge) else edges.of(straight)
+
+
+def _run(edge: Edge) -> float:
+    """How far an edge runs its drawn way."""
+    return float(dot(edge.drawn.way, edge.placed.way)) / (hypot(*edge.drawn.way) or 1)
+
+
+def _meeting(drawing: Drawing, segments: Sequence[Segment]) -> Iterator[tuple[Straight, Straight]]:
+    """Each two straight things that locate one point: segments and the ways of told distances that
+    end there, and the lines that it lies on or at a distance from, as the centre of a circle that
+    touches them."""
+    leader = drawing.meetings.leader
+    lines: dict[str, Straight] = {each.name: each for each in (*segments, *AXES)}
+    through: dict[PointRef, dict[str, Straight]] = {}
+    told = (each for each in drawing.constraints if isinstance(each, Distance))
+    for side in (*segments, *told):
+        for end in leaders_of(drawing, side):
+            through.setdefault(end, {})[name_of(side)] = side
+    for each in drawing.constraints:
+        for line, point in _lines_by_points(each):
+            if line in lines:
+                through.setdefault(leader(point), {})[line] = lines[line]
+    for met in through.values():
+        yield from combinations(met.values(), 2)
 
 
 def _lines_by_points(said: Constraint) -> Iterator[tuple[str, PointRef]]:
@@ -130,16 +143,6 @@ def _turn(one: Edge, other: Edge) -> float:
     """How far the end of the shorter of two edges that meet lies aside of the longer one."""
     longest = max(hypot(*one.placed.way), hypot(*other.placed.way)) or 1
     return float(cross(one.placed.way, other.placed.way)) / longest
-
-
-def _outline(edges: Edges) -> list[Edge]:
-    return [edges.of_shape(shape) for shape in edges.drawing.geometry
-            if isinstance(shape, Segment) and not shape.construction]
-
-
-def _rims(drawing: Drawing, solution: Solution) -> list[Rim]:
-    return [Rim.of(drawing, solution, shape) for shape in drawing.geometry
-            if isinstance(shape, Circle | Arc) and not shape.construction]
 
 
 def _may_cross(edges: Edges, one: Edge | Rim, other: Edge | Rim,

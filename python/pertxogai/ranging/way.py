@@ -11,14 +11,12 @@ from pertxogai.drawing import Drawing, Segment
 from pertxogai.judging import (
     DrawingRefused, JudgedDrawing, Judgement, Names, Question, Trial, judge_at_once,
     reasons_against)
-from pertxogai.judging.departures import Departure, warnings
+from pertxogai.judging.departures import Comparison, Departure
 from pertxogai.judging.edges import Edges
 from pertxogai.judging.faults import failure
-from pertxogai.judging.limits import check_fits
 from pertxogai.judging.measure import Deviation, Limit
 from pertxogai.judging.measure.measuring import measure
-from pertxogai.judging.measure.solution import Solution
-from pertxogai.judging.mirrored import mirrored
+from pertxogai.judging.mirrored import Pieces
 from pertxogai.judging.printed import is_tied
 from pertxogai.judging.settled import settled
 from pertxogai.judging.trials import answered, finer, placed, written_by
@@ -30,7 +28,7 @@ from pertxogai.ranging.faults import (
     Fault, FaultKind, of_departures, of_deviation, of_failure, of_gone, of_mirrored, of_reason,
     of_surplus, of_verdict)
 from pertxogai.ranging.things import Things
-from pertxogai.spelling import READINGS, Reading, Style
+from pertxogai.spelling import READINGS, Interpretation, Reading, Style
 from pertxogai.spelling.reading import interpreted
 
 Found = TypeVar("Found")
@@ -42,18 +40,22 @@ class NoRange(Exception):
 
 @dataclass(frozen=True)
 class Way:
-    """A good drawing, where it is placed, what of it lies otherwise than it is drawn, what may come
-    to cross, and how it is told: by which reading and style. reading: None where no single one will
-    do, as where a value was read off a placed part, so that all ways are tried for each number."""
+    """A good drawing, its edges as they are placed, what of it lies otherwise than it is drawn,
+    what may depart from the drawing, lie mirrored, and come to cross, and how it is told: by which
+    reading and style. reading: None where no single one will do, as where a value was read off a
+    placed part, so that all ways are tried for each number. before: how the reading spells it."""
 
     drawing: Drawing
     program: Solver
     limit: Limit
-    solution: Solution
+    edges: Edges
     known: frozenset[Departure]
+    comparison: Comparison
+    pieces: Pieces
     things: Things
     style: Style
     reading: Reading | None
+    before: Interpretation | None
 
     @staticmethod
     def of(drawing: Drawing, program: Solver, limit: Limit = Limit(),
@@ -66,15 +68,15 @@ class Way:
         if reasons:
             raise NoRange(f"the drawing isn't good: {reasons[0].text}")
         assert judged.solution is not None
-        known = frozenset(judged.warnings)
-        things = Things.of(drawing, judged.solution, known, _is_free(judged.asked))
-        way = Way(drawing, program, limit, judged.solution, known, things, judged.style,
-                  _reading(judged))
+        edges, known = Edges(drawing, judged.solution), frozenset(judged.warnings)
+        things = Things.of(edges, known, _is_free(judged.asked))
+        way = Way(drawing, program, limit, edges, known, Comparison(drawing, judged.solution.radii),
+                  Pieces.of(drawing), things, judged.style, *_reading(judged))
         return replace(way, reading=None) if isinstance(way.placed(drawing), Fault) else way
 
-    def placed(self, drawing: Drawing) -> Solution | Fault:
-        """Where the drawing with another number lies, or why it isn't as this one is. Raises
-        ProgramError."""
+    def placed(self, drawing: Drawing) -> Edges | Fault:
+        """Where the edges of the drawing with another number lie, or why it isn't as this one is.
+        Raises ProgramError."""
         if self.reading is None:
             return self._placed_by_all(drawing)
         return _unless_refused(partial(self._by_one, drawing, self.reading))
@@ -84,13 +86,12 @@ class Way:
         `judge` finds it; or why there is none. Raises ProgramError."""
         return _unless_refused(partial(self._by_all, drawing))
 
-    def _placed_by_all(self, drawing: Drawing) -> Solution | Fault:
+    def _placed_by_all(self, drawing: Drawing) -> Edges | Fault:
         found = self.found_for(drawing)
-        return found if isinstance(found, Fault) else found.solution
+        return found if isinstance(found, Fault) else found.edges
 
-    def _by_one(self, drawing: Drawing, reading: Reading) -> Solution | Fault:
-        check_fits(drawing)
-        spellings = interpreted(drawing, reading)
+    def _by_one(self, drawing: Drawing, reading: Reading) -> Edges | Fault:
+        spellings = interpreted(drawing, reading, self.before)
         axes = spellings.axes
         spelled = spellings.spelled(self.style)
         names = Names(self.drawing, spelled, axes.facts.refs)
@@ -103,35 +104,35 @@ class Way:
             return of_verdict(trial.verdict)
         return self._of_failure(names, trial.solved)
 
-    def _of_places(self, drawing: Drawing, trial: Trial, solved: Solved) -> Solution | Fault:
+    def _of_places(self, drawing: Drawing, trial: Trial, solved: Solved) -> Edges | Fault:
         """What is told of the places; where something is wrong, also by finer angles."""
         found = self._of_placed(drawing, trial, solved)
-        if isinstance(found, Solution):
+        if isinstance(found, Edges):
             return found
         fine = finer(Question(drawing, self.program, self.limit), trial)
         if fine is trial or not isinstance(fine.solved, Solved):
             return found
         return self._of_placed(drawing, fine, fine.solved)
 
-    def _of_placed(self, drawing: Drawing, trial: Trial, solved: Solved) -> Solution | Fault:
+    def _of_placed(self, drawing: Drawing, trial: Trial, solved: Solved) -> Edges | Fault:
         found = settled(drawing, trial, solved)
+        edges = Edges(drawing, found.solution)
         off = next(self.limit.beyond(measure(drawing, found.solution)), None)
         if off is not None:
-            return self._of_deviation(off, found.solution)
+            return self._of_deviation(off, edges)
         if found.unsized:
             return Fault(FaultKind.UNSIZED, f"no size is given for {', '.join(found.unsized)}")
-        departures = [each for each in warnings(drawing, found.solution, _is_free(trial))
+        departures = [each for each in self.comparison.warnings(edges, _is_free(trial))
                       if each not in self.known]
         if departures:
             return of_departures(departures)
-        turned = next(iter(mirrored(drawing, found.solution)), None)
-        return found.solution if turned is None else of_mirrored(turned)
+        turned = next(self.pieces.mirrored(edges), None)
+        return edges if turned is None else of_mirrored(turned)
 
-    def _of_deviation(self, off: Deviation, solution: Solution) -> Fault:
+    def _of_deviation(self, off: Deviation, edges: Edges) -> Fault:
         """That a constraint isn't met, or that there are edges without a length there."""
-        edges = Edges(self.drawing, solution)
         gone = [each.name for each in self.drawing.geometry
-                if isinstance(each, Segment) and not any(edges.of_shape(each).placed.way)]
+                if isinstance(each, Segment) and not any(edges.of(each).placed.way)]
         return of_gone(gone) if gone else of_deviation(off, off.called(self.drawing))
 
     def _of_failure(self, names: Names, fault: ProgramFault) -> Fault:
@@ -151,11 +152,12 @@ class Way:
         if departures:
             return of_departures(departures)
         reasons = reasons_against(JudgedDrawing("", drawing, judged, limit=self.limit))
+        edges = Edges(drawing, judged.solution)
         if reasons:
             off = reasons[0].off
-            return self._of_deviation(off, judged.solution) if off else of_reason(reasons[0])
-        return replace(self, solution=judged.solution, style=judged.style,
-                       reading=_reading(judged))
+            return self._of_deviation(off, edges) if off else of_reason(reasons[0])
+        reading, before = _reading(judged)
+        return replace(self, edges=edges, style=judged.style, reading=reading, before=before)
 
 
 def _unless_refused(act: Callable[[], Found | Fault]) -> Found | Fault:
@@ -175,13 +177,13 @@ def _is_free(trial: Trial) -> bool:
     return not is_tied(trial.axes, trial.spelled)
 
 
-def _reading(judged: Judgement) -> Reading | None:
-    """The reading by which a drawing is well."""
+def _reading(judged: Judgement) -> tuple[Reading | None, Interpretation | None]:
+    """The reading by which a drawing is well, and how it spells it."""
     asked = judged.asked
     if asked.grown or asked.frozen:
-        return None
+        return None, None
     for reading in READINGS:
-        axes = interpreted(judged.names.drawing, reading).axes
-        if axes.facts == asked.axes.facts and axes.equations == asked.axes.equations:
-            return reading
-    return None
+        found = interpreted(judged.names.drawing, reading)
+        if found.axes.facts == asked.axes.facts and found.axes.equations == asked.axes.equations:
+            return reading, found
+    return None, None

@@ -6,6 +6,7 @@ from collections import Counter
 from collections.abc import Hashable
 from copy import copy
 from dataclasses import dataclass, replace
+from functools import cached_property
 from typing import NamedTuple, Protocol
 
 from pertxogai.classes import Classes
@@ -102,6 +103,30 @@ class Axes:
         other.loose = [fact for fact in self.loose if fact is not without]
         for each in equations:
             other.tell(each.form, each.owners)
+        return other
+
+    def revalued(self, facts: Facts) -> Axes | None:
+        """The same of facts that differ by the numbers of lengths alone, to be settled anew; None
+        where they differ otherwise."""
+        if not self.facts.says_but_for_lengths(facts):
+            return None
+        other = copy(self._of_lines)
+        other.facts = facts
+        other.system = self._of_lines.system.copied()
+        other._frames_of = {knot: set(each) for knot, each in self._of_lines._frames_of.items()}
+        other.equations, other.told = [*self._of_lines.equations], [*self._of_lines.told]
+        other.loose = []
+        for fact in facts.facts:
+            other._say(fact)
+        return other
+
+    @cached_property
+    def _of_lines(self) -> Axes:
+        """The same, of which the lines have told their equations alone."""
+        other = copy(self)
+        other.system, other._frames_of = LinearSystem(rank), {}
+        other.equations, other.told, other.loose = [], [], []
+        other._lines_say()
         return other
 
     def redrawn(self, facts: Facts) -> Axes | None:

@@ -191,6 +191,14 @@ class Facts:
         return all(getattr(self, each.name) == getattr(other, each.name)
                    for each in fields(self) if each.name != "drawn")
 
+    def says_but_for_lengths(self, other: Facts) -> bool:
+        """Whether others differ by the numbers of lengths alone, of which each is 0 where it is 0
+        here."""
+        return (len(self.facts) == len(other.facts)
+                and all(map(_are_alike, self.facts, other.facts))
+                and all(getattr(self, each.name) == getattr(other, each.name)
+                        for each in fields(self) if each.name != "facts"))
+
     def direction(self, line: Line) -> tuple[Number, Number]:
         """The drawn direction of a line, from its first own point to its second."""
         if isinstance(line, ShapeRef) and line.name in ("XAxis", "YAxis"):
@@ -205,3 +213,21 @@ class Facts:
         x, y = self.drawn[self.own[line][0]]
         u, v = self.drawn[point]
         return 1 if a * (v - y) - b * (u - x) >= 0 else -1
+
+
+def _are_alike(fact: Fact, other: Fact) -> bool:
+    """Whether two facts differ by the number of a length alone, of which neither is 0, if they
+    differ."""
+    if fact == other:
+        return True
+    if type(fact) is not type(other):
+        return False
+    return all(_is_alike(getattr(fact, each.name), getattr(other, each.name))
+               for each in fields(fact))
+
+
+def _is_alike(value: object, other: object) -> bool:
+    """Whether two values of facts differ by the number of a length alone."""
+    if not isinstance(value, Form) or not isinstance(other, Form):
+        return value == other
+    return value.terms == other.terms and bool(value.number) == bool(other.number)

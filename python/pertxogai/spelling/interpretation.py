@@ -9,7 +9,7 @@ from pertxogai.spelling.axes import Axes
 from pertxogai.spelling.facts import Facts
 from pertxogai.spelling.mirrors import with_halves, with_implied
 from pertxogai.spelling.rails import Rails
-from pertxogai.spelling.settling import settled_axes
+from pertxogai.spelling.settling import revalued_axes, settled_axes
 from pertxogai.spelling.style import Style
 from pertxogai.spelling.writing import Spelled, Writer
 
@@ -31,6 +31,18 @@ class Interpretation:
         made = []
         while facts is not None:
             axes = settled_axes(facts)
+            made.append(axes)
+            facts = with_implied(axes) or with_halves(axes)
+        return Interpretation(said, made)
+
+    def revalued(self, said: Facts) -> Interpretation:
+        """Those of facts of a drawing with other dimensions. Of the axes of facts that differ by
+        the numbers of lengths alone the lines and frames are taken over."""
+        facts: Facts | None = said
+        made: list[Axes] = []
+        while facts is not None:
+            known = self.made[len(made)] if len(made) < len(self.made) else None
+            axes = revalued_axes(known, facts) if known else settled_axes(facts)
             made.append(axes)
             facts = with_implied(axes) or with_halves(axes)
         return Interpretation(said, made)

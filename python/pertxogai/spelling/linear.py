@@ -72,6 +72,14 @@ class LinearSystem:
         self._marked: LinearSystem | None = None
         self._changed: set[Hashable] = set()
 
+    def copied(self) -> LinearSystem:
+        """The same equations, to which others are added."""
+        other = LinearSystem(self._rank)
+        other._values, other._kept = dict(self._values), [*self._kept]
+        other._users = {key: set(users) for key, users in self._users.items()}
+        other._changed = set(self._changed)
+        return other
+
     def add(self, form: Form, mark: int) -> Redundant | None:
         """Takes the equation form = 0; None where it says something new."""
         rest = self.reduced(form)

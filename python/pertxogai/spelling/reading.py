@@ -48,9 +48,12 @@ def axes_of(drawing: Drawing, reading: Reading = READINGS[0]) -> Axes:
     return Interpretation.of(_read(lowered(drawing), reading)).axes
 
 
-def interpreted(drawing: Drawing, reading: Reading) -> Interpretation:
-    """How a drawing is spelled by one reading."""
-    return Interpretation.of(_read(lowered(drawing), reading))
+def interpreted(drawing: Drawing, reading: Reading,
+                known: Interpretation | None = None) -> Interpretation:
+    """How a drawing is spelled by one reading. known: how one with other dimensions is, of which is
+    taken over what is the same."""
+    facts = _read(lowered(drawing), reading)
+    return Interpretation.of(facts) if known is None else known.revalued(facts)
 
 
 def axes_said(drawing: Drawing) -> Axes:

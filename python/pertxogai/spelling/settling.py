@@ -16,6 +16,16 @@ def settled_axes(facts: Facts) -> Axes:
     return axes
 
 
+def revalued_axes(known: Axes, facts: Facts) -> Axes:
+    """The same. known: the axes of other facts, of which the lines and frames are taken over where
+    these differ by the numbers of lengths alone."""
+    axes = known.revalued(facts)
+    if axes is None:
+        return settled_axes(facts)
+    Settling(axes).settle()
+    return axes
+
+
 def with_equation(axes: Axes, number: int | None, equation: Equation,
                   without: Apart | Off | None = None) -> Axes:
     """The axes with another equation in the place of one, or a new one, and without a distance."""

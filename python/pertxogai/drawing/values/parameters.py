@@ -84,7 +84,7 @@ class Dimension:
             raise DrawingUnsound(self.called(drawing), fault.word, fault.what) from None
         place = self.number - 1
         said = *drawing.constraints[:place], anew, *drawing.constraints[place + 1:]
-        return replace(drawing, constraints=said)
+        return drawing.with_numbers(said)
 
 
 Parameter = NamedValue | Dimension

@@ -46,14 +46,14 @@ def with_values(drawing: Drawing, changes: Mapping[str, Expression]) -> Drawing:
     sound then."""
     values = tuple(replace(each, expression=changes.get(each.name, each.expression))
                    for each in drawing.values)
-    return reckoned(replace(drawing, values=values))
+    return reckoned(drawing.with_numbers(drawing.constraints, values))
 
 
 def reckoned(drawing: Drawing) -> Drawing:
     """A drawing with each expression reckoned anew. Raises DrawingUnsound."""
     _check_values(drawing)
     said = tuple(_reckoned_all(drawing))
-    return replace(drawing, constraints=said) if said != drawing.constraints else drawing
+    return drawing.with_numbers(said) if said != drawing.constraints else drawing
 
 
 def _check_values(drawing: Drawing) -> None:

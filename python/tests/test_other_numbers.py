@@ -1,0 +1,95 @@
+"""What a drawing with other numbers takes over from the one it was made of is what is made anew."""
+from __future__ import annotations
+
+import random
+from collections.abc import Iterator
+from dataclasses import replace
+from fractions import Fraction
+
+import pytest
+
+from conftest import TOP
+from pertxogai.drawing import Arc, Circle, Drawing, DrawingUnsound, PointRef, parameters, read_drawing
+from pertxogai.judging.departures import Comparison, warnings
+from pertxogai.judging.edges import Edges
+from pertxogai.judging.measure import Solution
+from pertxogai.judging.mirrored import Pieces, mirrored
+from pertxogai.language import NotHeld
+from pertxogai.spelling import READINGS, Style
+from pertxogai.spelling.reading import interpreted
+
+DRAWINGS = sorted((TOP / "python" / "tests" / "drawings").glob("*.drawing"))
+FACTORS = (Fraction(1, 7), Fraction(9, 10), 2)
+
+
+def with_other_numbers(drawing: Drawing) -> Iterator[Drawing]:
+    """The drawing with a few other numbers for each value and dimension, 0 among them."""
+    for of in parameters(drawing):
+        for number in (*(of.present * factor for factor in FACTORS), Fraction(0)):
+            try:
+                yield of.on(drawing, number)
+            except DrawingUnsound:
+                pass
+
+
+def anew(drawing: Drawing) -> Drawing:
+    """The same, with nothing taken over."""
+    return replace(drawing)
+
+
+def texts(drawing: Drawing, known: Drawing | None) -> Iterator[list[str]]:
+    """How each reading is spelled in each style, from what a known drawing is spelled as, or not."""
+    for reading in READINGS:
+        before = None if known is None else interpreted(known, reading)
+        found = interpreted(drawing, reading, before)
+        try:
+            yield [found.spelled(style).sketch.text() for style in Style]
+        except NotHeld:
+            yield []
+
+
+@pytest.mark.parametrize("path", DRAWINGS, ids=lambda it: it.stem)
+def test_a_drawing_is_spelled_as_anew(path):
+    drawing = read_drawing(path.read_text())
+    for other in [*with_other_numbers(drawing)][::5]:
+        assert [*texts(other, drawing)] == [*texts(anew(other), None)]
+
+
+def test_a_length_that_comes_to_nothing_is_spelled_as_anew():
+    # Where B lies above A, two lines share two points, and are one.
+    drawing = read_drawing("point A 0 0\npoint B 5 9\npoint C 2 20\ncoincident A Origin\nx A B 5\n"
+                           "y A B 9\ndistance A C 20\ndistance B C 12\n")
+    (other,) = (each for each in with_other_numbers(drawing)
+                if each.constraints[1].value_um == 0)
+    assert [*texts(other, drawing)] == [*texts(anew(other), None)]
+
+
+def moved(drawing: Drawing, chance: random.Random) -> Solution:
+    """Places by chance, some of them far from where the points are drawn."""
+    def spot(ref: PointRef) -> tuple[int, int]:
+        at, size = drawing.scene.drawn_nm(ref), chance.choice([10 ** 5, 10 ** 7, 10 ** 8])
+        return at[0] + chance.randint(-size, size), at[1] + chance.randint(-size, size)
+
+    places = {}
+    for ref in drawing.points():
+        leader = drawing.meetings.leader(ref)
+        places[ref] = places.get(leader) or ((0, 0) if leader.shape == "Origin" else spot(leader))
+    rims = [each.name for each in drawing.geometry if isinstance(each, Circle | Arc)]
+    return Solution(places, {name: chance.randint(10 ** 5, 10 ** 8) for name in rims})
+
+
+@pytest.mark.parametrize("path", DRAWINGS, ids=lambda it: it.stem)
+def test_departures_are_those_found_anew(path):
+    drawing, chance = read_drawing(path.read_text()), random.Random(path.stem)
+    others = [drawing, *with_other_numbers(drawing)][:4]
+    radii = moved(drawing, chance).radii
+    comparison, pieces = Comparison(drawing, radii), Pieces.of(drawing)
+    for other in others:
+        solution = moved(other, chance)
+        edges = Edges(other, solution)
+        fresh = anew(other)
+        for free in (False, True):
+            assert comparison.warnings(edges, free) == warnings(fresh, solution, free)
+        assert [*pieces.mirrored(edges)] == [*mirrored(fresh, solution)]
+        assert all(other.meetings.leader(each) == fresh.meetings.leader(each)
+                   and other.drawn(each) == fresh.drawn(each) for each in other.points())
