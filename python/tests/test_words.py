@@ -152,7 +152,8 @@ COMPLETED = [
     ("sketch excess", "pl", ["place=boxes", "place=points"]),
     ("sketch live", "f", ["frame=base", "frame=drawn"]),
     ("sketch grow", "n", ["n="]),
-    ("pertxogai", "", ["judge", "draw", "complete", "range", "family", "certify", "page", "--help", "--version"]),
+    ("pertxogai", "", ["judge", "watch", "draw", "complete", "range", "family", "fit", "certify", "page", "--help",
+                       "--version"]),
     ("pertxogai judge", "--w", ["--within", "--write"]),
     ("pertxogai page", "--p", ["--port", "--program"]),
 ]
