@@ -94,15 +94,34 @@ def nearest_ratio(p: int | Fraction, q: int | Fraction) -> tuple[int, int]:
     p/q."""
     if q == 0:
         return (1, 0) if p > 0 else (-1, 0)
-    tangent = Fraction(p) / Fraction(q)
-    if abs(tangent) <= 1:
-        near = tangent.limit_denominator(MOST_RATIO)
-        return (
-            (near.numerator, near.denominator) if near else (1 if tangent >= 0 else -1, MOST_RATIO)
-        )
-    near = (1 / tangent).limit_denominator(MOST_RATIO)
-    sign = -1 if tangent < 0 else 1
-    return sign * near.denominator, abs(near.numerator)
+    above, below = p.numerator * q.denominator, p.denominator * q.numerator
+    sign = -1 if (above < 0) != (below < 0) and above else 1
+    above, below = abs(above), abs(below)
+    if above <= below:
+        less, more = _limited(above, below)
+        return (sign * less, more) if less else (sign, MOST_RATIO)
+    less, more = _limited(below, above)
+    return sign * more, less
+
+
+def _limited(less: int, more: int) -> tuple[int, int]:
+    """The fraction nearest to less/more, from 0 to 1, of which the second number isn't beyond
+    MOST_RATIO: as `Fraction.limit_denominator`, whose fractions take most of the time."""
+    divisor = math.gcd(less, more)
+    less, more = less // divisor, more // divisor
+    if more <= MOST_RATIO:
+        return less, more
+    before, last, above, below = (0, 1), (1, 0), less, more
+    while True:
+        part, rest = divmod(above, below)
+        following = before[0] + part * last[0], before[1] + part * last[1]
+        if following[1] > MOST_RATIO:
+            break
+        before, last, above, below = last, following, below, rest
+    part = (MOST_RATIO - before[1]) // last[1]
+    beside = before[0] + part * last[0], before[1] + part * last[1]
+    off, other = (abs(each[0] * more - less * each[1]) for each in (last, beside))
+    return last if off * beside[1] <= other * last[1] else beside
 
 
 def ratios_beside(p: int, q: int) -> Iterator[tuple[int, int]]:

@@ -82,27 +82,37 @@ class Lean:
 
     def radians(self) -> float:
         """The turn in radians, near enough for a drawing."""
-        return float(self.degrees) * pi / 180 + atan2(self.left, self.ahead)
+        turn = self.degrees.numerator / self.degrees.denominator
+        return turn * pi / 180 + atan2(self.left, self.ahead)
 
 
 @lru_cache(maxsize=256)
 def _halves(lean: Lean) -> tuple[Lean, Lean]:
     """The two ratios that come nearest, of those of which the first is small."""
     goal = lean.radians()
-    tried = ((p, q) for q in range(1, 40) for p in range(-q, q + 1) if p and gcd(p, q) == 1)
-    pairs = (_pair(goal, p, q) for p, q in tried)
-    return min((pair for pair in pairs if pair is not None),
-               key=lambda pair: abs(sin(goal - pair[0].radians() - pair[1].radians())))
+    pairs = ((first, turn, near) for first, turn in _small_leans()
+             if (near := _near_rest(goal - turn)) is not None)
+    first, _, (p, q) = min(pairs, key=lambda each: abs(sin(goal - each[1] - _turn_of(*each[2]))))
+    return first, _make(Fraction(0), q, p)
 
 
-def _pair(goal: float, p: int, q: int) -> tuple[Lean, Lean] | None:
-    """The lean of a small ratio, and that of the ratio nearest the rest."""
-    first = _make(Fraction(0), q, p)
-    tangent = tan(goal - first.radians())
-    if not 0.01 <= abs(tangent) <= 100:
-        return None
-    rest = nearest_ratio(Fraction(tangent), 1)
-    return first, _make(Fraction(0), rest[1], rest[0])
+@lru_cache(maxsize=1)
+def _small_leans() -> tuple[tuple[Lean, float], ...]:
+    """The leans of small ratios, with their turns in radians."""
+    ratios = ((p, q) for q in range(1, 40) for p in range(-q, q + 1) if p and gcd(p, q) == 1)
+    leans = (_make(Fraction(0), q, p) for p, q in ratios)
+    return tuple((each, each.radians()) for each in leans)
+
+
+def _near_rest(turn: float) -> tuple[int, int] | None:
+    """The ratio nearest to a turn; None where that is nearly level or upright."""
+    tangent = tan(turn)
+    return nearest_ratio(*tangent.as_integer_ratio()) if 0.01 <= abs(tangent) <= 100 else None
+
+
+def _turn_of(p: int, q: int) -> float:
+    """The turn of a ratio, as its lean has it."""
+    return _make(Fraction(0), q, p).radians() if abs(p) == q else atan2(p, q)
 
 
 SQUARE = Lean(Fraction(90))
@@ -121,9 +131,10 @@ def _make(degrees: Fraction, ahead: int, left: int) -> Lean:
             degrees, ahead, left = degrees + 45, 1, 0
         case (1, -1):
             degrees, ahead, left = degrees - 45, 1, 0
-    degrees %= 180
-    if left and degrees >= 45:
-        return _make(degrees % 45, *_turn_by_eighths(ahead, left, degrees))
+    if degrees:
+        degrees %= 180
+        if left and degrees >= 45:
+            return _make(degrees % 45, *_turn_by_eighths(ahead, left, degrees))
     return Lean(degrees, ahead, left)
 
 
