@@ -25,6 +25,8 @@ LONGEST = ("board/test_board_browser", "hunt/test_answers_are_so", "test_redrawn
            "test_hostile_files", "test_release", "board/test_board_measured",
            "board/test_board_labels", "board/test_board_selecting", "test_claims", "test_search")
 """The files of tests that take longest, the longest first."""
+KINDS = {"window": "browser", "dist": "release"}
+"""The kind of the tests that take a fixture, which `python/tests/run --without` leaves out."""
 
 
 @dataclass(frozen=True)
@@ -90,9 +92,13 @@ EXAMPLES = sorted((TOP / "examples").rglob("*.sketch"))
 
 def pytest_collection_modifyitems(items: list[pytest.Item]) -> None:
     """Has the files that take longest begin first, so that none of them is left for one processor
-    at the end."""
+    at the end, and marks the kinds of tests that a fixture tells."""
     place_of = {TESTS / f"{name}.py": place for place, name in enumerate(LONGEST)}
     items.sort(key=lambda item: place_of.get(item.path, len(LONGEST)))
+    for item in items:
+        names = item.fixturenames if isinstance(item, pytest.Function) else ()
+        for kind in {KINDS[name] for name in names if name in KINDS}:
+            item.add_marker(kind)
 
 
 @pytest.fixture(scope="session")

@@ -23,7 +23,9 @@ sys.path.insert(0, str(TOP / "tools"))
 from packing.addon import make_addon  # noqa: E402
 from packing.made import Made  # noqa: E402
 
-pytestmark = pytest.mark.skipif(CONSOLE is None, reason="Debian's freecad isn't installed")
+pytestmark = [
+    pytest.mark.freecad,
+    pytest.mark.skipif(CONSOLE is None, reason="Debian's freecad isn't installed")]
 
 WELL = "Sketch is well (fully constrained)"
 OPEN = "Sketch is open (under-constrained, or rigid in a way not found)"

@@ -40,6 +40,7 @@ def counts(paths: Sequence[Path], folder: Path) -> dict[tuple[str, str], int | N
             for file, sketch, count in lines}
 
 
+@pytest.mark.freecad
 @needs_freecad
 def test_freedoms_are_freecads_where_both_count(tmp_path):
     counted, compared = counts(FILES, tmp_path), 0
@@ -52,6 +53,7 @@ def test_freedoms_are_freecads_where_both_count(tmp_path):
     assert compared > 40
 
 
+@pytest.mark.freecad
 @needs_freecad
 def test_a_file_with_what_completes_it_is_fully_constrained_for_freecad(tmp_path):
     written = []

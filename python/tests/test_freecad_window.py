@@ -14,6 +14,7 @@ from pertxogai.program import Program
 from screens import XVFB
 
 pytestmark = [
+    pytest.mark.freecad,
     pytest.mark.skipif(WINDOW is None, reason="Debian's freecad isn't installed"),
     pytest.mark.skipif(XVFB is None, reason="Debian's xvfb isn't installed")]
 

@@ -31,6 +31,7 @@ MOST_BRANCHES = 12
 
 # The page's own modules.
 
+@pytest.mark.types
 @pytest.mark.skipif(TSC is None, reason="types are checked by Debian's node-typescript")
 def test_the_pages_types_hold() -> None:
     told = subprocess.run([str(TSC), "-p", BOARD / "jsconfig.json"], capture_output=True,
@@ -38,6 +39,7 @@ def test_the_pages_types_hold() -> None:
     assert (told.stdout, told.returncode) == ("", 0)
 
 
+@pytest.mark.types
 @pytest.mark.skipif(TSC is None, reason="types are checked by Debian's node-typescript")
 def test_a_wrong_field_of_an_answer_is_found(tmp_path: Path) -> None:
     """So the types are those of the protocol, and not `any`."""
@@ -57,6 +59,7 @@ def test_every_module_is_checked_and_its_lines_are_short(path: Path) -> None:
     assert [line for line in lines if len(line) > MOST_COLUMNS or "@ts-ignore" in line] == []
 
 
+@pytest.mark.types
 @pytest.mark.skipif(TSC is None or NODE is None, reason="read by Debian's node-typescript")
 def test_functions_have_few_branches(tmp_path: Path) -> None:
     assert branches(MOST_BRANCHES, *SCRIPTS) == []
