@@ -40,10 +40,11 @@ def test_the_files_that_begin_first_stand() -> None:
     assert [name for name in LONGEST if not (TESTS / f"{name}.py").is_file()] == []
 
 
+@pytest.mark.types
 @pytest.mark.skipif(importlib.util.find_spec("mypy") is None, reason="without python3-mypy")
-def test_types_hold_throughout(tmp_path: Path) -> None:
-    told = run("mypy", "--strict", "--no-error-summary", "--cache-dir", str(tmp_path), "pertxogai",
-               "../freecad/pertxogai_freecad")
+def test_types_hold_throughout() -> None:
+    """What mypy keeps in python/.mypy_cache makes it quick where little has changed."""
+    told = run("mypy", "--strict", "--no-error-summary", "pertxogai", "../freecad/pertxogai_freecad")
     assert told.splitlines() == []
 
 
