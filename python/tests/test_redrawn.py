@@ -1,11 +1,14 @@
 """What an edit has drawn elsewhere is spelled as if it were spelled anew, and the program is asked
-once for each spelling."""
+once for each spelling. PERTXOGAI_MOVES=100 tries every point of every drawing of the gallery, which
+takes some minutes."""
 from __future__ import annotations
 
+import os
 from collections.abc import Iterator, Sequence
 from dataclasses import dataclass, field, replace
 from fractions import Fraction
 from pathlib import Path
+from random import Random
 
 import pytest
 
@@ -25,6 +28,8 @@ DRAWINGS = sorted((Path(__file__).parent / "drawings").glob("*.drawing"))
 WAYS = [(Fraction(1), Fraction(2)), (Fraction(-70_000), Fraction(40_000))]
 """A move of a few micrometres, and one that changes sides."""
 TIMES = (Fraction(1, 2), Fraction(5))
+MOST_MOVES = int(os.environ.get("PERTXOGAI_MOVES", "6"))
+"""How many moves of a drawing are tried, those of the same points each time."""
 
 
 def spelled(edited: EditedDrawing) -> list[dict[str, object]]:
@@ -61,8 +66,9 @@ def moves(drawing: Drawing) -> Iterator[Move]:
 
 
 def moved(drawing: Drawing) -> Iterator[Drawing]:
-    """The drawing after each of these moves that it allows."""
-    for move in moves(drawing):
+    """The drawing after some of these moves, where it allows them."""
+    found = list(moves(drawing))
+    for move in Random(0).sample(found, min(len(found), MOST_MOVES)):
         try:
             yield checked(move.on(drawing), drawing)
         except DrawingUnsound:
