@@ -16,22 +16,34 @@ Indices: TypeAlias = NDArray[np.intp]
 Matrix: TypeAlias = Any
 """An array of two dimensions, or a sparse matrix of scipy, which has no types."""
 Entry: TypeAlias = tuple[int, int, float]
-"""Row, column and value."""
+"""Row, column and value; of a sum its number, that of what is added, and the factor."""
 
 LEAST_SINGULAR = 1e-9
 """A singular value below this part of the greatest counts as 0 in a least step."""
 REGULAR = 1e-13
 """Takes the place of 0 in the sparse system of a least step, so that repeated rows do no harm."""
+LEAST_ROW = 1e-9
+"""A row that is shorter is 0."""
 FILLED = 8
 """Where JJ' may have more than so many times the entries of J, a step is sought together with its
 multipliers."""
 
 
-def matrix_of(entries: Iterable[Entry], shape: tuple[int, int]) -> Matrix:
-    """The matrix of these entries; those of one place add up."""
-    found = list(entries)
-    rows, columns, values = zip(*found) if found else ((), (), ())
-    return sparse.csr_matrix((values, (rows, columns)), shape=shape, dtype=float)
+class Sums:
+    """So many sums of some numbers, each number times its factor: what a constant sparse matrix
+    gives of a vector. It is put together in a fraction of the time that scipy's takes."""
+
+    def __init__(self, entries: Iterable[Entry], count: int) -> None:
+        found = list(entries)
+        self._count = count
+        self._sums = np.array([each[0] for each in found], dtype=np.intp)
+        self._numbers = np.array([each[1] for each in found], dtype=np.intp)
+        self._factors = np.array([each[2] for each in found], dtype=float)
+
+    def of(self, numbers: Array) -> Array:
+        """The sums of these numbers."""
+        weights = self._factors * numbers[self._numbers]
+        return np.asarray(np.bincount(self._sums, weights, self._count), dtype=np.float64)
 
 
 def is_sparse(matrix: Matrix) -> bool:

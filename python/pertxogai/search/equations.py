@@ -12,7 +12,7 @@ from typing import NamedTuple, Self
 import numpy as np
 
 from pertxogai.drawing import Drawing
-from pertxogai.search.arrays import Array, Entry, Matrix, matrix_of
+from pertxogai.search.arrays import Array, Entry, Matrix, Sums
 from pertxogai.search.combination import Combination
 from pertxogai.search.constraint_rows import rows_of
 from pertxogai.search.kinds import Asides, Distances, EqualLengths, Leans, RowsOfKind, Ways
@@ -76,13 +76,14 @@ class System:
     # -- how it is put together
 
     def _assemble(self) -> None:
-        rows, count = self.rows, self.count
+        rows = self.rows
         first_way = np.cumsum([0, *(len(row.ways) for row in rows)]).tolist()
         all_ways = [way for row in rows for way in row.ways]
         self._numbers_nm = np.array([row.number_nm for row in rows])
-        self._linear = matrix_of(_linear_entries(rows), (len(rows), count))
+        linear = list(_linear_entries(rows))
+        self._linear = Sums(linear, len(rows))
         self._constant = np.array([(way.x_nm, way.y_nm) for way in all_ways]).reshape(-1, 2)
-        self._of_ways = matrix_of(_way_entries(all_ways), (2 * len(all_ways), count))
+        self._of_ways = Sums(_way_entries(all_ways), 2 * len(all_ways))
         drawn = self._ways(self.drawn)
         self._leans = Leans(rows, first_way, drawn, LEAST_LEAN * self.size_nm)
         kinds: tuple[RowsOfKind, ...] = (
@@ -90,14 +91,14 @@ class System:
             Asides(rows, first_way, drawn), self._leans)
         self._kinds = tuple(kind for kind in kinds if len(kind.rows))
         pairs = [pair for kind in self._kinds for pair in kind.pairs()]
-        self._pattern = Pattern(self._linear, _slope_entries(pairs, all_ways), 2 * len(pairs))
+        self._pattern = Pattern((len(rows), self.count), linear, _slope_entries(pairs, all_ways))
 
     def _ways(self, x: Array) -> Ways:
-        xy = (self._of_ways @ x).reshape(-1, 2) + self._constant
+        xy = self._of_ways.of(x).reshape(-1, 2) + self._constant
         return Ways.of(xy, LEAST_WAY * self.size_nm)
 
     def _off(self, x: Array, ways: Ways) -> Array:
-        off: Array = self._linear @ x - self._numbers_nm
+        off = self._linear.of(x) - self._numbers_nm
         for kind in self._kinds:
             off[kind.rows] += kind.values(ways)
         return off

@@ -7,7 +7,7 @@ from typing import TypeAlias
 import numpy as np
 from scipy import sparse
 
-from pertxogai.search.arrays import Array, Matrix, matrix_of
+from pertxogai.search.arrays import Array, Entry, Matrix, Sums
 
 SlopeEntry: TypeAlias = tuple[int, int, int, float]
 """Row and column of an entry, the number of a slope, and its factor there."""
@@ -16,28 +16,26 @@ MOST_DENSE = 30_000
 
 
 class Pattern:
-    """A constant matrix, and what so many slopes add to it: some nothing, as those of what is
-    given."""
+    """A constant matrix, and what slopes add to it: some nothing, as those of what is given."""
 
-    def __init__(self, constant: Matrix, slopes: Iterable[SlopeEntry], count: int) -> None:
-        self._shape: tuple[int, int] = constant.shape
-        self._is_dense = self._shape[0] * self._shape[1] <= MOST_DENSE
-        added, known = list(slopes), constant.tocoo()
-        places = [row * self._shape[1] + column for row, column, _, _ in added]
-        known_places = known.row.astype(np.int64) * self._shape[1] + known.col
-        self._places, entry = np.unique(np.concatenate([known_places, places]).astype(np.int64),
-                                        return_inverse=True)
+    def __init__(self, shape: tuple[int, int], constant: Iterable[Entry],
+                 slopes: Iterable[SlopeEntry]) -> None:
+        self._shape = shape
+        self._is_dense = shape[0] * shape[1] <= MOST_DENSE
+        known, added = list(constant), list(slopes)
+        places = [row * shape[1] + column for row, column, *_ in (*known, *added)]
+        self._places, entry = np.unique(np.array(places, dtype=np.int64), return_inverse=True)
         self._constant = np.zeros(len(self._places))
-        np.add.at(self._constant, entry[:len(known_places)], known.data)
-        self._of_slopes = matrix_of(
+        np.add.at(self._constant, entry[:len(known)], [value for _, _, value in known])
+        self._of_slopes = Sums(
             ((place, slope, factor) for place, (_, _, slope, factor)
-             in zip(entry[len(known_places):].tolist(), added)), (len(self._places), count))
+             in zip(entry[len(known):].tolist(), added)), len(self._places))
 
     def matrix(self, slopes: Sequence[Array]) -> Matrix:
         """The Jacobian where the slopes are these."""
         values = self._constant
         if slopes:
-            values = values + self._of_slopes @ np.concatenate(slopes)
+            values = values + self._of_slopes.of(np.concatenate(slopes))
         if self._is_dense:
             whole = np.zeros(self._shape[0] * self._shape[1])
             whole[self._places] = values
