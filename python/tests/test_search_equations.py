@@ -2,13 +2,18 @@
 
 from __future__ import annotations
 
+from dataclasses import replace
+from itertools import islice
 from pathlib import Path
 
 import numpy as np
 import pytest
 
-from pertxogai.drawing import read_drawing
-from pertxogai.search.arrays import dense
+from pertxogai.completing.dimensions import Kind, dimensions
+from pertxogai.completing.figure import Figure
+from pertxogai.drawing import PointOn, read_drawing
+from pertxogai.search.arrays import Sums, dense
+from pertxogai.search.constraint_rows import rows_asked
 from pertxogai.search.equations import Equations
 from pertxogai.search.rank import CUT, rank_of
 from strips import strip
@@ -40,6 +45,35 @@ def test_slopes_of_a_sparse_jacobian_are_what_differences_say():
     equations = Equations(read_drawing(strip(200)))
     assert not isinstance(equations.tangents(equations.drawn).jacobian, np.ndarray)
     assert_slopes_are_differences(equations, range(0, len(equations.drawn), 37))
+
+
+@pytest.mark.parametrize("path", DRAWINGS, ids=lambda path: path.stem)
+def test_rows_beside_a_drawing_are_those_that_it_has_with_the_constraint(path):
+    drawing = read_drawing(path.read_text())
+    equations = Equations(drawing)
+    figure = Figure(drawing)
+    points = figure.points
+    asked = [each for kind in (Kind.SIZE, Kind.LENGTH, Kind.RUN, Kind.HEIGHT, Kind.APART)
+             for each in islice(dimensions(figure, kind, points[0]), 20)
+             if not isinstance(each, PointOn)]
+    more = Equations(replace(drawing, constraints=(*drawing.constraints, *asked)))
+    rows = (row for each in asked for row in rows_asked(equations.unknowns, each))
+    beside = equations.beside(rows).tangents(equations.drawn)
+    whole = more.tangents(more.drawn)
+    count = len(beside.off)
+    assert count == len(more.rows) - len(equations.rows) > 0
+    assert np.array_equal(beside.off, whole.off[-count:])
+    assert np.array_equal(dense(beside.jacobian), dense(whole.jacobian)[-count:])
+
+
+@pytest.mark.parametrize("count", [0, 3])
+def test_sums_are_those_of_a_matrix(count):
+    entries = [(0, 1, 2.0), (2, 0, -1.0), (0, 1, 0.5), (2, 2, 4.0)][:count]
+    matrix = np.zeros((3, 3))
+    for row, column, factor in entries:
+        matrix[row, column] += factor
+    numbers = np.array([3.0, 5.0, 7.0])
+    assert np.array_equal(Sums(entries, 3).of(numbers), matrix @ numbers)
 
 
 def test_the_rank_of_a_peeled_matrix_is_that_of_the_dense_one():

@@ -5,9 +5,11 @@ from __future__ import annotations
 from collections.abc import Iterable, Iterator, Sequence
 from dataclasses import dataclass, replace
 from enum import Enum
+from functools import cached_property
 
 import numpy as np
 
+from pertxogai.cached import cached_on
 from pertxogai.completing.dimensions import (
     ORDERS, Kind, base_of, dimensions, run_x, run_y, size_of, ties)
 from pertxogai.completing.figure import Figure
@@ -129,15 +131,22 @@ def choose(slack: Slack, taste: Taste) -> Choice | None:
     own = [*related.drawing.constraints[len(slack.drawing.constraints):], *related.parallel]
     left = Left(Remaining.all(related))
     for firmness in FIRMNESS:
-        for each, demand in candidates(related, taste, left):
-            if left.is_nothing():
-                break
-            if left.take(demand, firmness):
-                own.append(each)
+        own += taken(candidates(related, taste, left), left, firmness)
     if not left.is_nothing():
         return None
     datum = tied(related, left.remaining)
     return None if datum is None else Choice(tuple(own), datum)
+
+
+def taken(asked: Iterable[Asked], left: Left, firmness: float) -> Iterator[Constraint]:
+    """Those of some constraints that fix something that is still free, until nothing is."""
+    if left.is_nothing():
+        return
+    for constraint, demand in asked:
+        if left.take(demand, firmness):
+            yield constraint
+            if left.is_nothing():
+                return
 
 
 def choose_places(slack: Slack) -> Choice | None:
@@ -173,32 +182,55 @@ def tied(slack: Slack, remaining: Remaining) -> tuple[Constraint, ...] | None:
     return None if remaining.count() else tuple(datum)
 
 
+class Offers:
+    """The dimensions that may be given to a placed drawing, with the values that they have there
+    and what they ask: each kind is worked out once, as soon as it is asked for."""
+
+    def __init__(self, slack: Slack) -> None:
+        self._slack, self._figure = slack, Figure(slack.placed, slack.drawing)
+        self._of_kind: dict[Kind, list[Asked]] = {}
+
+    @cached_property
+    def _base(self) -> PointRef:
+        """Where x and y are told from: the origin where the whole is tied to it."""
+        return base_of(self._figure) if self._slack.whole.shape[1] else ORIGIN
+
+    @cached_property
+    def turns(self) -> Turns:
+        """The edges that may turn."""
+        return Turns(self._slack, self._figure, self._base)
+
+    def of(self, kind: Kind) -> Sequence[Asked]:
+        """Those of a kind, in their order."""
+        if kind not in self._of_kind:
+            points = self._figure.points
+            told = list(dimensions(self._figure, kind, self._base)) if points else []
+            self._of_kind[kind] = list(_as_placed(self._slack, self._slack.demands(told)))
+        return self._of_kind[kind]
+
+    def turned(self, left: Left) -> Iterator[Asked]:
+        """The angles of the edges that turn; nothing new where nothing was taken since it was
+        asked."""
+        while (remaining := left.changed()) is not None:
+            yield from _as_placed(self._slack, self.turns.of(remaining))
+
+
+@cached_on
+def offers_of(slack: Slack) -> Offers:
+    """The dimensions that may be given to a placed drawing."""
+    return Offers(slack)
+
+
 def candidates(slack: Slack, taste: Taste, left: Left) -> Iterator[Asked]:
-    """The dimensions that may be taken, in their order, with the values that they have where a
-    drawing is placed; behind the lengths the angle of each edge that turns, as soon as it does."""
-    figure = Figure(slack.placed, slack.drawing)
-    if not figure.points:
-        return
-    base = _base(slack, figure)
-    turns = Turns(slack, figure, base) if taste.angles else None
+    """The dimensions that may be taken, in their order; behind the lengths the angle of each edge
+    that turns, as soon as it does."""
+    offers = offers_of(slack)
     for kind in taste.order:
-        told = [each for each in dimensions(figure, kind, base) if taste.allows(each)]
-        for asked in _as_placed(slack, slack.demands(told)):
-            if turns is not None and kind not in (Kind.SIZE, Kind.LENGTH):
-                yield from _turned(slack, taste, turns, left)
-            yield asked
-
-
-def _turned(slack: Slack, taste: Taste, turns: Turns, left: Left) -> Iterator[Asked]:
-    """The angles of the edges that turn; nothing new where nothing was taken since it was asked."""
-    while (remaining := left.changed()) is not None:
-        told = [each for each in turns.of(remaining) if taste.allows(each[0])]
-        yield from _as_placed(slack, told)
-
-
-def _base(slack: Slack, figure: Figure) -> PointRef:
-    """Where x and y are told from: the origin where the whole is tied to it."""
-    return base_of(figure) if slack.whole.shape[1] else ORIGIN
+        for asked in offers.of(kind):
+            if taste.angles and kind not in (Kind.SIZE, Kind.LENGTH):
+                yield from (each for each in offers.turned(left) if taste.allows(each[0]))
+            if taste.allows(asked[0]):
+                yield asked
 
 
 def _as_placed(slack: Slack, asked: Iterable[Asked]) -> Iterator[Asked]:

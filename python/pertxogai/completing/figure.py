@@ -19,6 +19,7 @@ class Figure:
 
     def __init__(self, placed: Drawing, drawn: Drawing | None = None) -> None:
         self.drawing, self._drawn = placed, drawn or placed
+        self._at: dict[PointRef, complex] = {}
         own = [shape for shape in placed.geometry if not shape.outer]
         self.edges = [shape for shape in own
                       if isinstance(shape, Segment) and self.length_um(shape) >= LEAST_UM]
@@ -47,8 +48,10 @@ class Figure:
 
     def at(self, ref: PointRef) -> complex:
         """Where a point lies."""
-        place = self.drawing.meetings.drawn(ref)
-        return complex(place.x_um, place.y_um)
+        if ref not in self._at:
+            place = self.drawing.meetings.drawn(ref)
+            self._at[ref] = complex(place.x_um, place.y_um)
+        return self._at[ref]
 
     def drawn_at(self, ref: PointRef) -> complex:
         """Where a point is drawn."""

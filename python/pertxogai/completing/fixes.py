@@ -10,13 +10,17 @@ import numpy as np
 from pertxogai.completing.proposal import Proposal
 from pertxogai.drawing import (
     ORIGIN, AngleBetween, Constraint, Distance, Drawing, Horizontal, Length, Parallel,
-    Perpendicular, PointRef, Vertical, Which, XDistance, YDistance)
+    Perpendicular, PointOn, PointRef, Vertical, Which, XDistance, YDistance)
+from pertxogai.drawing.meetings import joins_points
 from pertxogai.drawing.mentions import refs_of
 from pertxogai.judging.measure import Solution
-from pertxogai.search.arrays import Array
+from pertxogai.search.arrays import Array, stacked, unit_rows
+from pertxogai.search.constraint_rows import rows_asked
 from pertxogai.search.equations import Equations
-from pertxogai.search.freedom import freedom
+from pertxogai.search.motions import Motions, motions
+from pertxogai.search.rank import rank_of
 from pertxogai.search.rounding import unknowns_of
+from pertxogai.search.unknowns import Unknowns
 
 _DIRECTIONS = Horizontal, Vertical, Parallel, Perpendicular, AngleBetween
 Way = tuple[float, float]
@@ -39,17 +43,44 @@ class Loose:
     turns: bool
 
     @staticmethod
-    def of(drawing: Drawing, solution: Solution) -> Loose:
-        """What of a drawing is loose where a solution has it."""
-        equations = Equations(drawing)
-        found = freedom(equations, unknowns_of(equations.unknowns, solution)).motions
+    def of(drawing: Drawing, unknowns: Unknowns, found: Motions) -> Loose:
+        """What of a drawing is loose by its motions."""
         of_leader: dict[PointRef, list[Way]] = {}
         for each in found.moves:
             of_leader.setdefault(each.point, []).append((each.dx, each.dy))
-        ways = {ref: tuple(of_leader.get(equations.unknowns.leader(ref), ()))
-                for ref in drawing.points()}
-        turns = _turns(found.whole[:2 * len(equations.unknowns.points)])
+        ways = {ref: tuple(of_leader.get(unknowns.leader(ref), ())) for ref in drawing.points()}
+        turns = _turns(found.whole[:2 * len(unknowns.points)])
         return Loose(ways, frozenset(found.rims), found.of_the_whole - turns, turns)
+
+
+class Fixing:
+    """A drawing where a solution has it, while one constraint after the other is added."""
+
+    def __init__(self, drawing: Drawing, solution: Solution) -> None:
+        self._solution = solution
+        self._begin(drawing)
+
+    def _begin(self, drawing: Drawing) -> None:
+        self.drawing, self._equations = drawing, Equations(drawing)
+        self._x = unknowns_of(self._equations.unknowns, self._solution)
+        self._slopes = unit_rows(self._equations.tangents(self._x).jacobian)
+
+    def add(self, constraint: Constraint) -> None:
+        """Adds a constraint. One that makes points one, or puts a point on a shape, changes what
+        others ask: then all is put together anew."""
+        drawing = replace(self.drawing, constraints=(*self.drawing.constraints, constraint))
+        if isinstance(constraint, PointOn) or joins_points(constraint):
+            self._begin(drawing)
+            return
+        asked = self._equations.beside(rows_asked(self._equations.unknowns, constraint))
+        self.drawing = drawing
+        self._slopes = stacked(self._slopes, unit_rows(asked.tangents(self._x).jacobian))
+
+    def loose(self) -> Loose:
+        """What of it is loose."""
+        unknowns = self._equations.unknowns
+        free = rank_of(self._slopes, len(unknowns.points)).free
+        return Loose.of(self.drawing, unknowns, motions(unknowns, self._x, self._slopes, free))
 
 
 def _turns(whole: Array) -> bool:
@@ -62,11 +93,12 @@ def proposals(drawing: Drawing, added: Sequence[Constraint],
               solution: Solution) -> Iterator[Proposal]:
     """What is added to a drawing, each with what it fixes beside those before it; solution: where
     the drawing with all of them is placed."""
-    before = Loose.of(drawing, solution)
+    fixing = Fixing(drawing, solution)
+    before = fixing.loose()
     for constraint in added:
-        drawing = replace(drawing, constraints=(*drawing.constraints, constraint))
-        after = Loose.of(drawing, solution)
-        fixed = tuple(_fixed(drawing, constraint, before, after))
+        fixing.add(constraint)
+        after = fixing.loose()
+        fixed = tuple(_fixed(fixing.drawing, constraint, before, after))
         yield Proposal(constraint, fixed or tuple(_against(constraint)))
         before = after
 

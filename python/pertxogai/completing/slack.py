@@ -2,21 +2,24 @@
 of that: by the rank of what it asks there, in floats."""
 from __future__ import annotations
 
-from collections.abc import Sequence
-from dataclasses import dataclass, replace
+from collections.abc import Iterator, Sequence
+from dataclasses import dataclass
 from fractions import Fraction
+from functools import cached_property
+from itertools import accumulate, chain
 
 import numpy as np
 
 from pertxogai.drawing import (
-    Constraint, Drawing, Parallel, ParallelDistance, PointOn, Sense, XDistance, YDistance)
+    Constraint, Drawing, Parallel, ParallelDistance, Sense, XDistance, YDistance)
 from pertxogai.drawing.meetings import JOINING_ALONE, pair_of
-from pertxogai.search.arrays import Array, Indices, dense
+from pertxogai.search.arrays import Array, dense
+from pertxogai.search.constraint_rows import rows_asked
 from pertxogai.search.equations import Equations
 from pertxogai.search.rank import wide
 from pertxogai.search.rounding import solution_of
+from pertxogai.search.row import Row
 from pertxogai.search.searched import Searched, searched
-from pertxogai.search.unknowns import By
 from pertxogai.search.values import drawn_at
 
 FIRM = 1e-3
@@ -34,7 +37,8 @@ class Slack:
     """A drawing that the search has placed. placed: the same drawn where it was placed. ways: how
     the unknowns may move, and whole: those ways in which all of it moves at once, as columns of
     length 1 that are square to each other. parallel: that lines are parallel of which a distance
-    is told, and of which nothing else says so."""
+    is told, and of which nothing else says so. says_twice: whether a constraint follows from others
+    there."""
 
     drawing: Drawing
     placed: Drawing
@@ -43,6 +47,7 @@ class Slack:
     ways: Array
     whole: Array
     parallel: tuple[Parallel, ...]
+    says_twice: bool
 
     @staticmethod
     def of(drawing: Drawing, seconds: float | None = None) -> Slack | None:
@@ -58,40 +63,30 @@ class Slack:
         distances = (drawing.constraints[number - 1] for number in sorted(freedom.crooked))
         parallel = tuple(Parallel(each.first, each.second) for each in distances
                          if isinstance(each, ParallelDistance))
-        return Slack(drawing, placed, equations, x, ways, whole, parallel)
+        return Slack(drawing, placed, equations, x, ways, whole, parallel,
+                     bool(freedom.dependencies))
 
     def demands(self, constraints: Sequence[Constraint]) -> list[tuple[Constraint, Demand]]:
         """Some constraints, each with what it asks."""
-        # A point on an edge tells where a tangent touches: so those are looked at apart.
-        on = [isinstance(each, PointOn) for each in constraints]
-        kinds = {is_on: iter(self._demands_together(
-            [each for each, it in zip(constraints, on) if it is is_on])) for is_on in set(on)}
-        return [(each, next(kinds[is_on])) for each, is_on in zip(constraints, on)]
+        asked = [list(self._rows(each)) for each in constraints]
+        off, jacobian = self.equations.beside(chain.from_iterable(asked)).tangents(self.x)
+        rows = _unit(dense(jacobian))
+        by_way, ends = rows @ self.ways, list(accumulate(map(len, asked), initial=0))
+        return [(constraint, Demand(by_way[start:end], rows[start:end],
+                                    float(np.abs(off[start:end]).max(initial=0.0))))
+                for constraint, start, end in zip(constraints, ends, ends[1:])]
 
-    def _demands_together(self, constraints: Sequence[Constraint]) -> list[Demand]:
-        told = [(place, each) for place, constraint in enumerate(constraints)
-                for each in _without_joining(constraint)]
-        own = self.drawing.constraints
-        equations = Equations(replace(self.drawing, constraints=(*own, *(it for _, it in told))))
-        off, jacobian = equations.tangents(self.x)
-        rows: list[list[int]] = [[] for _ in constraints]
-        for number, row in enumerate(equations.rows):
-            if row.source.by is not By.SHAPE and row.source.number > len(own):
-                rows[told[row.source.number - len(own) - 1][0]].append(number)
-        return [self._demand(dense(jacobian[numbers]), off[numbers]) for numbers in rows]
+    def _rows(self, constraint: Constraint) -> Iterator[Row]:
+        """The rows of a constraint; which points the drawing says are one stays as it is."""
+        for each in _without_joining(constraint):
+            yield from rows_asked(self.equations.unknowns, each)
 
-    def _demand(self, rows: Array, off: Array) -> Demand:
-        lengths = np.linalg.norm(rows, axis=1)
-        unit = rows / np.where(lengths > SEEN, lengths, 1.0)[:, None]
-        there = tuple(self.ways[self._of_points(row)] for row in unit)
-        return Demand(unit @ self.ways, there, float(np.abs(off).max(initial=0.0)))
-
-    def _of_points(self, row: Array) -> Indices:
-        """The unknowns that a row speaks of, of a point both x and y."""
+    def around(self, row: Array) -> Array:
+        """How the points and radii that a row speaks of may move: of a point both x and y."""
         coordinates = 2 * len(self.equations.unknowns.points)
         columns = np.flatnonzero(np.abs(row) > SEEN)
         pairs = columns[columns < coordinates]
-        found: Indices = np.unique(np.concatenate([columns, pairs ^ 1]))
+        found: Array = self.ways[np.unique(np.concatenate([columns, pairs ^ 1]))]
         return found
 
     def most_off_nm(self) -> float:
@@ -102,12 +97,19 @@ class Slack:
 @dataclass(frozen=True)
 class Demand:
     """What a constraint asks where a drawing is placed. by_way: how each of its rows, of length 1,
-    changes with the ways in which the drawing may move. there: how the points and radii of each row
-    move by these. off_nm: by how much it is off."""
+    changes with the ways in which the drawing may move. rows: these rows, by unknown. off_nm: by
+    how much it is off."""
 
     by_way: Array
-    there: tuple[Array, ...]
+    rows: Array
     off_nm: float
+
+
+def _unit(rows: Array) -> Array:
+    """Rows, each of length 1 but for those that are nothing."""
+    lengths = np.linalg.norm(rows, axis=1)
+    found: Array = rows / np.where(lengths > SEEN, lengths, 1.0)[:, None]
+    return found
 
 
 def _without_joining(constraint: Constraint) -> tuple[Constraint, ...]:
@@ -138,7 +140,7 @@ class Remaining:
 
     def of_the_whole(self) -> int:
         """How many of these move the whole."""
-        return int(self._whole().shape[1])
+        return int(self._whole.shape[1])
 
     def after(self, demand: Demand, firmness: float = 0.0,
               ties_the_whole: bool = False) -> Remaining | None:
@@ -148,14 +150,18 @@ class Remaining:
         if not ties_the_whole and self.moves_with_the_whole(demand):
             return None
         without = self.without
-        for row, there in zip(demand.by_way, demand.there):
-            rest = row - without.T @ (without @ row)
+        for row, by_way in zip(demand.rows, demand.by_way):
+            rest = by_way - without.T @ (without @ by_way)
             size = float(np.linalg.norm(rest))
-            moving = np.linalg.norm(there - there @ without.T @ without)
-            if size <= max(FIRM, firmness * float(moving)):
+            if size <= FIRM or firmness and size <= firmness * self._moving(row, without):
                 return None
             without = np.vstack([without, rest / size])
         return Remaining(self.slack, without) if len(demand.by_way) else None
+
+    def _moving(self, row: Array, without: Array) -> float:
+        """How much moves of what a row speaks of, without some directions."""
+        around = self.slack.around(row)
+        return float(np.linalg.norm(around - around @ without.T @ without))
 
     def is_fixed(self, demand: Demand) -> bool:
         """Whether some of what a constraint asks doesn't remain free."""
@@ -163,8 +169,9 @@ class Remaining:
 
     def moves_with_the_whole(self, demand: Demand) -> bool:
         """Whether what a constraint asks changes where the whole is moved."""
-        return bool(np.abs(demand.by_way @ self._whole()).max(initial=0.0) > SEEN)
+        return bool(np.abs(demand.by_way @ self._whole).max(initial=0.0) > SEEN)
 
+    @cached_property
     def _whole(self) -> Array:
         """The motions of the whole that remain."""
         whole = self.slack.whole

@@ -36,7 +36,8 @@ class Meetings:
         order = [ORIGIN, *drawing.points()]
         self._rank = {point: place for place, point in enumerate(order)}
         self._classes: Classes[PointRef] = Classes()
-        self._ahead: dict[int, bool] = {}
+        self._ahead: dict[int, tuple[XDistance | YDistance, bool]] = {}
+        """By the identity of a distance, which is held so that none other gets it."""
         for pair in joined(drawing):
             self._join(pair)
         self._on = {(self.leader(each.point), each.curve) for each in drawing.constraints
@@ -76,9 +77,10 @@ class Meetings:
         key = id(distance)
         if key not in self._ahead:
             first, second = self.drawn(distance.first), self.drawn(distance.second)
-            self._ahead[key] = (second.x_um >= first.x_um if isinstance(distance, XDistance)
-                                else second.y_um >= first.y_um)
-        return self._ahead[key]
+            is_ahead = (second.x_um >= first.x_um if isinstance(distance, XDistance)
+                        else second.y_um >= first.y_um)
+            self._ahead[key] = distance, is_ahead
+        return self._ahead[key][1]
 
     def same(self, first: PointRef, second: PointRef) -> bool:
         """Whether the two points coincide."""

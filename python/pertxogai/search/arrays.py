@@ -75,6 +75,25 @@ def columns_times(matrix: Matrix, factors: Array) -> Matrix:
     return matrix @ sparse.diags(factors) if is_sparse(matrix) else matrix * factors
 
 
+def row_factors(matrix: Matrix) -> Array:
+    """By what each row is multiplied to have length 1; one that is 0 by 1."""
+    lengths = np.sqrt(row_squares(matrix))
+    found: Array = 1 / np.where(lengths > LEAST_ROW, lengths, 1.0)
+    return found
+
+
+def unit_rows(matrix: Matrix) -> Matrix:
+    """Each row with length 1, but for those that are 0."""
+    return rows_times(matrix, row_factors(matrix))
+
+
+def stacked(upper: Matrix, lower: Matrix) -> Matrix:
+    """The rows of one matrix and then those of another, sparse where the first is."""
+    if is_sparse(upper):
+        return sparse.vstack([upper, lower], format="csr")
+    return np.vstack([upper, dense(lower)])
+
+
 def damped_step(jacobian: Matrix, wanted: Array, damping: float) -> Array:
     """J'(JJ' + damping)^-1 wanted: without damping the least step that does what is wanted."""
     if is_sparse(jacobian):

@@ -33,6 +33,12 @@ def rows_of(unknowns: Unknowns) -> Iterator[Row]:
         yield from _Asked(unknowns, Source(By.CONSTRAINT, number)).rows(constraint)
 
 
+def rows_asked(unknowns: Unknowns, constraint: Constraint) -> Iterable[Row]:
+    """The rows of a constraint that would come last in the drawing."""
+    number = len(unknowns.drawing.constraints) + 1
+    return _Asked(unknowns, Source(By.CONSTRAINT, number)).rows(constraint)
+
+
 class _Asked:
     """Writes the rows of one constraint, or of one shape."""
 

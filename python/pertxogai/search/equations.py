@@ -112,6 +112,10 @@ class Equations(System):
         drawn = self.unknowns.drawn()
         super().__init__(rows_of(self.unknowns), drawn, _size_nm(self.unknowns, drawn))
 
+    def beside(self, rows: Iterable[Row]) -> System:
+        """Rows of other constraints on the same unknowns."""
+        return System(rows, self.drawn, self.size_nm)
+
 
 def _size_nm(unknowns: Unknowns, drawn: Array) -> float:
     points = 2 * len(unknowns.points)

@@ -9,10 +9,9 @@ from dataclasses import dataclass, replace
 import numpy as np
 
 from pertxogai.classes import Classes
-from pertxogai.search.arrays import Array, Indices, Matrix, row_squares, rows_times
+from pertxogai.search.arrays import Array, Indices, Matrix, unit_rows
 from pertxogai.search.combination import Combination
 from pertxogai.search.equations import Equations, System
-from pertxogai.search.freedom import LEAST_ROW
 from pertxogai.search.motions import SEEN
 from pertxogai.search.rank import Free, rank_of
 from pertxogai.search.row import Row
@@ -64,7 +63,7 @@ def _firm(equations: Equations, x: Array, loose: Collection[int] | None) -> set[
     """The unknowns that are fixed by rows which speak of no others that move. That an unknown
     stays to the first order isn't enough: at its dead point a slider does. So what rows tie to what
     moves is looked at again without these."""
-    jacobian = _of_length_one(equations.tangents(x).jacobian)
+    jacobian = unit_rows(equations.tangents(x).jacobian)
     if loose is None:
         loose = set(loose_columns(rank_of(jacobian, len(equations.unknowns.points)).free))
     columns = [columns_of(row) for row in equations.rows]
@@ -95,12 +94,6 @@ def _moves_without(jacobian: Matrix, columns: Sequence[set[int]], firm: set[int]
 def _join(pieces: Classes[int], columns: Sequence[int]) -> None:
     for column in columns[1:]:
         pieces.join(columns[0], column)
-
-
-def _of_length_one(jacobian: Matrix) -> Matrix:
-    """A Jacobian with its rows brought to length 1."""
-    lengths = np.sqrt(row_squares(jacobian))
-    return rows_times(jacobian, 1 / np.where(lengths > LEAST_ROW, lengths, 1.0))
 
 
 def _hanging(equations: Equations, held: Collection[int], firm: Collection[int]) -> set[int]:

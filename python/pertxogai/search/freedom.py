@@ -4,17 +4,12 @@ from __future__ import annotations
 
 from dataclasses import dataclass
 
-import numpy as np
-
-from pertxogai.search.arrays import Array, row_squares, rows_times
+from pertxogai.search.arrays import Array, row_factors, rows_times
 from pertxogai.search.dependencies import Dependency, dependencies
 from pertxogai.search.equations import Equations
 from pertxogai.search.motions import Motions, motions
 from pertxogai.search.rank import Free, rank_of
 from pertxogai.search.unknowns import By
-
-LEAST_ROW = 1e-9
-"""A row of a smaller slope is 0."""
 
 
 @dataclass(frozen=True)
@@ -38,8 +33,7 @@ def freedom(equations: Equations, x: Array) -> Freedom:
     """The freedoms where the unknowns are x."""
     unknowns = equations.unknowns
     off, jacobian = equations.tangents(x)
-    lengths = np.sqrt(row_squares(jacobian))
-    factors = 1 / np.where(lengths > LEAST_ROW, lengths, 1.0)
+    factors = row_factors(jacobian)
     jacobian = rows_times(jacobian, factors)
     rank = rank_of(jacobian, len(unknowns.points))
     found = [each for dependent in rank.dependent
