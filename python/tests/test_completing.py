@@ -5,7 +5,8 @@ first relations that the drawing nearly has, then sizes, lengths, x and y, heigh
 angles."""
 from __future__ import annotations
 
-from dataclasses import replace
+from collections.abc import Sequence
+from dataclasses import dataclass, field, replace
 from fractions import Fraction
 from pathlib import Path
 from random import Random
@@ -22,7 +23,9 @@ from pertxogai.completing.values import round_degrees, round_um
 from pertxogai.drawing import (
     AngleBetween, Coincident, Concentric, Diameter, Distance, Drawing, Length, PointLineDistance,
     Radius, XDistance, YDistance, line_of, read_drawing, words_of)
+from pertxogai.judging import Question, first_good
 from pertxogai.judging.measure import Limit
+from pertxogai.program import Answer, Solver
 from pertxogai.search.searched import Searched
 
 TESTS = Path(__file__).parent
@@ -192,6 +195,40 @@ def test_what_each_line_fixes(program):
     assert [(each.line(), each.fixes) for each in found.proposals] == [
         ("length PlateBottom 80", ("PlateBottom.end", "PlateRight.end along x")),
         ("length PlateRight 50", ("PlateRight.end", "PlateTop.end"))]
+
+
+@dataclass
+class Texts:
+    """A program, and the sketches that it was asked about, in order."""
+
+    program: Solver
+    asked: list[str] = field(default_factory=list)
+
+    def ask(self, words: Sequence[str], text: str) -> Answer:
+        self.asked.append(text)
+        return self.program.ask(words, text)
+
+
+@pytest.mark.parametrize("text, lines, questions", [
+    # Two lengths: the plate with both, and with each a little more and a little less.
+    (PLATE, 2, 1 + 2 * 2),
+    # Two lengths, and the size, x and y of a hole; no line of the sketch tells the size, so it is
+    # the same with another. Then once more with the place of the corner.
+    ("rectangle Plate 0 0 80 50\ncircle H 20 30 5\n", 5, 1 + 2 * 4 + 1)])
+def test_how_many_questions_are_asked(text, lines, questions, program):
+    texts = Texts(program)
+    found = complete(read_drawing(text), texts)
+    assert isinstance(found, Completion) and len(found.proposals) == lines
+    assert len(texts.asked) == len(set(texts.asked)) == questions
+
+
+def test_a_drawing_in_which_something_is_told_twice_is_asked_about_first(program):
+    texts = Texts(program)
+    drawing = read_drawing(PLATE + "length PlateBottom 80\nlength PlateTop 80\n")
+    assert isinstance(complete(drawing, texts), NoProposal)
+    alone = Texts(program)
+    first_good(Question(drawing, alone))
+    assert texts.asked == alone.asked
 
 
 def test_a_value_that_leaves_no_room_is_given_up_for_another(program):

@@ -3,6 +3,7 @@ program has the last word."""
 from __future__ import annotations
 
 from collections.abc import Iterable, Iterator
+from functools import cached_property
 
 from pertxogai.completing.trials import Trials, State
 from pertxogai.completing.choosing import (
@@ -25,19 +26,71 @@ ROUNDS = 6
 """The most dimensions that are given up for others since they leave their values no room."""
 
 
+class OpenDrawing:
+    """A sound drawing that is to be completed: what of it is free, the trials by the program, and
+    what the program says of the drawing itself, asked only where that is needed."""
+
+    def __init__(self, drawing: Drawing, program: Solver, limit: Limit) -> None:
+        self.drawing, self.trials = drawing, Trials(program, limit)
+        self.slack = Slack.of(drawing)
+        self._question = Question(drawing, program, limit)
+        self._completed: dict[Choice, Completion | None] = {}
+
+    @cached_property
+    def state(self) -> State:
+        """What the program says of it. Raises as `completion_of`."""
+        return State.of(first_good(self._question))
+
+    def is_over(self) -> bool:
+        """Whether the program calls it over. Raises as `completion_of`."""
+        return self.state.verdict is Verdict.OVER
+
+    def why_not(self) -> WhyNot | None:
+        """Why nothing is to be proposed; None where something is free. Where nothing is said twice
+        by numbers, the program isn't asked about the drawing itself: it is asked about what is
+        proposed, and where the first proposal isn't good, whether the drawing is over. Raises as
+        `completion_of`."""
+        slack = self.slack
+        if slack is not None and slack.ways.shape[1] and not slack.says_twice:
+            return None
+        if self.is_over():
+            return WhyNot.OVER
+        if slack is None:
+            is_placed = searched(self.drawing).found.is_solved()
+            return WhyNot.TOO_MUCH if is_placed else WhyNot.NO_PLACES
+        if slack.ways.shape[1]:
+            return None
+        return WhyNot.NOTHING if self.state.verdict is Verdict.WELL else WhyNot.RIGID
+
+    def completion(self, choice: Choice) -> Completion | None:
+        """The completion by a choice; None where it isn't good. Raises ProgramError."""
+        if choice not in self._completed:
+            self._completed[choice] = self._complete(choice)
+        return self._completed[choice]
+
+    def _complete(self, choice: Choice) -> Completion | None:
+        """The completion by a choice, without what ties the whole where that isn't placed."""
+        for datum in dict.fromkeys((choice.datum, ())):
+            added = (*choice.own, *datum)
+            good = self.trials.good(with_more(self.drawing, added))
+            if good is not None:
+                found = tuple(proposals(self.drawing, added, good.solution))
+                own = len(choice.own)
+                return Completion(found[:own], found[own:], good, datum == choice.datum)
+        return None
+
+
 def completion_of(drawing: Drawing, program: Solver, limit: Limit) -> Completion | NoProposal:
     """What completes a sound drawing. Raises ProgramError, DrawingRefused, Refusal, NotHeld."""
-    trials = Trials(program, limit)
-    state, slack = State.of(first_good(Question(drawing, program, limit))), Slack.of(drawing)
-    why = _why_not(drawing, state, slack)
+    whole = OpenDrawing(drawing, program, limit)
+    why = whole.why_not()
     if why is None:
-        assert slack is not None
-        found = _first_tied(_completion(drawing, choice, trials)
-                            for choice in _choices(slack, state, trials))
+        found = _first_tied(map(whole.completion, _choices(whole)))
         if found is not None:
             return found
-    is_good = why is WhyNot.NOTHING and trials.good(drawing) is not None
-    return NoProposal(why or WhyNot.STUCK, state.verdict, state.is_placed, is_good)
+        why = WhyNot.OVER if whole.is_over() else WhyNot.STUCK
+    is_good = why is WhyNot.NOTHING and whole.trials.good(drawing) is not None
+    return NoProposal(why, whole.state.verdict, whole.state.is_placed, is_good)
 
 
 def _first_tied(found: Iterable[Completion | None]) -> Completion | None:
@@ -52,26 +105,16 @@ def _first_tied(found: Iterable[Completion | None]) -> Completion | None:
     return best
 
 
-def _why_not(drawing: Drawing, state: State, slack: Slack | None) -> WhyNot | None:
-    """Why nothing is to be proposed; None where something is free."""
-    if state.verdict is Verdict.OVER:
-        return WhyNot.OVER
-    if slack is None:
-        is_placed = searched(drawing).found.is_solved()
-        return WhyNot.TOO_MUCH if is_placed else WhyNot.NO_PLACES
-    if slack.ways.shape[1]:
-        return None
-    return WhyNot.NOTHING if state.verdict is Verdict.WELL else WhyNot.RIGID
-
-
-def _choices(slack: Slack, state: State, trials: Trials) -> Iterator[Choice]:
-    """What may complete it, with room for each value, in the order in which it is tried."""
+def _choices(whole: OpenDrawing) -> Iterator[Choice]:
+    """What may complete it, with room for each value, in the order in which it is tried: only the
+    first where the program calls the drawing over."""
+    slack, trials = whole.slack, whole.trials
+    assert slack is not None
     ways = (*(_by_rank(slack, taste, trials) for taste in TASTES), _by_places(slack, trials),
-            *(_one_by_one(slack, taste, state, trials) for taste in TASTES),
-            _told_back(slack, state, trials))
+            *(_one_by_one(slack, taste, whole) for taste in TASTES), _told_back(slack, whole))
     for way in ways:
         yield from way
-        if trials.is_over():
+        if trials.is_over() or whole.is_over():
             return
 
 
@@ -125,13 +168,13 @@ def _placed(drawing: Drawing, choice: Choice, trials: Trials) -> Drawing | None:
 # -- where that isn't enough
 
 
-def _one_by_one(slack: Slack, taste: Taste, state: State, trials: Trials) -> Iterator[Choice]:
+def _one_by_one(slack: Slack, taste: Taste, whole: OpenDrawing) -> Iterator[Choice]:
     """What completes it where each constraint is taken once the program sees less missing with it,
     and finds places for all that had some, also with a little more and a little less."""
-    related = with_relations(slack, taste)
+    related, trials = with_relations(slack, taste), whole.trials
     chosen = list(related.drawing.constraints[len(slack.drawing.constraints):])
     told, left = related.drawing, Left(Remaining.all(related))
-    state = trials.state(told, by_parts=True) or state
+    state = trials.state(told, by_parts=True) or whole.state
     for constraint, demand in candidates(related, taste, left):
         if left.remaining.after(demand) is None or trials.is_over():
             continue
@@ -144,11 +187,11 @@ def _one_by_one(slack: Slack, taste: Taste, state: State, trials: Trials) -> Ite
             return
 
 
-def _told_back(slack: Slack, state: State, trials: Trials) -> Iterator[Choice]:
+def _told_back(slack: Slack, whole: OpenDrawing) -> Iterator[Choice]:
     """What completes it as the program completes its spelled sketch: that may be spelled otherwise
     with each line more, so it is asked again."""
-    there = with_relations(slack, Taste((), Relate.LEVEL))
-    state = trials.state(there.drawing, by_parts=True) or state
+    there, trials = with_relations(slack, Taste((), Relate.LEVEL)), whole.trials
+    state = trials.state(there.drawing, by_parts=True) or whole.state
     for _ in range(ROUNDS):
         more = _told_back_once(there, state, trials)
         if more is None:
@@ -175,16 +218,3 @@ def _told_back_once(slack: Slack, state: State, trials: Trials) -> tuple[Slack, 
             remaining, state, told = more, better, with_more(told, [constraint])
     there = Slack.of(told) if told is not slack.drawing else None
     return (there, state) if there is not None else None
-
-
-def _completion(drawing: Drawing, choice: Choice, trials: Trials) -> Completion | None:
-    """The completion by a choice, without what ties the whole where that isn't placed; None where
-    it isn't good at all."""
-    for datum in dict.fromkeys((choice.datum, ())):
-        added = (*choice.own, *datum)
-        good = trials.good(with_more(drawing, added))
-        if good is not None:
-            found = tuple(proposals(drawing, added, good.solution))
-            own = len(choice.own)
-            return Completion(found[:own], found[own:], good, datum == choice.datum)
-    return None

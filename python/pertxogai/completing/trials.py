@@ -12,7 +12,10 @@ from pertxogai.drawing import (
     Radius, XDistance, YDistance)
 from pertxogai.judging import (
     DrawingRefused, GoodJudgement, JudgedDrawing, Names, PlaceBy, Question, Trial, first_good,
-    good_of, judge_at_once)
+    good_of)
+from pertxogai.judging.edited import EditedDrawing
+from pertxogai.judging.judgement import judge_trial
+from pertxogai.judging.limits import check_fits
 from pertxogai.judging.measure import Limit
 from pertxogai.judging.remembering import Remembering
 from pertxogai.judging.trials import written_by
@@ -63,11 +66,12 @@ class State:
 
 
 class Trials:
-    """Tries drawings by the program, within a number of them and a time."""
+    """Tries drawings of the same shapes by the program, within a number of them and a time."""
 
     def __init__(self, program: Solver, limit: Limit) -> None:
         self._program, self._limit = Remembering(Wider(program, limit)), limit
         self._left, self._end = MOST_ASKED, spent_seconds() + MOST_SECONDS
+        self._known: dict[tuple[Constraint, ...], Trial | None] = {}
 
     def is_over(self) -> bool:
         """Whether no more may be tried."""
@@ -108,10 +112,11 @@ class Trials:
 
     def good(self, drawing: Drawing) -> GoodJudgement | None:
         """The judgement on a drawing that is good; None where it isn't. Raises ProgramError."""
-        try:
-            judgement = judge_at_once(drawing, self._program, limit=self._limit)
-        except (DrawingRefused, Refusal, NotHeld):
+        trial = self._asked(drawing)
+        if trial is None or not isinstance(trial.solved, Solved):
             return None
+        question = Question(drawing, self._program, self._limit)
+        judgement = judge_trial(EditedDrawing(drawing), trial, question)
         found = good_of(JudgedDrawing("", drawing, judgement, limit=self._limit))
         return found if isinstance(found, GoodJudgement) else None
 
@@ -142,7 +147,18 @@ class Trials:
 
     def _trial(self, drawing: Drawing) -> Trial | None:
         self._left -= 1
+        return self._asked(drawing)
+
+    def _asked(self, drawing: Drawing) -> Trial | None:
+        """What the program says of a drawing, asked once; None where it takes no such drawing."""
+        constraints = drawing.constraints
+        if constraints not in self._known:
+            self._known[constraints] = self._ask(drawing)
+        return self._known[constraints]
+
+    def _ask(self, drawing: Drawing) -> Trial | None:
         try:
+            check_fits(drawing)
             return first_good(Question(drawing, self._program, self._limit))
         except (DrawingRefused, Refusal, NotHeld):
             return None

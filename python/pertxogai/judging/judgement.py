@@ -287,7 +287,11 @@ def judge_edited(edited: EditedDrawing, program: Solver, freeze: bool = False,
     """The same of a drawing that an edit has made. Raises as `judge_at_once`."""
     check_fits(edited.drawing)
     question = Question(edited.drawing, program, limit)
-    asked = first_good(question, freeze, spelled=edited.readings())
+    return judge_trial(edited, first_good(question, freeze, spelled=edited.readings()), question)
+
+
+def judge_trial(edited: EditedDrawing, asked: Trial, question: Question) -> Judgement:
+    """The same of a drawing that was tried already. Raises ProgramError."""
     judged = _judgement(edited, asked, question)
     if not any(each.amount > FINE_NM for each in judged.deviations):
         return judged
@@ -404,4 +408,4 @@ def weighed(judged: Judgement, program: Solver) -> WeighedJudgement:
 
 
 __all__ = ["CountedJudgement", "Judgement", "WeighedJudgement", "judge", "judge_at_once",
-           "judge_edited", "weighed", "with_choices", "with_counts"]
+           "judge_edited", "judge_trial", "weighed", "with_choices", "with_counts"]
