@@ -1,7 +1,7 @@
 """What the program answers on a document: the judgement, its plan, its other shapes, its claim."""
 from __future__ import annotations
 
-from dataclasses import dataclass
+from dataclasses import dataclass, field
 from functools import cached_property
 from typing import TYPE_CHECKING
 
@@ -11,7 +11,7 @@ from pertxogai.board.judgement_json import places_shown
 from pertxogai.board.panel import Untold
 from pertxogai.board.placed_parts import LaidPart, parts_laid, shown_between
 from pertxogai.board.protocol import Judgement as JudgementJson, Places
-from pertxogai.drawing import Drawing
+from pertxogai.drawing import Drawing, Parameter
 from pertxogai.exits import MissingLibrary
 from pertxogai.judging import (
     Judgement, TooMuch, WeighedJudgement, too_much, weighed, with_choices)
@@ -35,6 +35,7 @@ from pertxogai.program.reports import (
 from pertxogai.search import check_libraries, searched_within
 
 if TYPE_CHECKING:
+    from pertxogai.ranging import Range, Ranging
     from pertxogai.search.searched import Searched
 
 SEARCH_SECONDS = 0.5
@@ -57,6 +58,8 @@ class BoardDrawing:
     program: Solver
     sight: Sight | None = None
     told: JudgementJson | None = None
+    rangings: dict[tuple[str, ...], Ranging] = field(default_factory=dict)
+    ranges: dict[Parameter, Range] = field(default_factory=dict)
 
     @property
     def drawing(self) -> Drawing:
@@ -68,6 +71,23 @@ class BoardDrawing:
         """The judgement, in which what may go isn't measured. Raises ProgramError, Refusal,
         NotHeld."""
         return judge_edited(self.edited, self.program)
+
+    def ranging(self, left_out: tuple[str, ...]) -> Ranging:
+        """What finds its ranges. left_out: what its file has and it can't say. Raises NoRange, and
+        as `judgement`."""
+        from pertxogai.ranging import Ranging
+
+        if left_out not in self.rangings:
+            self.rangings[left_out] = Ranging.of(
+                self.drawing, self.program, self.judgement.limit, left_out)
+        return self.rangings[left_out]
+
+    def range_of(self, of: Parameter, left_out: tuple[str, ...]) -> Range:
+        """The range of a value or a dimension, found once. Raises as `ranging`."""
+        ranging = self.ranging(left_out)
+        if of not in self.ranges:
+            self.ranges[of] = ranging.range_of(of)
+        return self.ranges[of]
 
     @cached_property
     def too_much(self) -> TooMuch | Untold:

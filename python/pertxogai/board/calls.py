@@ -26,7 +26,8 @@ from pertxogai.board.panel import Asides, Untold, lines_shown
 from pertxogai.board.proposals import proposals_shown
 from pertxogai.board.protocol import (
     Answer, ChangedDrawing, Completed, Dragged, Dxf, Edited, Fitted, Judged, Offered, Opened,
-    OtherShape, Planned, Svg, Trouble, Verified, Weighed)
+    OtherShape, Planned, Ranged, Svg, Trouble, Verified, Weighed)
+from pertxogai.board.ranges import range_shown
 from pertxogai.completing import complete
 from pertxogai.drawing import Drawing, DrawingRefusal, DrawingUnsound, Place, WordFault, checked
 from pertxogai.files.contents import FileRefusal
@@ -213,6 +214,13 @@ def _fit(desk: Desk, given: Fields) -> Fitted:
     return checks_shown(judged.drawing, found, judged.shown())
 
 
+def _range(desk: Desk, given: Fields) -> Ranged:
+    """How far a dimension or a value can go, or why that can't be told."""
+    number = given.whole("number") if given.has("number") else None
+    name = given.text("name") if given.has("name") else None
+    return range_shown(desk.judged(given.text("text")), number, name, given.texts("left_out"))
+
+
 def _plan(desk: Desk, given: Fields) -> Planned:
     """The construction, step by step."""
     return {"construction": desk.judged(given.text("text")).construction().shown()}
@@ -309,6 +317,7 @@ def _open(desk: Desk, given: Fields) -> Opened:
 
 CALLS: Mapping[str, Callable[[Desk, Fields], Answer]] = {
     "judge": _judge, "edit": _edit, "drag": _drag, "offers": _offers, "weigh": _weigh,
-    "complete": _complete, "fit": _fit, "plan": _plan, "flips": _flips, "redraw": _redraw,
-    "verify": _verify, "dxf": _dxf, "svg": _svg, "program-dxf": _program_dxf, "open": _open,
+    "complete": _complete, "fit": _fit, "range": _range, "plan": _plan, "flips": _flips,
+    "redraw": _redraw, "verify": _verify, "dxf": _dxf, "svg": _svg,
+    "program-dxf": _program_dxf, "open": _open,
 }

@@ -3,7 +3,10 @@ from __future__ import annotations
 
 from collections.abc import Iterator
 
-from pertxogai.drawing import Drawing, DrawingRefusal, Note, read_drawing, write_drawing
+from pertxogai.drawing import (
+    Drawing, DrawingRefusal, DrawingUnsound, Note, Value, WordFault, checked, read_drawing,
+    write_drawing)
+from pertxogai.drawing.values.lines import WORD, WrittenValues
 from pertxogai.drawing.writing import HEADER
 
 
@@ -14,8 +17,23 @@ def read_document(text: str) -> Drawing:
         return read_drawing(text)
     except DrawingRefusal:
         if draws_nothing(text):
-            return Drawing(notes=tuple(_notes(text)))
+            return _undrawn(text)
         raise
+
+
+def _undrawn(text: str) -> Drawing:
+    """The values and the notes of a text that draws nothing. Raises DrawingRefusal."""
+    written = WrittenValues.of(text.splitlines())
+    values: list[Value] = []
+    for number, _, found in written.lines:
+        if isinstance(found, WordFault):
+            raise DrawingRefusal(number, found.word, found.what)
+        values.append(found)
+    try:
+        return checked(Drawing(notes=tuple(_notes(text)), values=tuple(values)))
+    except DrawingUnsound as fault:
+        raise DrawingRefusal(written.line_of(fault.where.removeprefix("value ")), fault.word,
+                             fault.what) from None
 
 
 def _notes(text: str) -> Iterator[Note]:
@@ -27,9 +45,10 @@ def _notes(text: str) -> Iterator[Note]:
 
 
 def draws_nothing(text: str) -> bool:
-    """Whether a text has notes and blank lines alone, or the line of its version besides."""
+    """Whether a text has notes, values and blank lines alone, or the line of its version
+    besides."""
     said = [line.partition("#")[0].split() for line in text.splitlines()]
-    return [words for words in said if words] in ([], [HEADER.split()])
+    return [words for words in said if words and words[0] != WORD] in ([], [HEADER.split()])
 
 
 def write_document(drawing: Drawing) -> str:

@@ -10,10 +10,11 @@ from typing import TypeVar, assert_never
 from pertxogai.board.anchors import leader_of
 from pertxogai.board.marks import marks, reference_marks, with_labels
 from pertxogai.board.protocol import (
-    ChangedDrawing, Constraint as ConstraintJson, Drawing as DrawingJson, Kind, Mark,
+    ChangedDrawing, Constraint as ConstraintJson, Drawing as DrawingJson, Kind, Mark, NamedValue,
     Shape as ShapeJson)
 from pertxogai.drawing import (
-    VALUED, Arc, Circle, Constraint, Drawing, Segment, Shape, points_of, value_text)
+    VALUED, Arc, Circle, Constraint, Drawing, Segment, Shape, points_of, reckoned_values,
+    value_text)
 from pertxogai.drawing.geometry import Point as DrawnPoint
 from pertxogai.drawing.labels import all_labels, references
 from pertxogai.drawing.mentions import named
@@ -39,7 +40,7 @@ class Sight:
         """All of it."""
         marks = with_labels(self._all_marks(), all_labels(self.drawing))
         return {"shapes": list(self.shapes), "constraints": list(self.constraints),
-                "marks": list(marks)}
+                "marks": list(marks), "values": named_values(self.drawing)}
 
     def _all_marks(self) -> Iterator[Mark]:
         """The marks of the constraints, and of what is only measured."""
@@ -54,7 +55,8 @@ class Sight:
         now, before = self.told(), known.told()
         return {"shapes": _unknown(now["shapes"], before["shapes"]),
                 "constraints": _unknown(now["constraints"], before["constraints"]),
-                "marks": _unknown(now["marks"], before["marks"])}
+                "marks": _unknown(now["marks"], before["marks"]),
+                "values": _unknown(now["values"], before["values"])}
 
 
 def _unknown(now: Sequence[Thing], known: Sequence[Thing]) -> list[Thing | None] | None:
@@ -63,6 +65,12 @@ def _unknown(now: Sequence[Thing], known: Sequence[Thing]) -> list[Thing | None]
         return list(now)
     left = [None if each is other or each == other else each for each, other in zip(now, known)]
     return None if left.count(None) == len(left) else left
+
+
+def named_values(drawing: Drawing) -> list[NamedValue]:
+    """The named values, and what each of them comes to."""
+    return [{"name": each.name, "expression": each.text, "comes": each.quantity.text()}
+            for each in reckoned_values(drawing)]
 
 
 def sight_of(drawing: Drawing, solution: Solution | None, before: Sight | None = None) -> Sight:

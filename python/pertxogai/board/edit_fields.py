@@ -12,6 +12,7 @@ from pertxogai.board.offsetting import Offset
 from pertxogai.board.pasting import Paste
 from pertxogai.board.patterns import Mirror, Ring, Row
 from pertxogai.board.trimming import Extend, Trim
+from pertxogai.board.values import DropValue, SetValue
 from pertxogai.drawing import Drawing, Place
 
 
@@ -42,6 +43,10 @@ def read_edit(drawing: Drawing, given: Fields) -> Edit:
             return Lines(given.texts("lines"))
         case "value":
             return Value(given.whole("number"), given.text("value"))
+        case "set-value":
+            return SetValue(given.text("name"), given.text("expression"))
+        case "drop-value":
+            return DropValue(given.text("name"))
         case "call":
             return Call(given.whole("number"), given.text("name"))
         case "rename":

@@ -20,6 +20,7 @@ from pertxogai.board.patterns import Mirror, Ring, Row
 from pertxogai.board.removal import without
 from pertxogai.board.trimming import Extend, Trim
 from pertxogai.board.typed import value_word
+from pertxogai.board.values import DropValue, SetValue
 from pertxogai.drawing import (
     Anchor, Circle, Constraint, Drawing, DrawingUnsound, Place, PointRef, Shape, ShapeRef,
     WordFault, points_of)
@@ -243,7 +244,8 @@ def faults_of(where: str) -> Iterator[None]:
 
 
 Edit = (Draw | Move | Shift | Erase | Ask | Measure | Label | Lines | Value | Call | Rename
-        | Construction | Corner | Trim | Extend | Mirror | Row | Ring | Offset | Paste)
+        | Construction | Corner | Trim | Extend | Mirror | Row | Ring | Offset | Paste
+        | SetValue | DropValue)
 
 
 def _asking(drawing: Drawing, asks: Iterable[Sequence[str]]) -> Drawing:

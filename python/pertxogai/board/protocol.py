@@ -138,6 +138,21 @@ class ValueEdit(TypedDict):
     value: str
 
 
+class SetValueEdit(TypedDict):
+    """Gives a named value an expression; names one where none has that name."""
+
+    do: Literal["set-value"]
+    name: str
+    expression: str
+
+
+class DropValueEdit(TypedDict):
+    """Takes a named value away."""
+
+    do: Literal["drop-value"]
+    name: str
+
+
 class CallEdit(TypedDict):
     """Names a constraint."""
 
@@ -243,7 +258,7 @@ class PasteEdit(TypedDict):
 Edit = (DrawEdit | MoveEdit | ShiftEdit | EraseEdit | AskEdit | ReferenceEdit | LabelEdit
         | LinesEdit | ValueEdit | CallEdit
         | RenameEdit | ConstructionEdit | CornerEdit | TrimEdit | ExtendEdit | MirrorEdit | RowEdit
-        | RingEdit | OffsetEdit | PasteEdit)
+        | RingEdit | OffsetEdit | PasteEdit | SetValueEdit | DropValueEdit)
 
 
 class About(TypedDict):
@@ -281,6 +296,13 @@ class AboutNames(About):
     """A call about some points and shapes."""
 
     names: list[str]
+
+
+class AboutRange(About):
+    """A call about a constraint by its number, or a value by its name."""
+
+    number: NotRequired[int]
+    name: NotRequired[str]
 
 
 class AboutSteps(About):
@@ -382,12 +404,21 @@ class Mark(MarkAlone):
     label: NotRequired[Point]
 
 
+class NamedValue(TypedDict):
+    """A named value: how it is written, and what that comes to, with its unit."""
+
+    name: str
+    expression: str
+    comes: str
+
+
 class Drawing(TypedDict):
-    """The drawing."""
+    """The drawing, and its named values."""
 
     shapes: list[Shape]
     constraints: list[Constraint]
     marks: list[Mark]
+    values: list[NamedValue]
 
 
 class ChangedDrawing(TypedDict):
@@ -397,6 +428,7 @@ class ChangedDrawing(TypedDict):
     shapes: list[Shape | None] | None
     constraints: list[Constraint | None] | None
     marks: list[Mark | None] | None
+    values: list[NamedValue | None] | None
 
 
 class Places(TypedDict):
@@ -594,6 +626,36 @@ class Weighed(Answer, total=False):
     lines: list[Line]
 
 
+class RangeShown(TypedDict):
+    """How far a dimension, by its number, or a value, by its name, can go, and why no further.
+    called: the name of either, or the words of a dimension without its value; present, low, high:
+    the number that it has now, and the ends, in `unit`: `mm`, `deg`, or nothing; sign: whether a
+    number for it is typed with its sign; typed: the unit that is typed behind it; told: at how many
+    numbers the range was sampled, and what is known of those between, by numbers."""
+
+    called: str
+    number: int | None
+    name: str | None
+    sign: bool
+    present: float
+    unit: str
+    typed: str
+    told: str
+    low: float
+    low_why: str
+    high: float
+    high_why: str
+
+
+class Ranged(Answer, total=False):
+    """A range, or why there is none. values: those that what was asked for follows from, each with
+    a range of its own."""
+
+    range: RangeShown
+    why: str
+    values: list[str]
+
+
 class Proposed(TypedDict):
     """A line that could be added, by its place, from 1: its words without the value, and the value,
     null where it has none; what it fixes; whether it only ties the whole to the datum; its
@@ -789,6 +851,7 @@ CALLS: Mapping[str, tuple[type, type]] = {
     "weigh": (About, Weighed),
     "complete": (About, Completed),
     "fit": (About, Fitted),
+    "range": (AboutRange, Ranged),
     "plan": (About, Planned),
     "flips": (AboutSteps, OtherShape),
     "redraw": (AboutSteps, Edited),

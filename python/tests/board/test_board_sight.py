@@ -88,7 +88,7 @@ def test_of_what_is_as_it_was_nothing_is_told() -> None:
     drawing = read_drawing("segment A 0 0 9 0\ncircle C 1 1 2\nlength A 9\n")
     before = sight_of(drawing, None)
     assert sight_of(drawing, None, before).changed(before) == {
-        "shapes": None, "constraints": None, "marks": None}
+        "shapes": None, "constraints": None, "marks": None, "values": None}
     moved = checked(Move((), (("C", Fraction(3000)),)).on(drawing), drawing)
     told = sight_of(moved, None, before).changed(before)
     assert (told["constraints"], told["marks"]) == (None, None)

@@ -105,7 +105,8 @@ def test_answers_are_of_their_types(path: Path, program: Program) -> None:
         "judge": {}, "edit": {"edit": edit, "knows": True},
         "drag": {"drag": "a", "names": [name], "begin": {"x": 0, "y": 0}, "x": 1, "y": 1,
                  "begins": True, "turns": False}, "offers": {"names": [name]},
-        "weigh": {}, "complete": {}, "fit": {}, "plan": {}, "flips": {"steps": [1]}, "redraw": {"steps": []}, "verify": {},
+        "weigh": {}, "complete": {}, "fit": {}, "range": {"name": "Nothing"}, "plan": {},
+        "flips": {"steps": [1]}, "redraw": {"steps": []}, "verify": {},
         "svg": {"name": path.stem}, "program-dxf": {}}
     for call, more in given.items():
         gives = protocol.CALLS[call][1]
@@ -132,6 +133,8 @@ EDITS: list[dict[str, object]] = [
     {"do": "reference", "words": ["length", "A"], "number": 1},
     {"do": "label", "number": -1, "x": 0.5, "y": 3},
     {"do": "lines", "lines": ["length A 40"]}, {"do": "value", "number": 1, "value": "41"},
+    {"do": "set-value", "name": "Width", "expression": "40"},
+    {"do": "drop-value", "name": "Width"},
     {"do": "call", "number": 1, "name": "Width"},
     {"do": "rename", "old": "A", "new": "N"},
     {"do": "corner", "kind": "fillet", "first": "A", "second": "B", "size": "5"},

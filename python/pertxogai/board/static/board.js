@@ -26,7 +26,9 @@ export const NEAR_EDGE = 7;
 /** Pixels within which a click is one on a point. */
 const NEAR_POINT = 10;
 /** @type {Read} */
-export const NOTHING = { drawing: { shapes: [], constraints: [], marks: [] }, judgement: null };
+export const NOTHING = {
+  drawing: { shapes: [], constraints: [], marks: [], values: [] }, judgement: null,
+};
 
 /** Draws answers on an SVG node. */
 export class Board {

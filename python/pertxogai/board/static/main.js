@@ -15,6 +15,8 @@ import { Proposals } from './proposals.js';
 import { Checks } from './checks.js';
 import { Texts } from './texts.js';
 import { Asked } from './asked.js';
+import { Slider } from './ranges.js';
+import { Values } from './values.js';
 import { Steps } from './steps.js';
 import { Tabs } from './tabs.js';
 import { Files } from './files.js';
@@ -62,6 +64,7 @@ export class Page {
     this.checks = new Checks(paper, this.board);
     this.texts = new Texts(paper);
     this.asked = new Asked(paper, selection, this.offers);
+    this.values = new Values(paper, selection, new Slider(paper, selection));
     this.steps = new Steps(paper, this.board);
     this.keeping = new Keeping(paper, banner);
     this.files = new Files(paper, this.keeping, () => this.board.fit());

@@ -411,7 +411,7 @@ function repeatsIn(judgement) {
  * @param {unknown} error
  * @returns {null}
  */
-function ended(error) {
+export function ended(error) {
   if (!(error instanceof Stopped)) throw error;
   return null;
 }
@@ -452,5 +452,6 @@ function completedDrawing(drawing, old) {
     constraints: drawing.constraints?.map((each, place) => each ?? old.constraints[place])
       ?? old.constraints,
     marks: drawing.marks?.map((each, place) => each ?? old.marks[place]) ?? old.marks,
+    values: drawing.values?.map((each, place) => each ?? old.values[place]) ?? old.values,
   };
 }

@@ -210,11 +210,19 @@ export interface Mark {
   label?: [number, number];
 }
 
-/** The drawing. */
+/** A named value: how it is written, and what that comes to, with its unit. */
+export interface NamedValue {
+  name: string;
+  expression: string;
+  comes: string;
+}
+
+/** The drawing, and its named values. */
 export interface Drawing {
   shapes: Shape[];
   constraints: Constraint[];
   marks: Mark[];
+  values: NamedValue[];
 }
 
 /** A text, the judgement on it, and its drawing. judgement: null where nothing is drawn. */
@@ -430,13 +438,27 @@ export interface PasteEdit {
   dy: number;
 }
 
+/** Gives a named value an expression; names one where none has that name. */
+export interface SetValueEdit {
+  do: 'set-value';
+  name: string;
+  expression: string;
+}
+
+/** Takes a named value away. */
+export interface DropValueEdit {
+  do: 'drop-value';
+  name: string;
+}
+
 /** A call that edits a text. knows: whether the page has what was told of that text. */
 export interface AboutEdit {
   text: string;
   left_out?: string[];
   edit: DrawEdit | MoveEdit | ShiftEdit | EraseEdit | AskEdit | ReferenceEdit | LabelEdit |
     LinesEdit | ValueEdit | CallEdit | RenameEdit | ConstructionEdit | CornerEdit | TrimEdit |
-    ExtendEdit | MirrorEdit | RowEdit | RingEdit | OffsetEdit | PasteEdit;
+    ExtendEdit | MirrorEdit | RowEdit | RingEdit | OffsetEdit | PasteEdit | SetValueEdit |
+    DropValueEdit;
   knows?: boolean;
 }
 
@@ -470,6 +492,7 @@ export interface ChangedDrawing {
   shapes: (Shape | null)[] | null;
   constraints: (Constraint | null)[] | null;
   marks: (Mark | null)[] | null;
+  values: (NamedValue | null)[] | null;
 }
 
 /** The text that an edit makes, and what of it isn't as it was. */
@@ -631,6 +654,49 @@ export interface Fitted {
   why?: string[];
 }
 
+/** A call about a constraint by its number, or a value by its name. */
+export interface AboutRange {
+  text: string;
+  left_out?: string[];
+  number?: number;
+  name?: string;
+}
+
+/**
+ * How far a dimension, by its number, or a value, by its name, can go, and why no further.
+ * called: the name of either, or the words of a dimension without its value; present, low, high:
+ * the number that it has now, and the ends, in `unit`: `mm`, `deg`, or nothing; sign: whether a
+ * number for it is typed with its sign; typed: the unit that is typed behind it; told: at how many
+ * numbers the range was sampled, and what is known of those between, by numbers.
+ */
+export interface RangeShown {
+  called: string;
+  number: number | null;
+  name: string | null;
+  sign: boolean;
+  present: number;
+  unit: string;
+  typed: string;
+  told: string;
+  low: number;
+  low_why: string;
+  high: number;
+  high_why: string;
+}
+
+/**
+ * A range, or why there is none. values: those that what was asked for follows from, each with
+ * a range of its own.
+ */
+export interface Ranged {
+  trouble?: Trouble;
+  refused?: Refused;
+  ms?: number;
+  range?: RangeShown;
+  why?: string;
+  values?: string[];
+}
+
 /** An element of the construction: a point at a place, or a line through one, a way. */
 export interface ElementJson {
   called: string;
@@ -786,7 +852,8 @@ export type Spot = PointSpot | FreeSpot;
 
 export type Edit = DrawEdit | MoveEdit | ShiftEdit | EraseEdit | AskEdit | ReferenceEdit |
     LabelEdit | LinesEdit | ValueEdit | CallEdit | RenameEdit | ConstructionEdit | CornerEdit |
-    TrimEdit | ExtendEdit | MirrorEdit | RowEdit | RingEdit | OffsetEdit | PasteEdit;
+    TrimEdit | ExtendEdit | MirrorEdit | RowEdit | RingEdit | OffsetEdit | PasteEdit | SetValueEdit
+    | DropValueEdit;
 
 export type Offer = ConstraintOffer | CornerOffer;
 
@@ -799,6 +866,7 @@ export interface Calls {
   'weigh': { given: About; gives: Weighed };
   'complete': { given: About; gives: Completed };
   'fit': { given: About; gives: Fitted };
+  'range': { given: AboutRange; gives: Ranged };
   'plan': { given: About; gives: Planned };
   'flips': { given: AboutSteps; gives: OtherShape };
   'redraw': { given: AboutSteps; gives: Edited };
