@@ -98,6 +98,28 @@ def test_no_dimension_stands_over_another_at_first(page: Page, name: str, verdic
         assert all(LEGIBLE[0] < low - high < LEGIBLE[1] for _, high, _, low in found), zoom
 
 
+def test_numbers_keep_their_size_at_every_zoom(page: Page) -> None:
+    """Shown as a whole, at a sixth of that and at ten times that a number is as high as 12 pixels of
+    a letter make it, and as wide as before."""
+    page.begin(PLATE, "open")
+    found = []
+    for zoom in ("", "-" * 8, "+" * 18):
+        page.keys(*zoom)
+        page.settled()
+        found.append(page.driver.execute_script(
+            "const text = document.querySelector(`.marks [data-constraint='3'] text`);"
+            "const { width, height } = text.getBoundingClientRect();"
+            "return { width, height, letter: getComputedStyle(text).fontSize,"
+            "  segment: document.querySelector(`[data-name='A'] .hit`).getTotalLength() };"))
+    whole, far, near = found
+    assert far["segment"] < whole["segment"] / 5 and near["segment"] > whole["segment"] * 8
+    assert {each["letter"] for each in found} == {"12px"}
+    for each in found:
+        assert 12 <= each["height"] < 20
+        assert (each["width"], each["height"]) == pytest.approx(
+            (whole["width"], whole["height"]), abs=0.5)
+
+
 def test_a_dimension_is_only_measured(page: Page) -> None:
     page.begin("segment A 0 0 30 0\nsegment B A.end 30 40\n", "open")
     page.select("A.start", "B.end")
