@@ -299,6 +299,43 @@ def test_a_rectangle_of_no_size_keeps_its_angles(page: Page) -> None:
     assert hand.points["C.end"][1] == pytest.approx(y, abs=1e-6)
 
 
+HOLES = """segment Base 0 0 60 0
+circle A 20 20 5
+circle B 45 30 5
+coincident Base.start Origin
+horizontal Base
+length Base 60
+x A 20
+y A 20
+diameter A 10
+y B 30
+diameter B 10
+"""
+
+
+def labels(page: Page) -> dict[str, list[float]]:
+    """Where the dimensions stand, by the numbers of their constraints."""
+    found = page.driver.execute_script(
+        "const all = [...document.querySelectorAll('.marks .value')];"
+        "return all.map((each) => [each.parentNode.dataset.constraint,"
+        "  Number(each.getAttribute('x')), Number(each.getAttribute('y'))]);")
+    return {number: [x, y] for number, x, y in found}
+
+
+def test_dimensions_of_what_stays_stand_still_in_a_drag(page: Page) -> None:
+    """The hole B goes over those of A, and its own diameter, the eighth constraint, goes along."""
+    hand = Hand(page, HOLES)
+    before = labels(page)
+    hand.take("B.centre")
+    for x in (38, 30, 22, 14):
+        hand.to((x, 30))
+        page.settled()
+        now = labels(page)
+        assert {each: now[each] for each in "3456"} == {each: before[each] for each in "3456"}
+        assert now["8"] != before["8"]
+    hand.let_go((14, 30))
+
+
 def test_an_edge_goes_the_way_of_the_hand(page: Page) -> None:
     """Its ends keep their places to each other, and what is level with them goes along."""
     text = ("drawing 1\nsegment A 0 0 50 0\nsegment B A.end 50 30\nsegment C B.end 0 30\n"

@@ -3,12 +3,13 @@
 import { svg, nodeOf } from './nodes.js';
 import { View } from './view.js';
 import { Marks, markMade, proposedMade, checkMade, toldPlaces } from './marks.js';
-import { Layer } from './layer.js';
+import { Layer, isSame } from './layer.js';
 import { Shown } from './shown.js';
 import { awayFrom, kindOf, pathOf, shapeMade, pointMade, stillMade, moveMade, middleOf, line, ring }
   from './shapes.js';
 
 /** @typedef {import('./page').Child} Child */
+/** @typedef {import('./page').Kept} Kept */
 /** @typedef {import('./page').Keyed} Keyed */
 /** @typedef {import('./page').Place} Place */
 /** @typedef {import('./page').PlacedMark} PlacedMark */
@@ -57,6 +58,11 @@ export class Board {
   other = null;
   /** @type {PlacedMark[]} */
   placed = [];
+  /**
+   * Where each mark stands.
+   * @type {import('./marks.js').Standing}
+   */
+  standing = new Map();
   /**
    * The constraints from which what is pointed at or chosen follows.
    * @type {Set<number>}
@@ -149,17 +155,13 @@ export class Board {
     this.waits = false;
     const { drawing: { shapes, marks }, judgement } = this.overlay ? NOTHING : this.answer;
     const { plane } = this;
-    const isStill = this.isStill(shapes, judgement);
     /** @type {Record<string, Keyed[] | null>} */
     const made = {
       grid: this.grid(this.size()),
       drawn: this.faint(shapes, judgement),
-      edges: isStill ? null : shapes.map((shape) => this.edge(shape)),
       other: this.other ? stillMade(shapes, this.other, plane) : [],
       proposed: this.proposedMarks(marks),
       checks: this.checkMarks(marks),
-      marks: this.marks(marks, judgement),
-      dots: isStill ? null : this.overlay ? [] : this.dots(shapes),
       moves: this.moves(judgement),
       names: this.overlay ? [] : this.names(shapes),
       joints: this.joints(judgement),
@@ -167,8 +169,22 @@ export class Board {
         (name, at) => [name, 'path', { class: 'fault', d: ring(at, 13) }]),
     };
     for (const [kind, things] of Object.entries(made)) if (things) this.layers[kind].show(things);
+    this.drawShapes(shapes, judgement);
+    const placed = this.marks(marks, judgement);
+    if (placed) this.layers.marks.update(placed);
     this.drawHand();
     this.node.dataset.drawn = String(Number(this.node.dataset.drawn ?? 0) + 1);
+  }
+
+  /**
+   * Draws the edges and the points, where one of them isn't as it was.
+   * @param {Shape[]} shapes
+   * @param {Judgement | null | undefined} judgement
+   */
+  drawShapes(shapes, judgement) {
+    if (this.isStill(shapes, judgement)) return;
+    this.layers.edges.update(shapes.map((shape) => this.edge(shape)));
+    this.layers.dots.update(this.overlay ? [] : this.dots(shapes));
   }
 
   /**
@@ -254,18 +270,25 @@ export class Board {
   isSame(made, from) {
     const old = this.from[made];
     this.from[made] = from;
-    return from.length === old?.length && from.every((each, place) => each === old[place]);
+    return isSame(old, from);
   }
 
   /**
    * A shape as it is shown.
    * @param {Shape} shape
+   * @returns {Kept}
    */
   edge(shape) {
-    const path = pathOf(shape, this.shown.viewOf(shape), this.plane);
+    const { plane, shown } = this;
+    const view = shown.viewOf(shape);
     const isSelected = this.selection.names.has(shape.name);
-    const colour = this.shown.colourOf(shape, this.byPieces);
-    return shapeMade(shape, path, isSelected, colour, this.shown.isFree(shape.name));
+    const colour = shown.colourOf(shape, this.byPieces);
+    const isFree = shown.isFree(shape.name);
+    const places = Object.keys(shape.points).flatMap((each) => view.points[each]);
+    const radius = view.radii[shape.name] ?? shape.radius;
+    return { key: shape.name, from: [shape.kind, kindOf(shape), isSelected, colour, isFree,
+      plane.scale, plane.x, plane.y, radius, ...places],
+    make: () => shapeMade(shape, pathOf(shape, view, plane), isSelected, colour, isFree) };
   }
 
   /**
@@ -275,13 +298,18 @@ export class Board {
   dots(shapes) {
     const names = shapes.flatMap(
       (shape) => Object.keys(shape.points).filter((name) => !shape.shares.includes(name)));
-    return this.around(['Origin', ...names], (name, at) => pointMade(
-      name, at, this.selection.names.has(name), this.shown.partColourOf(name, this.byPieces)));
+    return this.around(['Origin', ...names], (name, at) => {
+      const isSelected = this.selection.names.has(name);
+      const colour = this.shown.partColourOf(name, this.byPieces);
+      return { key: name, from: [...at, isSelected, colour],
+        make: () => pointMade(name, at, isSelected, colour) };
+    });
   }
 
   /**
    * The names of single points and of what is selected.
    * @param {Shape[]} shapes
+   * @returns {Keyed[]}
    */
   names(shapes) {
     const points = shapes.filter((shape) => shape.kind === 'point').map((shape) => shape.name);
@@ -304,6 +332,7 @@ export class Board {
   /**
    * Rings where pieces hang together.
    * @param {Judgement | null | undefined} judgement
+   * @returns {Keyed[]}
    */
   joints(judgement) {
     if (judgement?.found && !this.byPieces) return [];
@@ -314,9 +343,10 @@ export class Board {
 
   /**
    * Some things, each once, as what is made of them at their places in pixels.
+   * @template T
    * @param {string[]} names
-   * @param {(name: string, at: Place) => Keyed} made
-   * @returns {Keyed[]}
+   * @param {(name: string, at: Place) => T} made
+   * @returns {T[]}
    */
   around(names, made) {
     return [...new Set(names)].flatMap((name) => {
@@ -336,13 +366,25 @@ export class Board {
     const told = new Map((judgement?.excess ?? []).map((each) => [each.number, each.told]));
     const { scale, x, y } = this.plane;
     const from = [scale, x, y, marks, this.dragged];
-    if (!this.isSame('places', from)) this.placed = new Marks(this.plane, this.dragged).all(marks);
+    const isHere = this.isSame('view', [scale, x, y]);
+    if (!this.isSame('places', from)) this.place(marks, isHere && this.drags);
     const measured = [...this.selection.numbers].filter((each) => each < 0).join();
     const all = [...from, kinds.join(), measured, JSON.stringify([...told])];
     if (this.isSame('marks', all)) return null;
-    return this.placed.map((mark, place) => markMade(
+    return this.placed.map((mark, place) => keptMark(
       mark, place, kinds[mark.number - 1] ?? this.kindOfReference(mark.number),
       told.get(mark.number)));
+  }
+
+  /**
+   * Finds places for marks; those that `stay` stand where they stood before.
+   * @param {Mark[]} marks
+   * @param {boolean} stay
+   */
+  place(marks, stay) {
+    const places = new Marks(this.plane, this.dragged);
+    this.placed = places.all(marks, stay ? this.standing : undefined);
+    this.standing = places.standing;
   }
 
   /**
@@ -570,6 +612,20 @@ export class Board {
     const { width, height } = this.node.getBoundingClientRect();
     return { width: Math.max(width, 50), height: Math.max(height, 50) };
   }
+}
+
+/**
+ * A placed mark of a layer.
+ * @param {PlacedMark} mark
+ * @param {number} key
+ * @param {string} kind
+ * @param {string} [told]
+ * @returns {Kept}
+ */
+function keptMark(mark, key, kind, told) {
+  const { number, sign, path, text, at, isOpen } = mark;
+  return { key, from: [number, sign, path, text, ...at, isOpen, kind, told],
+    make: () => markMade(mark, key, kind, told) };
 }
 
 /**

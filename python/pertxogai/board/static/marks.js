@@ -1,6 +1,7 @@
 // @ts-check
 /** The dimensions and signs of constraints, as what SVG nodes are made of. */
 import { middleOf } from './shapes.js';
+import { Taken, halfWidth } from './taken.js';
 
 /** @typedef {import('./page').Place} Place */
 /** @typedef {import('./page').PlacedMark} PlacedMark */
@@ -25,10 +26,6 @@ const SIGN_STEPS = [[11, -12], [-11, -12], [11, 12], [-11, 12], [24, -12], [24, 
  */
 const BESIDE_STEPS = [[0, -17], [0, 17], [18, -17], [-18, -17], [18, 17], [-18, 17], [36, -17],
   [36, 17]];
-/** The height of a line of text in pixels. */
-const ROW = 15;
-/** Pixels within which two bars that run one way lie over each other. */
-const ASIDE = 9;
 
 /** How far in pixels the text of a rim may stand beside it, and how far round. */
 const LEADERS = [26, 44, 62, 84, 110];
@@ -44,6 +41,10 @@ const FURTHER = [36, 54, 72, 90, 108, 126, 144, 162, 180];
  */
 /** @typedef {Omit<PlacedMark, 'number'>} Made */
 /**
+ * Where marks stand.
+ * @typedef {Map<Mark, PlacedMark>} Standing
+ */
+/**
  * Which way a bar runs, how long it is in pixels, how far along from its middle its text stands,
  * and that text.
  * @typedef {{ way: Place, length: number, along: number, text: string }} Bar
@@ -51,16 +52,9 @@ const FURTHER = [36, 54, 72, 90, 108, 126, 144, 162, 180];
 
 /** Finds places for the marks of an answer; those that are taken make the next one step aside. */
 export class Marks {
-  /**
-   * The texts that stand, by the rows in which they do: each its place, and half its width.
-   * @type {Map<number, [number, number, number][]>}
-   */
-  rows = new Map();
-  /**
-   * The bars that stand, by their ends.
-   * @type {[Place, Place][]}
-   */
-  bars = [];
+  taken = new Taken();
+  /** @type {Standing} */
+  standing = new Map();
 
   /**
    * @param {import('./view.js').View} plane
@@ -72,19 +66,43 @@ export class Marks {
   }
 
   /**
-   * All marks with their places: those whose place the drawing says first, then bars.
+   * All marks with their places: those whose place the drawing says first, then bars. Marks that
+   * are `kept` stay where they stand.
    * @param {(Mark & { line?: string })[]} marks
+   * @param {Standing} [kept]
    * @returns {PlacedMark[]}
    */
-  all(marks) {
+  all(marks, kept = new Map()) {
     const told = marks.filter((mark) => this.labelOf(mark));
     const bars = marks.filter((mark) => mark.bar && !told.includes(mark));
     const others = marks.filter((mark) => !mark.bar && !told.includes(mark));
-    return [...told, ...bars, ...others].map((mark) => {
-      const placed = this.made(mark);
-      this.take(placed.at, placed.text);
-      return { number: mark.number, sign: mark.sign, line: mark.line, ...placed };
-    });
+    const all = [...told, ...bars, ...others];
+    for (const mark of all) {
+      const placed = kept.get(mark);
+      if (placed) this.stand(mark, placed);
+    }
+    return all.map((mark) => this.standing.get(mark) ?? this.stand(mark, this.placed(mark)));
+  }
+
+  /**
+   * A mark at its place, with what it is of.
+   * @param {Mark & { line?: string }} mark
+   * @returns {PlacedMark}
+   */
+  placed(mark) {
+    return { number: mark.number, sign: mark.sign, line: mark.line, ...this.made(mark) };
+  }
+
+  /**
+   * A mark stands from now on, and takes its room.
+   * @param {Mark} mark
+   * @param {PlacedMark} placed
+   */
+  stand(mark, placed) {
+    this.standing.set(mark, placed);
+    this.taken.addText(placed.at, placed.text);
+    if (placed.ends) this.taken.addBar(placed.ends);
+    return placed;
   }
 
   /**
@@ -124,38 +142,32 @@ export class Marks {
     const beside = ends(start, end, way);
     const label = this.labelOf(mark);
     const along = label ? label[0] * way[0] + label[1] * way[1]
-      : length < 2 * width(text) + 20 ? length / 2 + width(text) + 6 : 0;
+      : length < 2 * halfWidth(text) + 20 ? length / 2 + halfWidth(text) + 6 : 0;
     const bar = { way, length, along, text };
     const [a, b] = label ? beside(label[1] * way[0] - label[0] * way[1])
-      : this.open(AWAYS.map(beside), bar);
-    this.bars.push([a, b]);
+      : this.open(beside, bar);
     const at = textAt([a, b], bar);
     const reach = Math.abs(along) > length / 2 ? `M${a}L${at}` : '';
     const path = `M${start}L${a}M${end}L${b}M${a}L${b}${reach}`
       + `${tip(a, way)}${tip(b, [-way[0], -way[1]])}`;
-    return { path, text, at, base: middleOf(measured) };
+    return { path, text, at, base: middleOf(measured), ends: [a, b] };
   }
 
   /**
-   * The first of some places of a bar where it and its text lie over no other; else where the text
-   * does.
-   * @param {[Place, Place][]} places
+   * The first place beside what a bar measures where it and its text lie over no other; else where
+   * the text does.
+   * @param {(away: number) => [Place, Place]} beside
    * @param {Bar} bar
    */
-  open(places, bar) {
-    const free = places.filter((each) => this.isFree(textAt(each, bar), bar.text));
-    return free.find(([a, b]) => this.isAlone(a, b, bar)) ?? free[0] ?? places[0];
-  }
-
-  /**
-   * Whether a bar between two places lies over no other.
-   * @param {Place} a
-   * @param {Place} b
-   * @param {Bar} bar
-   */
-  isAlone(a, b, { way, length }) {
-    const within = box(a, b, ASIDE);
-    return this.bars.every((bar) => isBeside(bar, within) || isAcross(bar, a, way, length));
+  open(beside, bar) {
+    let free = null;
+    for (const away of AWAYS) {
+      const ends = beside(away);
+      if (!this.taken.isFree(textAt(ends, bar), bar.text)) continue;
+      if (this.taken.isAlone(ends, bar.way, bar.length)) return ends;
+      free ??= ends;
+    }
+    return free ?? beside(AWAYS[0]);
   }
 
   /**
@@ -174,7 +186,7 @@ export class Marks {
       (round) => aboutAt(middle, radius + away, turn + round)));
     /** @type {Place} */
     const at = label ? [rim[0] + label[0], rim[1] + label[1]]
-      : places.find((each) => this.isFree(each, text)) ?? this.further(rim, text);
+      : places.find((each) => this.taken.isFree(each, text)) ?? this.further(rim, text);
     const foot = mark.whole
       ? aboutAt(middle, radius, Math.atan2(at[1] - middle[1], at[0] - middle[0])) : rim;
     const long = Math.hypot(at[0] - foot[0], at[1] - foot[1]) || 1;
@@ -194,9 +206,10 @@ export class Marks {
     const corner = this.plane.toScreen(base);
     const label = this.labelOf(mark);
     const middle = -(first + sweep / 2);
-    const beside = (/** @type {number} */ r) => aboutAt(corner, r + 6 + width(text) / 2, middle);
-    const free = ARCS.find((each) => this.isFree(beside(each), text)) ?? ARCS[0];
-    const radius = label ? Math.max(12, Math.hypot(...label) - 6 - width(text) / 2) : free;
+    const beside = (/** @type {number} */ r) => aboutAt(
+      corner, r + 6 + halfWidth(text) / 2, middle);
+    const free = ARCS.find((each) => this.taken.isFree(beside(each), text)) ?? ARCS[0];
+    const radius = label ? Math.max(12, Math.hypot(...label) - 6 - halfWidth(text) / 2) : free;
     /** @type {Place} */
     const at = label ? [corner[0] + label[0], corner[1] + label[1]] : beside(radius);
     const [start, end] = [-first, -(first + sweep)].map((each) => aboutAt(corner, radius, each));
@@ -217,7 +230,7 @@ export class Marks {
     if (label) return { path: null, text, at: [x + label[0], y + label[1]], base };
     /** @type {Place[]} */
     const places = stepsOf(mark).map(([dx, dy]) => [x + dx, y + dy]);
-    const at = places.find((each) => this.isFree(each, text)) ?? this.further([x, y], text);
+    const at = places.find((each) => this.taken.isFree(each, text)) ?? this.further([x, y], text);
     return { path: null, text, at, base };
   }
 
@@ -229,29 +242,7 @@ export class Marks {
   further(place, text) {
     const places = FURTHER.flatMap((away) => ROUND.map(
       (turn) => aboutAt(place, away, turn - Math.PI / 2)));
-    return places.find((each) => this.isFree(each, text)) ?? places[0];
-  }
-
-  /**
-   * A text stands at a place from now on.
-   * @param {Place} place
-   * @param {string} text
-   */
-  take([x, y], text) {
-    const row = Math.floor(y / ROW);
-    this.rows.set(row, [...this.rows.get(row) ?? [], [x, y, width(text)]]);
-  }
-
-  /**
-   * Whether no text stands where another of this length would.
-   * @param {Place} place
-   * @param {string} text
-   */
-  isFree([x, y], text) {
-    const half = width(text);
-    const row = Math.floor(y / ROW);
-    const near = [row - 1, row, row + 1].flatMap((each) => this.rows.get(each) ?? []);
-    return near.every(([u, v, other]) => Math.abs(u - x) > half + other || Math.abs(v - y) > ROW);
+    return places.find((each) => this.taken.isFree(each, text)) ?? places[0];
   }
 }
 
@@ -299,30 +290,6 @@ function ends([x, y], [u, v], way) {
     const [dx, dy] = [-way[1] * away, way[0] * away];
     return [[x + dx, y + dy], [u + dx, v + dy]];
   };
-}
-
-/**
- * Whether a bar lies beside a box.
- * @param {[Place, Place]} bar
- * @param {number[]} box
- */
-function isBeside([p, q], [left, right, low, high]) {
-  return Math.max(p[0], q[0]) < left || Math.min(p[0], q[0]) > right
-    || Math.max(p[1], q[1]) < low || Math.min(p[1], q[1]) > high;
-}
-
-/**
- * Whether a bar runs past one that begins at a place and runs a way, or crosses it.
- * @param {[Place, Place]} bar
- * @param {Place} a
- * @param {Place} way
- * @param {number} length
- */
-function isAcross(bar, a, [ux, uy], length) {
-  const [[along, aside], [far, other]] = bar.map(([x, y]) => [
-    (x - a[0]) * ux + (y - a[1]) * uy, (y - a[1]) * ux - (x - a[0]) * uy]);
-  const isApart = Math.min(Math.abs(aside), Math.abs(other)) > ASIDE || aside * other < 0;
-  return isApart || Math.max(along, far) < 1 || Math.min(along, far) > length - 1;
 }
 
 /**
@@ -397,25 +364,6 @@ export function checkMade({ number, path, text, at: [x, y], isOpen: open }, key,
   ['title', {}, `${name}: ${words}\n${lines.join('\n')}`],
   path && ['path', { class: open ? 'mark open' : 'mark', d: path }],
   ['text', { x, y, class: 'value' }, text]];
-}
-
-/**
- * The box of two places, with so much around: left, right, low, high.
- * @param {Place} one
- * @param {Place} other
- * @param {number} around
- */
-function box([x, y], [u, v], around) {
-  return [Math.min(x, u) - around, Math.max(x, u) + around,
-    Math.min(y, v) - around, Math.max(y, v) + around];
-}
-
-/**
- * Half the width of a text in pixels, nearly.
- * @param {string} text
- */
-function width(text) {
-  return 4 + 3.6 * text.length;
 }
 
 /**

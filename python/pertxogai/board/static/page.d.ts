@@ -15,6 +15,13 @@ export type Child = Made | Node | string | null | undefined | false | 0;
 /** What makes a node of a layer, behind the key by which it is known again. */
 export type Keyed = [key: string | number, ...made: Made];
 
+/** A thing of a layer by its key: what its node comes from, and what makes it. */
+export interface Kept {
+  key: string | number;
+  from: unknown[];
+  make: () => Keyed;
+}
+
 /** An answer with a drawing that could be read. */
 export interface Read extends Judged {
   drawing: Drawing;
@@ -22,7 +29,8 @@ export interface Read extends Judged {
 
 /**
  * A mark at its place in pixels; of what is proposed with its line. base: where its dimension is
- * measured, in millimetres. isOpen: whether its path has no inside.
+ * measured, in millimetres. ends: those of its bar, in pixels. isOpen: whether its path has no
+ * inside.
  */
 export interface PlacedMark {
   number: number;
@@ -32,6 +40,7 @@ export interface PlacedMark {
   text: string;
   at: Place;
   base: Place;
+  ends?: [Place, Place];
   isOpen?: boolean;
 }
 
