@@ -6,12 +6,14 @@ from __future__ import annotations
 import os
 import random
 import time
+from contextlib import suppress
 from dataclasses import dataclass, field
 
 import pytest
 
 from boards import drawing, wait_for
 from browsing import Page
+from selenium.common.exceptions import ElementNotInteractableException
 from selenium.webdriver.common.action_chains import ActionChains
 from selenium.webdriver.common.by import By
 from selenium.webdriver.common.keys import Keys
@@ -59,8 +61,8 @@ class Hand:
             self._answer()
             return
         what = self.chance.choices(
-            (self._click, self._drag, self._key, self._tool, self._copies, self._offer),
-            (9, 4, 6, 4, 2, 4))[0]
+            (self._click, self._drag, self._key, self._tool, self._copies, self._offer,
+             self._dimension, self._slide), (9, 4, 6, 4, 2, 4, 2, 2))[0]
         what()
 
     def _place(self) -> tuple[int, int]:
@@ -115,6 +117,28 @@ class Hand:
             self.done.append(f"offer {number}")
             self.page.driver.execute_script(
                 "document.querySelectorAll('#fitting button')[arguments[0]]?.click()", number)
+
+    def _dimension(self) -> None:
+        """Clicks the number of a dimension."""
+        places = self.page.driver.execute_script(
+            "const { x, y } = document.getElementById('board').getBoundingClientRect();"
+            "return [...document.querySelectorAll('.marks .value')].map((each) => {"
+            "  const r = each.getBoundingClientRect();"
+            "  return [Math.round(r.x + r.width / 2 - x), Math.round(r.y + r.height / 2 - y)]; });")
+        seen = [place for place in places if 70 < place[0] < 880 and 90 < place[1] < 520]
+        if seen:
+            place = self.chance.choice(seen)
+            self.done.append(f"dimension {place}")
+            self.page.press(*place)
+
+    def _slide(self) -> None:
+        """Sets the slider of what is selected, where there is one, by a key."""
+        slider = self.page.driver.find_element(By.ID, "slider")
+        key = self.chance.choice((Keys.HOME, Keys.END, Keys.ARROW_LEFT, Keys.ARROW_RIGHT))
+        if slider.is_displayed() and slider.is_enabled():
+            self.done.append(f"slide {key!r}")
+            with suppress(ElementNotInteractableException):  # which goes with what was selected
+                slider.send_keys(key)
 
     def _answer(self) -> None:
         """Types a value where one is asked for, or gives up."""
