@@ -98,7 +98,7 @@ class System:
         return Ways.of(xy, LEAST_WAY * self.size_nm)
 
     def _off(self, x: Array, ways: Ways) -> Array:
-        off = self._linear.of(x) - self._numbers_nm
+        off: Array = self._linear.of(x) - self._numbers_nm
         for kind in self._kinds:
             off[kind.rows] += kind.values(ways)
         return off
