@@ -65,13 +65,22 @@ class State:
         return self.is_placed or self.verdict is Verdict.OPEN and self.lacks < before.lacks
 
 
+@dataclass(frozen=True)
+class Tried:
+    """A drawing with what was worked out of it, and what the program says of it; None where it
+    takes no such drawing."""
+
+    edited: EditedDrawing
+    trial: Trial | None
+
+
 class Trials:
     """Tries drawings of the same shapes by the program, within a number of them and a time."""
 
     def __init__(self, program: Solver, limit: Limit) -> None:
         self._program, self._limit = Remembering(Wider(program, limit)), limit
         self._left, self._end = MOST_ASKED, spent_seconds() + MOST_SECONDS
-        self._known: dict[tuple[Constraint, ...], Trial | None] = {}
+        self._known: dict[tuple[Constraint, ...], Tried] = {}
 
     def is_over(self) -> bool:
         """Whether no more may be tried."""
@@ -112,22 +121,24 @@ class Trials:
 
     def good(self, drawing: Drawing) -> GoodJudgement | None:
         """The judgement on a drawing that is good; None where it isn't. Raises ProgramError."""
-        trial = self._asked(drawing)
-        if trial is None or not isinstance(trial.solved, Solved):
+        tried = self._tried(drawing)
+        if tried.trial is None or not isinstance(tried.trial.solved, Solved):
             return None
-        question = Question(drawing, self._program, self._limit)
-        judgement = judge_trial(EditedDrawing(drawing), trial, question)
-        found = good_of(JudgedDrawing("", drawing, judgement, limit=self._limit))
+        judgement = judge_trial(tried.edited, tried.trial, self._question(tried.edited.drawing))
+        found = good_of(JudgedDrawing("", tried.edited.drawing, judgement, limit=self._limit))
         return found if isinstance(found, GoodJudgement) else None
 
     def without_room(self, drawing: Drawing, places: range) -> Constraint | None:
         """Of the constraints of a drawing at some places, from 0, the last by which it has no
         places where its value is a little more or less: it is no good choice, as it holds only as
         it was read. Raises ProgramError."""
+        known = self._tried(drawing).edited
         for place in reversed(places):
             before, after = drawing.constraints[:place], drawing.constraints[place + 1:]
             for other in _near(drawing.constraints[place]):
-                trial = self._trial(replace(drawing, constraints=(*before, other, *after)))
+                edited = EditedDrawing(drawing.with_numbers((*before, other, *after)), known)
+                self._left -= 1
+                trial = self._ask(edited)
                 if trial is None or not isinstance(trial.solved, Solved):
                     return drawing.constraints[place]
         return None
@@ -147,21 +158,26 @@ class Trials:
 
     def _trial(self, drawing: Drawing) -> Trial | None:
         self._left -= 1
-        return self._asked(drawing)
+        return self._tried(drawing).trial
 
-    def _asked(self, drawing: Drawing) -> Trial | None:
-        """What the program says of a drawing, asked once; None where it takes no such drawing."""
+    def _tried(self, drawing: Drawing) -> Tried:
+        """A drawing with what the program says of it, asked once."""
         constraints = drawing.constraints
         if constraints not in self._known:
-            self._known[constraints] = self._ask(drawing)
+            edited = EditedDrawing(drawing)
+            self._known[constraints] = Tried(edited, self._ask(edited))
         return self._known[constraints]
 
-    def _ask(self, drawing: Drawing) -> Trial | None:
+    def _ask(self, edited: EditedDrawing) -> Trial | None:
+        """What the program says of a drawing; None where it takes no such drawing."""
         try:
-            check_fits(drawing)
-            return first_good(Question(drawing, self._program, self._limit))
+            check_fits(edited.drawing)
+            return first_good(self._question(edited.drawing), spelled=edited.readings())
         except (DrawingRefused, Refusal, NotHeld):
             return None
+
+    def _question(self, drawing: Drawing) -> Question:
+        return Question(drawing, self._program, self._limit)
 
 
 def _near(constraint: Constraint) -> Iterator[Constraint]:
