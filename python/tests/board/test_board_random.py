@@ -33,18 +33,23 @@ COPIES = "mwuo"
 PLAIN = ("v", "x", "y", "d", "0", "+", "-", "[", "]", Keys.ESCAPE, Keys.ENTER, Keys.DELETE,
          Keys.ARROW_LEFT, Keys.ARROW_UP, Keys.CONTROL + "z", Keys.CONTROL + "z", Keys.CONTROL + "y",
          Keys.CONTROL + "c", Keys.CONTROL + "v", Keys.CONTROL + "a", Keys.ALT + Keys.ARROW_RIGHT)
+LONGEST_SECONDS = 240
+"""Within this a page comes to rest, beside other programs too: a range takes many calls of the
+program."""
 VALUES = ("10", "25", "60deg", "1/2", "0.5 in", "-3", "", "forty", "7.25")
 
 
 COUNTS = """
-window.calls_ = 0;
+window.calls_ = [];
 const { fetch } = window;
 window.fetch = async (...given) => {
-  window.calls_ += 1;
-  try { return await fetch(...given); } finally { window.calls_ -= 1; }
+  window.calls_.push(given[0]);
+  try { return await fetch(...given); } finally {
+    window.calls_.splice(window.calls_.indexOf(given[0]), 1);
+  }
 };
 """
-"""Counts the calls that are on their way to the server."""
+"""Keeps the calls that are on their way to the server."""
 
 
 @dataclass
@@ -154,11 +159,11 @@ class Hand:
 
 def settle(page: Page) -> str:
     """Waits until no call is on its way, and nothing has changed for a while; gives the text."""
-    last, since, ends = ("", ""), time.monotonic(), time.monotonic() + 90
+    last, since, ends = ("", ""), time.monotonic(), time.monotonic() + LONGEST_SECONDS
     while time.monotonic() - since < 1.5:
-        assert time.monotonic() < ends, "it doesn't come to rest"
-        now = page.text(), page.told()
-        if now != last or page.driver.execute_script("return window.calls_"):
+        now, calls = (page.text(), page.told()), page.driver.execute_script("return window.calls_")
+        assert time.monotonic() < ends, f"it doesn't come to rest: {calls}"
+        if now != last or calls:
             last, since = now, time.monotonic()
         time.sleep(0.1)
     return last[0]
