@@ -46,9 +46,9 @@ class Pieces:
     @staticmethod
     def of(drawing: Drawing) -> Pieces:
         """Outlines come first, and then what `mirrored` says."""
-        found = ((sides, [leaders_of(drawing, each) for each in sides])
-                 for sides in map(tuple, _pieces(drawing)))
-        return Pieces(tuple(Piece(sides, tuple(corners(ends))) for sides, ends in found))
+        return Pieces(tuple(
+            Piece(tuple(sides), tuple(corners([leaders_of(drawing, each) for each in sides])))
+            for sides in _pieces(drawing)))
 
     def mirrored(self, edges: Edges) -> Iterator[tuple[str, ...]]:
         """What lies mirrored of a placed drawing that has these pieces, as `mirrored` says. Raises
@@ -169,9 +169,8 @@ def _points_by_distances(drawing: Drawing, shapes: Sequence[Segment | Arc],
     for each in told:
         first, second = leaders_of(drawing, each)
         ways.setdefault(first, {})[second] = ways.setdefault(second, {})[first] = each
-    straight = [each for each in shapes if isinstance(each, Segment)]
-    across: dict[frozenset[PointRef], Side] = {
-        frozenset(leaders_of(drawing, each)): each for each in (*told, *straight)}
+    sides: list[Side] = [*told, *(each for each in shapes if isinstance(each, Segment))]
+    across = {frozenset(leaders_of(drawing, each)): each for each in sides}
     for third in across.values():
         one, other = (ways.get(end, {}) for end in leaders_of(drawing, third))
         for point in (one.keys() & other.keys()) - ended:

@@ -115,10 +115,12 @@ def _meeting(drawing: Drawing, segments: Sequence[Segment]) -> Iterator[tuple[St
     end there, and the lines that it lies on or at a distance from, as the centre of a circle that
     touches them."""
     leader = drawing.meetings.leader
-    lines: dict[str, Straight] = {each.name: each for each in (*segments, *AXES)}
+    lines: dict[str, Straight] = {each.name: each for each in AXES}
+    lines.update((each.name, each) for each in segments)
     through: dict[PointRef, dict[str, Straight]] = {}
-    told = (each for each in drawing.constraints if isinstance(each, Distance))
-    for side in (*segments, *told):
+    sides: list[Segment | Distance] = [*segments]
+    sides += (each for each in drawing.constraints if isinstance(each, Distance))
+    for side in sides:
         for end in leaders_of(drawing, side):
             through.setdefault(end, {})[name_of(side)] = side
     for each in drawing.constraints:
