@@ -14,12 +14,14 @@ from pertxogai.judging import DepartureKind, DrawingRefused, Then, Tie, judge
 from pertxogai.judging.departures import warnings
 from pertxogai.judging.faults import Unit as Measure
 from pertxogai.judging.measure import Limit, Solution, Unit
+from pertxogai.judging.missing import DIMENSIONS
 from pertxogai.judging.judged_drawing import JudgedDrawing
 from pertxogai.judging.shortage import shortage_of
 from pertxogai.output import drawing_json, drawing_lines
 from pertxogai.program.reports import Verdict, read_excess
 from pertxogai.spelling import Style
 
+DRAWINGS = Path(__file__).parent / "drawings"
 PLATE = """rectangle Plate 0 0 61 39
 coincident PlateBottom.start Origin
 Width: length PlateTop 60
@@ -74,6 +76,48 @@ def test_what_ties_loose_pieces_is_as_many_dimensions_as_are_missing(program, li
     assert found.missing.count == lacks
     joint, = found.missing.joints
     assert joint.tie is tie and joint.shared == ()
+
+
+ROUNDED = """point A 0 0
+point B 120 0
+segment Bottom A B
+segment Right B 120 72
+arc Round 112 72 Right.end 112 80
+segment Top Round.end 0 80
+segment Left Top.end A
+circle West 20 40 5
+circle East 100 40 5
+coincident A Origin
+horizontal Bottom Top
+vertical Left Right
+length Bottom 120
+length Left 80
+radius Round 8
+diameter West 10
+equal West East
+x West 20
+y West 40
+x East B 20
+"""
+
+
+def test_what_constraints_of_other_clusters_fix_is_not_asked_for_again(program):
+    """The radius joins Right.end and Round.centre to a cluster that shares nothing with the plate.
+    Three dimensions would tie it; but Right is vertical, so Right.end lies above B, and two are
+    enough: how far, and how the radius is turned. East lacks its y."""
+    found = judge(read_drawing(ROUNDED), program)
+    assert found.missing.count == 3
+    ties = {joint.second.elements: joint.tie for joint in found.missing.joints}
+    assert ties == {("Right.end", "Round.centre"): Tie.APART, ("East.centre",): Tie.SLIDE}
+    followed = judge(read_drawing(f"{ROUNDED}y B Right.end 72\ny B East 40\n"), program)
+    assert followed.verdict is Verdict.OPEN and followed.missing.count == 1
+
+
+@pytest.mark.parametrize("path", sorted(DRAWINGS.glob("open-*.drawing")), ids=lambda path: path.stem)
+def test_no_more_dimensions_are_asked_for_than_are_missing(program, path):
+    found = judge(read_drawing(path.read_text()), program)
+    asked = sum(DIMENSIONS[joint.tie] for joint in found.missing.joints)
+    assert 0 < asked <= found.missing.count
 
 
 def test_a_point_that_is_level_with_another_is_tied_by_two_dimensions(program):

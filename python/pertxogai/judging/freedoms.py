@@ -13,6 +13,7 @@ from dataclasses import dataclass
 from decimal import Decimal, localcontext
 from enum import Enum
 from functools import cached_property
+from itertools import islice
 
 from pertxogai.cached import cached_on
 from pertxogai.drawing import Distance, Drawing, PointRef
@@ -217,15 +218,17 @@ class Gone:
         return {-1 - key for key, value in rest.items() if key < 0 and abs(value) > SOME}
 
 
-def new_distances(free: Freedoms, told: Iterable[Sequence[Distance]]) -> Iterator[bool]:
-    """Of each list of distances, whether one of them says something new beside all that is said and
-    the lists before. Raises TooMany."""
+def new_distances(free: Freedoms,
+                  told: Iterable[tuple[Sequence[Distance], int]]) -> Iterator[int]:
+    """Of each list of distances, how many are independent of all that is said and of the lists
+    before, up to the number beside the list. Raises TooMany."""
     with localcontext(EXACT):
         rows = Rows[Decimal](NONE)
         for _, jet in free.plane.all():
             _add(rows, jet)
-        for distances in told:
-            yield any([_add(rows, jet) for each in distances for jet in free.plane.asked(each)])
+        for distances, most in told:
+            new = (jet for each in distances for jet in free.plane.asked(each) if _add(rows, jet))
+            yield len(list(islice(new, most)))
 
 
 def _add(rows: Rows[Decimal], jet: Jet[Decimal]) -> bool:

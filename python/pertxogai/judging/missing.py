@@ -3,9 +3,10 @@ pieces."""
 from __future__ import annotations
 
 from collections.abc import Sequence
-from dataclasses import dataclass
+from dataclasses import dataclass, replace
 from enum import Enum
 from fractions import Fraction
+from itertools import product
 
 from pertxogai.drawing import Distance, Drawing
 from pertxogai.drawing.places import UM_PER_MM
@@ -24,10 +25,15 @@ class Tie(Enum):
     LONE_PAIR = "not connected: add a dimension between them"
     HINGE = "they turn about a point: add an angle, or a distance between points of both"
     SLIDE = "they slide along a line: add a distance between points of both, not across that line"
+    APART = ("they share nothing: add a dimension between them that other constraints don't fix, "
+             "and judge again")
 
 
-DIMENSIONS = {Tie.LOOSE: 3, Tie.LONE: 2, Tie.LONE_PAIR: 1, Tie.HINGE: 1, Tie.SLIDE: 1}
-"""How many dimensions tie two pieces."""
+DIMENSIONS = {Tie.LOOSE: 3, Tie.LONE: 2, Tie.LONE_PAIR: 1, Tie.HINGE: 1, Tie.SLIDE: 1,
+              Tie.APART: 1}
+"""How many dimensions are added between two pieces; by rank no fewer are missing there."""
+MOST_PAIRS = 9
+"""The most distances between two pieces that are tried."""
 
 
 @dataclass(frozen=True)
@@ -72,7 +78,7 @@ def missing(names: Names, parts: tuple[Part, ...]) -> Missing:
     joints = tuple(_joint(names, parts, pieces, shown, place) for place in shown[1:])
     shown_pieces = tuple(pieces[place] for place in shown)
     if free is None:
-        return Missing(0, shown_pieces, joints)
+        return Missing(0, shown_pieces, tuple(map(_uncounted, joints)))
     return Missing(free.lacks, shown_pieces, _lacking(names, parts, joints, free), free.whole)
 
 
@@ -80,21 +86,31 @@ def _lacking(names: Names, parts: Sequence[Part], joints: Sequence[Joint],
              free: Freedoms) -> tuple[Joint, ...]:
     """The joints that a dimension is lacking at, by rank, once those before them have theirs."""
     elements = {part.number: part.elements for part in parts}
-    told = [_distances(names, elements[each.first.number], elements[each.second.number],
-                       DIMENSIONS[each.tie]) for each in joints]
+    told = [(_distances(names, elements[each.first.number], elements[each.second.number]),
+             DIMENSIONS[each.tie]) for each in joints]
     try:
-        return tuple(joint for joint, is_new in zip(joints, new_distances(free, told)) if is_new)
+        counts = list(new_distances(free, told))
     except (TooMany, ArithmeticError):
-        return tuple(joints)
+        return tuple(_uncounted(joint) for joint in joints)
+    return tuple(joint if count == DIMENSIONS[joint.tie] else _uncounted(joint)
+                 for joint, count in zip(joints, counts) if count)
 
 
-def _distances(names: Names, first: Sequence[str], second: Sequence[str],
-               count: int) -> list[Distance]:
-    """At most `count` distances between points of two parts that aren't in both."""
-    ends = [[names.point(each) for each in mine if each not in other]
+def _uncounted(joint: Joint) -> Joint:
+    """A joint of which it isn't known that all dimensions of its tie are missing, since constraints
+    of other clusters may fix some of them."""
+    return joint if joint.tie in (Tie.HINGE, Tie.SLIDE) else replace(joint, tie=Tie.APART)
+
+
+def _distances(names: Names, first: Sequence[str], second: Sequence[str]) -> list[Distance]:
+    """At most `MOST_PAIRS` distances between points of two parts that aren't in both; those between
+    the first points of each come first, since these fix most."""
+    ends = [[point for each in mine if each not in other and (point := names.point(each))]
             for mine, other in ((first, second), (second, first))]
-    pairs = [(one, other) for one in ends[0] if one for other in ends[1] if other]
-    return [Distance(one, other, Fraction(UM_PER_MM)) for one, other in pairs[:count]]
+    places = [range(min(len(points), MOST_PAIRS)) for points in ends]
+    pairs = sorted(product(places[0], places[1]), key=max)
+    return [Distance(ends[0][one], ends[1][other], Fraction(UM_PER_MM))
+            for one, other in pairs[:MOST_PAIRS]]
 
 
 def unmet(drawing: Drawing) -> tuple[str, ...] | None:
