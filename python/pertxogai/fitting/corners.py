@@ -168,7 +168,7 @@ class Corners:
         three = [_with(offs, {place: off}) for off in ends_of(self._effects[place].dimension)]
         where = turning_at([(case[place], self._at(case, side)) for case in three])
         there = [] if where is None else self._around(_with(offs, {place: where}), place)
-        return max(offs, *three, *there, key=lambda case: side * self._at(case, side))
+        return max([offs, *three, *there], key=lambda case: side * self._at(case, side))
 
     def _around(self, offs: Offs, place: int) -> list[Offs]:
         """A case between the ends of a dimension, or those beside it; none where it can't be placed

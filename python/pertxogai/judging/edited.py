@@ -13,6 +13,7 @@ from pertxogai.spelling import Interpretation
 from pertxogai.spelling.facts import Facts
 from pertxogai.spelling.lowering import lowered, lowered_from
 from pertxogai.spelling.reading import interpretations
+from pertxogai.spelling.revaluing import revalued_from
 
 
 @dataclass
@@ -48,7 +49,8 @@ class EditedDrawing:
         """All that it says."""
         found = None
         if self._redrawing is not None and self._known.facts is not None:
-            found = lowered_from(self._known.facts, self._redrawing)
+            found = (lowered_from(self._known.facts, self._redrawing)
+                     or revalued_from(self._known.facts, self._redrawing))
         self.analysis.facts = found or lowered(self.drawing)
         return self.analysis.facts
 

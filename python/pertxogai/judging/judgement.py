@@ -6,7 +6,7 @@ from functools import cached_property
 from typing import TYPE_CHECKING
 
 from pertxogai.drawing import Circle, Drawing
-from pertxogai.judging.departures import Departure, warnings
+from pertxogai.judging.departures import Departure
 from pertxogai.judging.edited import EditedDrawing
 from pertxogai.judging.freedoms import Freedoms, Twice, Whole, freedoms
 from pertxogai.judging.limits import check_fits
@@ -330,9 +330,8 @@ def _with_places(edited: EditedDrawing, asked: Trial, solved: Solved) -> WithPla
     found = settled(edited.drawing, asked, solved)
     length_nm = -(-solved.length_tolerance_nm // asked.spelled.scale)
     is_free = not is_tied(asked.axes, asked.spelled)
-    departures = warnings(edited.drawing, found.solution, is_free)
     return WithPlaces(edited.measured(found.solution), length_nm, solved.angle_tolerance_ppb,
-                      departures, found.unsized)
+                      is_free, found.unsized)
 
 
 def with_choices(judged: WeighedJudgement, program: Solver) -> WeighedJudgement:

@@ -2,7 +2,9 @@
 frame."""
 from __future__ import annotations
 
+from collections.abc import Callable
 from dataclasses import dataclass
+from functools import cache, partial
 
 from pertxogai.drawing import ORIGIN, Arc, Circle, Drawing, PointRef
 from pertxogai.exact import whole_near
@@ -28,7 +30,7 @@ def settled(drawing: Drawing, asked: Trial, shape: Shape) -> Settled:
     points = _points(asked, shape)
     radii: dict[str, int] = {}
     unsized = []
-    sizes = _sizes(asked, points)
+    sizes = cache(partial(_sizes, asked, points))
     for rim in drawing.geometry:
         if isinstance(rim, (Circle, Arc)):
             radius = _radius(asked, sizes, rim.name)
@@ -59,7 +61,8 @@ def _sizes(asked: Trial, points: dict[PointRef, PointNm]) -> Sizes:
     return Sizes(facts, {**spots, ORIGIN_KNOT: (0, 0)})
 
 
-def _radius(asked: Trial, sizes: Sizes, name: str) -> int | None:
-    """A radius that is told; else the one that the places tell; else None."""
+def _radius(asked: Trial, sizes: Callable[[], Sizes], name: str) -> int | None:
+    """A radius that is told; else the one that the places tell; else None. sizes: what the places
+    tell, which few drawings need."""
     told = asked.rails.size(RadiusOf(name))
-    return sizes.radius_nm(name) if told is None else whole_near(told * 1000)
+    return sizes().radius_nm(name) if told is None else whole_near(told * 1000)

@@ -3,8 +3,10 @@ fails; it is in pieces; or dimensions are too many."""
 from __future__ import annotations
 
 from dataclasses import dataclass
+from functools import cached_property
 from typing import TYPE_CHECKING
 
+from pertxogai.judging import departures
 from pertxogai.judging.departures import Departure
 from pertxogai.judging.measure.measuring import Measurement
 
@@ -18,14 +20,21 @@ if TYPE_CHECKING:  # What isn't well imports what is told of it alone.
 class WithPlaces:
     """It is well and placed. measurement: where it lies, in the datum's frame, in whole nanometres,
     and how far each constraint is off there. length_nm, angle_ppb: within how many nanometres of
-    the drawing, and how many ppb, the program places it. warnings: what lies otherwise than it is
-    drawn. unsized: the circles of which neither a dimension nor the places tell the size."""
+    the drawing, and how many ppb, the program places it. is_free: whether nothing ties the drawing
+    to the datum's directions. unsized: the circles of which neither a dimension nor the places tell
+    the size."""
 
     measurement: Measurement
     length_nm: int
     angle_ppb: int
-    warnings: tuple[Departure, ...] = ()
+    is_free: bool = False
     unsized: tuple[str, ...] = ()
+
+    @cached_property
+    def warnings(self) -> tuple[Departure, ...]:
+        """What lies otherwise than it is drawn; it is looked for when it is asked for."""
+        placed = self.measurement
+        return departures.warnings(placed.drawing, placed.solution, self.is_free)
 
 
 @dataclass(frozen=True)

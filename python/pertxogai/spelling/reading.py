@@ -81,7 +81,13 @@ def interpretations(heard: Facts, known: Sequence[Interpretation] = ()) -> Itera
             seen.append(facts)
             redrawn = (each.redrawn(facts) for each in known)
             found = next((each for each in redrawn if each), None)
-            yield found or Interpretation.of(facts)
+            yield found or _revalued(facts, known)
+
+
+def _revalued(facts: Facts, known: Sequence[Interpretation]) -> Interpretation:
+    """How facts are spelled, by known ones that differ by the numbers of lengths alone, if any."""
+    found = next((each for each in known if each.said.says_but_for_lengths(facts)), None)
+    return Interpretation.of(facts) if found is None else found.revalued(facts)
 
 
 def _read(heard: Facts, reading: Reading) -> Facts:

@@ -2,7 +2,9 @@
 from __future__ import annotations
 
 from collections.abc import Iterator
+from dataclasses import dataclass
 
+from pertxogai.cached import cached_on
 from pertxogai.spelling.axes import Axes, Equation, Frame
 from pertxogai.spelling.facts import DATUM, Apart, Facts, Knot, Off
 from pertxogai.spelling.linear import Form
@@ -22,7 +24,7 @@ def revalued_axes(known: Axes, facts: Facts) -> Axes:
     axes = known.revalued(facts)
     if axes is None:
         return settled_axes(facts)
-    Settling(axes).settle()
+    _resettling(known).settle(axes)
     return axes
 
 
@@ -34,12 +36,28 @@ def with_equation(axes: Axes, number: int | None, equation: Equation,
     return other
 
 
+@dataclass(frozen=True)
+class Step:
+    """A distance, by its place among those that were no equations, that runs along an axis of a
+    frame, forwards or backwards by its sign: its points are level across that axis."""
+
+    number: int
+    frame: int
+    upwards: bool
+    sign: int
+
+
 class Settling:
     """The distances of some axes that are no equations yet. One that ran along no axis is looked
-    at again only once the value of an unknown in it has changed."""
+    at again only once the value of an unknown in it has changed. steps: those that became equations
+    since their points are level. level: the ways that were found to be 0, by the distances that
+    this decided. is_by_values: whether something else was decided by values."""
 
     def __init__(self, axes: Axes) -> None:
         self.axes = axes
+        self.steps: list[Step] = []
+        self.level: list[tuple[int, Form]] = []
+        self.is_by_values = False
         self._facts = [fact for fact in axes.loose if isinstance(fact, Apart)]
         self._speaking: dict[object, list[int]] = {}
         for number, fact in enumerate(self._facts):
@@ -93,17 +111,34 @@ class Settling:
         for frame, upwards in self._axes_of(in_datum, {fact.first, fact.second}):
             if not self.axes.has_rails(frame, upwards):
                 continue
-            across = self._run(frame, not upwards, fact)
-            along = self._run(frame, upwards, fact)
-            along = along - value.times(self._sign(frame, upwards, fact, reduced(along)))
-            for is_so, follows in ((across, along), (along, across)):
-                if reduced(is_so) == Form():
-                    self.axes.tell(follows, owners)
-                    return True
+            across, way = (self._run(frame, each, fact) for each in (not upwards, upwards))
+            sign = self._sign(frame, upwards, fact, reduced(way))
+            along = way - value.times(sign)
+            if reduced(across) == Form():
+                self.level.append((number, across))
+                self.steps.append(Step(number, frame.number, upwards, sign))
+                self.axes.tell(along, owners)
+                return True
+            if reduced(along) == Form():
+                self.is_by_values = True
+                self.axes.tell(across, owners)
+                return True
+            self._note(number, across, way, along)
         return False
+
+    def _note(self, number: int, across: Form, way: Form, along: Form) -> None:
+        """Notes by what a distance doesn't run along an axis: where its points are level along it,
+        it can't, as long as it is more than 0."""
+        reduced = self.axes.system.reduced
+        if reduced(way) == Form():
+            self.level.append((number, way))
+        elif not reduced(along).terms:
+            self.is_by_values = True
+        self.is_by_values |= not reduced(across).terms
 
     def _sign(self, frame: Frame, upwards: bool, fact: Apart, way: Form) -> int:
         """Which way along an axis a distance runs: as it is told, else as it is drawn."""
+        self.is_by_values |= not way.terms and bool(way.number)
         if way.terms or not way.number:
             return self.axes.sign(frame, upwards, fact.first, fact.second)
         return 1 if way.number > 0 else -1
@@ -112,7 +147,10 @@ class Settling:
         """A distance, which is no less than 0: turned where it is known to come out so, as that of
         two rims of which the other is greater than drawn."""
         value, known = self._facts[number].value, self._value(number)
-        return value.times(-1) if not known.terms and known.number < 0 else value
+        if known.terms or known.number >= 0:
+            return value
+        self.is_by_values = True
+        return value.times(-1)
 
     def _axes_of(self, in_datum: bool, knots: set[Knot]) -> Iterator[tuple[Frame, bool]]:
         """The axes of the datum's frame, or of the others in which something is said of all these
@@ -140,6 +178,7 @@ class Settling:
         value = self._value(number)
         if not value.terms:
             return False
+        self.is_by_values = True
         for mate in self._left:
             if mate == number:
                 return False
@@ -191,3 +230,43 @@ class Settling:
         return self._run(frame, upwards, fact).times(sign)
 
 
+class Resettling:
+    """How the distances of some axes were settled, to settle those of axes that differ by the
+    values of lengths alone."""
+
+    def __init__(self, axes: Axes) -> None:
+        """axes: settled, but for their distances. Settles them."""
+        self._facts = [fact for fact in axes.loose if isinstance(fact, Apart)]
+        settling = Settling(axes)
+        settling.settle()
+        self._steps = settling.steps
+        self._is_alike = not settling.is_by_values and all(
+            self._is_by_lines(axes, *each) for each in settling.level)
+
+    def _is_by_lines(self, axes: Axes, number: int, way: Form) -> bool:
+        """Whether a way is 0, and a distance more than that, whatever the values of lengths are: no
+        equation with a value makes it 0, and one tells the distance."""
+        marks = axes.system.sources
+        return (not any(axes.equations[mark].form.number for mark in marks(way))
+                and len(marks(self._facts[number].value)) <= 1)
+
+    def settle(self, axes: Axes) -> None:
+        """Settles the distances of other axes."""
+        if not self._is_alike:
+            Settling(axes).settle()
+            return
+        facts = [fact for fact in axes.loose if isinstance(fact, Apart)]
+        for step in self._steps:
+            fact = facts[step.number]
+            way = axes.between(step.frame, step.upwards, fact.first, fact.second)
+            axes.tell(way - fact.value.times(step.sign), frozenset({fact.owner}))
+            axes.forget(fact)
+
+
+@cached_on
+def _resettling(known: Axes) -> Resettling:
+    """How the distances of axes are settled that differ from known ones by the values of lengths
+    alone."""
+    axes = known.revalued(known.facts)
+    assert axes is not None
+    return Resettling(axes)

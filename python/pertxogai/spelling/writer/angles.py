@@ -68,13 +68,15 @@ class Angles:
     def _near_ties(self, tracks: list[Track]) -> list[tuple[Track, Track, Lean, Owner]]:
         """The angles that are told against the line that the designer names, or of which a normal
         is one."""
-        layout = self.layout
+        layout, is_near = self.layout, self.layout.style.near()
         found = []
         for leans in layout.axes.directions.joined:
+            if leans.lean.level() or not (is_near or isinstance(leans.second, Between)):
+                continue
             first, second = self._track_of(leans.first), self._track_of(leans.second)
-            normal = isinstance(leans.second, Between) and isinstance(second, Between)
-            if (layout.style.near()
-                or normal) and first in tracks and second in tracks and not leans.lean.level():
+            if not (is_near or isinstance(second, Between)):
+                continue
+            if first in tracks and second in tracks:
                 assert first is not None and second is not None
                 found.append((first, second, leans.lean, leans.owner))
         return found

@@ -1,0 +1,73 @@
+"""A drawing of which only values of lengths are others than before is spelled as if it were read
+anew: the same sketches, with the same owners, in each reading and each style."""
+from __future__ import annotations
+
+from collections.abc import Iterator
+from fractions import Fraction
+from pathlib import Path
+from random import Random
+
+import pytest
+
+from pertxogai.drawing import VALUED, AngleBetween, Drawing, DrawingUnsound, read_drawing
+from pertxogai.fitting.toleranced import moved
+from pertxogai.judging.edited import EditedDrawing
+from pertxogai.spelling import Style
+from toleranced_drawings import toleranced
+
+TESTS = Path(__file__).parent
+DRAWINGS = sorted([*TESTS.glob("fits/*.drawing"), *TESTS.glob("drawings/*.drawing")])
+
+
+def spelled(edited: EditedDrawing) -> list[dict[str, object]]:
+    """All that the program would be told of a drawing, and who says it."""
+    found = [each.spelled(style) for each in edited.readings() for style in Style]
+    return [{**{name: value for name, value in vars(each).items() if name != "said"},
+             "owners": each.owners} for each in found]
+
+
+def otherwise(drawing: Drawing, random: Random) -> Iterator[Drawing]:
+    """The drawing with a length, some, or all of them a little more or less."""
+    numbers = [number for number, each in enumerate(drawing.constraints, 1)
+               if isinstance(each, VALUED) and not isinstance(each, AngleBetween)]
+    for count in (1, 2, len(numbers)) if numbers else ():
+        some = random.sample(numbers, min(count, len(numbers)))
+        offs = {number: Fraction(random.randint(-90, 90)) for number in some}
+        try:
+            yield moved(drawing, offs)
+        except DrawingUnsound:
+            continue
+
+
+def check(drawing: Drawing, seed: int) -> None:
+    """Compares the drawing with other values, as edited and as read anew."""
+    known = EditedDrawing(drawing)
+    spelled(known)
+    for other in otherwise(drawing, Random(seed)):
+        assert spelled(EditedDrawing(other, known)) == spelled(EditedDrawing(other))
+
+
+@pytest.mark.parametrize("path", DRAWINGS, ids=lambda path: path.stem)
+def test_other_values_are_spelled_as_if_they_were_read_anew(path: Path) -> None:
+    check(read_drawing(path.read_text()), 1)
+
+
+@pytest.mark.parametrize("seed", range(1, 25))
+def test_other_values_of_drawings_by_chance_are(seed: int) -> None:
+    drawing = toleranced(seed)
+    if drawing is not None:
+        check(drawing, seed)
+
+
+def test_two_heights_that_are_alike_by_their_values_alone_are_not_later() -> None:
+    # Two points at 20 have one y, so the way between them is level; at 20 and 20.05 it isn't, and
+    # their distance is no equation.
+    drawing = read_drawing("point P 10 20\npoint Q 40 20\nx P 10\ny P 20\ny Q 20\n"
+                           "distance P Q 30\n")
+    known = EditedDrawing(drawing)
+    assert spelled(known)
+    anew = moved(drawing, {3: Fraction(50)})
+    (first, *_), (other, *_) = (spelled(each) for each in (
+        EditedDrawing(anew, known), EditedDrawing(anew)))
+    assert first == other
+    assert "distance" in first["sketch"].text() != spelled(known)[0]["sketch"].text()
