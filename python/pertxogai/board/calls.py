@@ -45,8 +45,11 @@ from pertxogai.output.json_of_drawing import spare_json
 from pertxogai.output.picture.drawings import DrawnPlaces
 from pertxogai.output.release import Release
 from pertxogai.program import ProgramError, Solver, Status
+from pertxogai.program.called import COMMAND
 from pertxogai.program.reports import Flipped, NoChoice
 
+LONGER = 60.0
+"""The seconds, at least, with which a board is to be started whose calls had no more time."""
 KEPT = 4
 """How many judgements are kept, for the calls that follow one."""
 
@@ -121,6 +124,14 @@ class Desk:
 def trouble(kind: str, message: str) -> Answer:
     """Why a call has no answer: what kind of trouble, and one line that says what to do."""
     return {"trouble": _trouble(kind, message)}
+
+
+def too_long(seconds: float) -> str:
+    """That a call had no more time, and what to do: on a busy machine even an empty drawing may
+    take longer than a board's call has by default."""
+    return (f"the call took over {seconds:g} s and was stopped; the drawing stays as it was. Try "
+            f"again; if it is stopped again, start the board by {COMMAND} page --seconds "
+            f"{max(LONGER, 6 * seconds):g}")
 
 
 def _trouble(kind: str, message: str) -> Trouble:

@@ -17,9 +17,8 @@ from importlib import import_module
 from time import monotonic
 
 from pertxogai.board import protocol
-from pertxogai.board.calls import Desk, trouble
+from pertxogai.board.calls import Desk, too_long, trouble
 from pertxogai.program import Answer, Program, ProgramTimedOut
-from pertxogai.program.called import COMMAND
 
 MEBIBYTE = 1 << 20
 PAUSE = 0.5
@@ -58,8 +57,7 @@ class WithDeadline:
                 return replace(self.program, seconds=left).ask(words, text)
         except ProgramTimedOut:
             pass
-        raise ProgramTimedOut(f"the call took over {self.seconds:g} s and was stopped: draw less "
-                              f"at once, or judge the file by {COMMAND} judge")
+        raise ProgramTimedOut(too_long(self.seconds))
 
 
 def main(words: Sequence[str]) -> None:

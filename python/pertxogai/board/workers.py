@@ -15,8 +15,7 @@ from threading import Lock
 from time import monotonic
 from typing import IO
 
-from pertxogai.board.calls import trouble
-from pertxogai.program.called import COMMAND
+from pertxogai.board.calls import too_long, trouble
 
 MOST_AT_ONCE = 4
 GRACE = 2.0
@@ -83,8 +82,7 @@ class Worker:
             ready.register(pipe, selectors.EVENT_READ)
             while b"\n" not in self.rest:
                 if not ready.select(max(0.0, ends - monotonic())):
-                    raise WorkerLost(f"the call took over {self.seconds:g} s and was stopped: "
-                                     f"draw less at once, or judge the file by {COMMAND} judge")
+                    raise WorkerLost(too_long(self.seconds))
                 self._take(pipe)
         line, _, rest = bytes(self.rest).partition(b"\n")
         self.rest = bytearray(rest)

@@ -209,7 +209,9 @@ def test_a_program_that_takes_too_long_is_stopped(tmp_path, workers) -> None:
     slow = workers(script(tmp_path / "slow", "exec sleep 60\n"), Bounds(0.5, 0))
     began = time.monotonic()
     found = json.loads(slow.text("judge", SEGMENT))
-    assert "took over 0.5 s" in found["trouble"]["message"]
+    told = found["trouble"]["message"]
+    assert told.startswith("the call took over 0.5 s and was stopped; the drawing stays as it was.")
+    assert "Try again" in told and told.endswith("page --seconds 60")
     assert time.monotonic() - began < 30
 
 
@@ -220,6 +222,7 @@ def test_a_worker_that_hangs_is_stopped_and_another_starts(tmp_path, workers) ->
     hangs._back(worker)
     found = json.loads(hangs.text("judge", {"text": ""}))
     assert found["trouble"]["kind"] == "stopped"
+    assert found["trouble"]["message"].endswith("page --seconds 60")
     assert worker.process.poll() is not None
     later = Workers(str(tmp_path / "no"), Bounds(20, 0))
     assert json.loads(later.text("judge", {"text": ""}))["judgement"] is None
