@@ -424,6 +424,13 @@ def asked(monkeypatch):
     monkeypatch.setenv("PERTXOGAI_SKETCH", Program.find().path)
 
 
+def test_the_range_of_a_value_without_a_unit_says_so(asked, tmp_path, capsys):
+    path = tmp_path / "edge.drawing"
+    path.write_text("segment Edge 0 0 60 0\nvalue Width 60\nlength Edge Width\n")
+    assert main(["range", str(path)]) == 0
+    assert "  Width: from 0.001 to 1000000 (no unit), now 60, " in capsys.readouterr().out
+
+
 def test_ranges_are_told_in_lines_and_as_json(asked, tmp_path, capsys):
     path = tmp_path / "plate.drawing"
     path.write_text(PLATE)

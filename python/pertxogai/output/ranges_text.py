@@ -44,7 +44,7 @@ def ranges_lines(name: str, drawing: Drawing, ranges: Sequence[Range]) -> Iterat
     """The ranges of a drawing: a line for each, and one for the reason at each end."""
     yield f"{name}: {len(ranges)} range{'s' if len(ranges) != 1 else ''}"
     for each in ranges:
-        unit = f" {each.of.unit.value}" if each.of.unit.value else ""
+        unit = f" {each.of.unit.value or '(no unit)'}"
         yield (f"  {each.of.called(drawing)}: from {number_text(each.low.at)} to "
                f"{number_text(each.high.at)}{unit}, now {number_text(each.of.present)}, "
                f"{sampled_text(each)}")
