@@ -251,6 +251,23 @@ def test_a_dead_point_that_only_two_angles_together_reach(program) -> None:
     assert slider.worst.turning and any("it is open" in why for why in found.between)
 
 
+def test_fifty_dimensions_and_five_checks_take_few_placements(program) -> None:
+    # A row of fifty blocks of 10, within 0.01 to 0.09 each: behind ten, twenty and so on their
+    # tolerances add up. Each is placed at both ends, and the corners besides.
+    offs = [1 + number % 9 for number in range(50)]
+    blocks = "".join(
+        f"segment B{number} {f'B{number - 1}.end' if number else '0 0'} {10 * number + 10} 0\n"
+        f"horizontal B{number}\nlength B{number} 10 +-0.0{off}\n"
+        for number, off in enumerate(offs))
+    text = "".join(f"check Row{count} x B{count - 1}.end 0 .. 1000\n"
+                   for count in (10, 20, 30, 40, 50))
+    found = fit(read_drawing(f"{text}{blocks}coincident B0.start Origin\n"), program)
+    assert [worst(each) for each in found.checks] == [
+        rounded(10 * count - sum(offs[:count]) / 100, 10 * count + sum(offs[:count]) / 100)
+        for count in (10, 20, 30, 40, 50)]
+    assert found.placements <= 150
+
+
 # -- what isn't sure, and what isn't known
 
 def test_what_cannot_be_placed_between_the_ends_is_not_known_to_fit(program) -> None:
