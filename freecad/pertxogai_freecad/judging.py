@@ -110,10 +110,8 @@ def judge_sketch(read: ReadSketch, program: Program, limit: Limit) -> JudgedSket
     found, asks = read.found, Remembering(program)
     with troubles():
         judgement = judge(found.drawing, asks, limit=limit)
-        judged = CountedDrawing(found.label, found.drawing, judgement,
-                                tuple(map(str, found.left_out)),
-                                tuple(f"{each.name} ({each.why.value})" for each in found.aside),
-                                limit)
+        aside = tuple(f"{each.name} ({each.why.value})" for each in found.aside)
+        judged = CountedDrawing(found.label, found.drawing, judgement, aside=aside, limit=limit)
         return JudgedSketch(read, _searched(judged, asks), program)
 
 

@@ -35,8 +35,7 @@ def ranges(read: ReadSketch, program: Program, limit: Limit,
 
     with troubles():
         try:
-            ranging = Ranging.of(read.drawing, Remembering(program), limit,
-                                 tuple(map(str, read.found.left_out)))
+            ranging = Ranging.of(read.drawing, Remembering(program), limit)
         except NoRange as why:
             raise NotGoodTrouble(f"{read.label}: no ranges: {why}") from None
         asked = [each for each in parameters(read.drawing)

@@ -10,13 +10,16 @@ import pytest
 
 from conftest import TOP
 from pertxogai.commands import main
+from pertxogai.completing import Completion, NoProposal, WhyNot, complete
 from pertxogai.drawing import Drawing, PointRef, Which, read_drawing
 from pertxogai.exits import Exit
+from pertxogai.files.freecad import read_freecad
+from pertxogai.fitting import Fit, NoFit, fit
 from pertxogai.judging import judge
 from pertxogai.judging.mirrored import mirrored
 from pertxogai.judging.good import (
     GoodJudgement, GoodSketch, Lack, NotGood, good_of, good_sketch_of, reasons_against)
-from pertxogai.judging.judged_drawing import JudgedDrawing
+from pertxogai.judging.judged_drawing import CountedDrawing, JudgedDrawing
 from pertxogai.judging.judged_sketch import JudgedSketch, judge_sketch
 from pertxogai.judging.measure import (
     Deviation, Limit, Measurement, Solution, Unit, amount_text)
@@ -25,6 +28,7 @@ from pertxogai.output.drawing_sheet import DrawingSheet, NoPlaces
 from pertxogai.output import drawing_json, drawing_lines
 from pertxogai.output.release import Release
 from pertxogai.program.reports import Verdict
+from pertxogai.ranging import NoRange, Ranging
 
 FILES = Path(__file__).parent / "files"
 DRAWINGS = Path(__file__).parent / "drawings"
@@ -93,6 +97,54 @@ def test_nothing_is_not_good(program):
 def test_what_the_file_has_beside_the_drawing_is_lacking(program):
     found = judged(PLATE, program, not_drawn=("Ellipse9: a drawing has no ellipse",))
     assert lacks(found) == [Lack.LEFT_OUT]
+
+
+@pytest.mark.parametrize("name, what", [
+    ("ellipse", "Ellipse5: a drawing has no ellipse"),
+    ("spline", "BSplineCurve2: a drawing has no spline")])
+def test_what_a_file_has_beside_its_drawing_is_never_forgotten(name, what, program):
+    """In Python, with nothing passed on by hand: the file is read, judged, and drawn."""
+    (sketch,) = read_freecad(FILES / f"{name}.FCStd")
+    found = CountedDrawing(sketch.name, sketch.drawing, judge(sketch.drawing, program))
+    assert set(lacks(found)) == {Lack.LEFT_OUT}
+    assert reasons_against(found)[0].text == f"left out of the file: {what}"
+    assert len(reasons_against(found)) == len(sketch.left_out)
+    with pytest.raises(NotGood):
+        GoodJudgement(found)  # Which each function asks for that writes a file.
+    with pytest.raises(NoPlaces, match=f"left out of the file: {what}"):
+        DrawingSheet(found, False).dxf(Release.R2010)
+    assert f"  left out of the file: {what}" in drawing_lines(found)
+    with pytest.raises(NoRange, match=what):
+        Ranging.of(sketch.drawing, program)
+
+
+def test_what_a_file_has_beside_is_kept_by_what_is_made_of_its_drawing(program):
+    """Without its height and completed, with other numbers, and with a check."""
+    (sketch,) = read_freecad(FILES / "ellipse.FCStd")
+    drawing = sketch.drawing
+    fewer = replace(drawing, constraints=drawing.constraints[:-1])
+    completed = complete(fewer, program)
+    assert isinstance(completed, Completion) and completed.drawing.not_drawn == drawing.not_drawn
+    with pytest.raises(NotGood, match="Ellipse5"):
+        _ = completed.good
+    whole = complete(drawing, program)
+    assert isinstance(whole, NoProposal) and whole.why is WhyNot.NOTHING and not whole.is_good
+    assert drawing.with_numbers(drawing.constraints).not_drawn == drawing.not_drawn
+    check = read_drawing("segment Line1 0 0 60 0\ncheck Wide length Line1 59 .. 61\n").tolerancing
+    checked = fit(replace(drawing, tolerancing=check), program)
+    assert isinstance(checked, NoFit) and "Ellipse5" in checked.why[0]
+    alone = replace(drawing, tolerancing=check, not_drawn=())
+    assert isinstance(fit(alone, program), Fit)  # The ellipse alone is against it.
+
+
+def test_what_is_told_twice_of_a_file_is_told_once(program):
+    """By the drawing, and by who judges it; and what one of them tells alone."""
+    (sketch,) = read_freecad(FILES / "spline.FCStd")
+    found = judge(sketch.drawing, program)
+    (spline, *more) = map(str, sketch.left_out)
+    told = JudgedDrawing("it", sketch.drawing, found, (spline, "Hatch: no shape"))
+    assert told.not_drawn == (spline, *more, "Hatch: no shape")
+    assert replace(told, name="other").not_drawn == told.not_drawn
 
 
 def test_the_places_are_measured_and_not_believed(program):

@@ -83,4 +83,4 @@ def _write_into(path: Path, out: Path, completed: Mapping[str, Completion]) -> N
 
 def _addition(completion: Completion) -> Addition:
     added = tuple(each.constraint for each in completion.all())
-    return Addition(completion.drawing, added, completion.good.solution)
+    return Addition(completion.drawing, added, completion.solution)

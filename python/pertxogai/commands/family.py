@@ -54,7 +54,6 @@ class Task:
     svg: bool
     dxf: bool
     copy: bool
-    not_drawn: tuple[str, ...] = ()
 
     def begun(self) -> Begun:
         """What a folder is begun with."""
@@ -71,7 +70,7 @@ def judge_family(options: argparse.Namespace) -> Exit:
     solver_of(options)  # What is wrong with all of them is told once.
     table = Table.of(_lines(options), found.drawing, options.part)
     task = Task(options.file, found.key, found.drawing, table.columns, options.within,
-                options.output, options.svg, options.dxf, options.copy, found.left_out)
+                options.output, options.svg, options.dxf, options.copy)
     counts, before = Counter[Exit](), Counter[Exit]()
     with verdicts(task.folder, task.begun()) as kept:
         for told in _told(task, _left(table.variants, kept, before), options):
@@ -170,10 +169,9 @@ def tell(task: Task, program: Solver, variant: Variant) -> Told:
         return Told(variant, Exit.BAD_INPUT, "refused", " ".join(str(refused).split()))
     except ProgramError as error:
         return Told(variant, Exit.NO_ANSWER, "no answer", " ".join(str(error).split()))
-    judged = JudgedDrawing(variant.name, drawing, judgement, task.not_drawn, limit=task.limit)
+    judged = JudgedDrawing(variant.name, drawing, judgement, limit=task.limit)
     if counted is not None:
-        _draw(task, CountedDrawing(variant.name, drawing, counted, task.not_drawn,
-                                   limit=task.limit))
+        _draw(task, CountedDrawing(variant.name, drawing, counted, limit=task.limit))
     if task.copy:
         _copy(task, judged)
     fault = _fault(judged)

@@ -39,8 +39,8 @@ def outcome_of(found: Input, program: Solver, options: argparse.Namespace) -> Ou
         return SketchOutcome(judge_sketch(found.name, found.text, program, options.within),
                              program)
     judgement = _judgement(found, program, options)
-    judged = CountedDrawing(found.name, found.drawing, judgement, found.left_out, found.aside,
-                            options.within, short=_short(judgement, program))
+    judged = CountedDrawing(found.name, found.drawing, judgement, aside=found.aside,
+                            limit=options.within, short=_short(judgement, program))
     if options.as_stored:
         from pertxogai.judging.as_stored import as_stored
 

@@ -64,7 +64,7 @@ def _drawing(found: Input, options: argparse.Namespace) -> DesignerDrawing:
 def _ranges(found: DesignerDrawing, program: Solver,
             options: argparse.Namespace) -> Iterator[Range]:
     with made_of(found):
-        ranging = Ranging.of(found.drawing, program, options.within, found.left_out)
+        ranging = Ranging.of(found.drawing, program, options.within)
         for each in _asked_for(found.drawing, ranging.parameters(), options.names):
             yield ranging.range_of(each)
 

@@ -16,7 +16,7 @@ from pertxogai.completing.proposal import Completion, NoProposal, WhyNot
 from pertxogai.completing.slack import Slack, Remaining
 from pertxogai.completing.from_program import Words
 from pertxogai.drawing import Constraint, Drawing
-from pertxogai.judging import Question, first_good
+from pertxogai.judging import Question, first_good, reasons_against
 from pertxogai.judging.measure import Limit
 from pertxogai.program import Solver
 from pertxogai.program.reports import Verdict
@@ -72,11 +72,11 @@ class OpenDrawing:
         """The completion by a choice, without what ties the whole where that isn't placed."""
         for datum in dict.fromkeys((choice.datum, ())):
             added = (*choice.own, *datum)
-            good = self.trials.good(with_more(self.drawing, added))
-            if good is not None:
-                found = tuple(proposals(self.drawing, added, good.solution))
+            judged = self.trials.judged(with_more(self.drawing, added))
+            if judged is not None and judged.judgement.solution is not None:
+                found = tuple(proposals(self.drawing, added, judged.judgement.solution))
                 own = len(choice.own)
-                return Completion(found[:own], found[own:], good, datum == choice.datum)
+                return Completion(found[:own], found[own:], judged, datum == choice.datum)
         return None
 
 
@@ -89,7 +89,8 @@ def completion_of(drawing: Drawing, program: Solver, limit: Limit) -> Completion
         if found is not None:
             return found
         why = WhyNot.OVER if whole.is_over() else WhyNot.STUCK
-    is_good = why is WhyNot.NOTHING and whole.trials.good(drawing) is not None
+    judged = whole.trials.judged(drawing) if why is WhyNot.NOTHING else None
+    is_good = judged is not None and not reasons_against(judged)
     return NoProposal(why, whole.state.verdict, whole.state.is_placed, is_good)
 
 

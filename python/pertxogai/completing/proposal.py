@@ -6,7 +6,8 @@ from dataclasses import dataclass
 from enum import Enum
 
 from pertxogai.drawing import Constraint, Drawing, line_of
-from pertxogai.judging import GoodJudgement
+from pertxogai.judging import GoodJudgement, JudgedDrawing
+from pertxogai.judging.measure import Solution
 from pertxogai.program.called import COMMAND
 from pertxogai.program.reports import Verdict
 
@@ -26,20 +27,33 @@ class Proposal:
 
 @dataclass(frozen=True)
 class Completion:
-    """A completed drawing, which is good. proposals: the dimensions and relations that were added.
-    datum: apart from these, what ties the whole to the origin and the axes. good: the judgement on
-    the drawing with all of these. ties_the_whole: whether the whole is tied; otherwise it may still
+    """A completed drawing, which is good, but for what its file has and it can't express.
+    proposals: the dimensions and relations that were added. datum: apart from these, what ties the
+    whole to the origin and the axes. judged: the drawing with all of these, and the judgement on
+    it. ties_the_whole: whether the whole is tied; otherwise it may still
     be moved, since nothing was found that ties it and can be placed."""
 
     proposals: tuple[Proposal, ...]
     datum: tuple[Proposal, ...]
-    good: GoodJudgement
+    judged: JudgedDrawing
     ties_the_whole: bool = True
 
     @property
     def drawing(self) -> Drawing:
         """The drawing with all of these."""
-        return self.good.drawing
+        return self.judged.drawing
+
+    @property
+    def solution(self) -> Solution:
+        """Where it lies with all of these, in whole nanometres."""
+        assert self.judged.judgement.solution is not None
+        return self.judged.judgement.solution
+
+    @property
+    def good(self) -> GoodJudgement:
+        """The judgement on the drawing with all of these. Raises NotGood where its file has what
+        it can't express."""
+        return GoodJudgement(self.judged)
 
     def all(self) -> Iterator[Proposal]:
         """Everything that was added; what ties the whole comes last."""

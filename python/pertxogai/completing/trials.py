@@ -11,8 +11,7 @@ from pertxogai.drawing import (
     AngleBetween, Constraint, Degrees, Diameter, Distance, Drawing, Length, PointLineDistance,
     Radius, XDistance, YDistance)
 from pertxogai.judging import (
-    DrawingRefused, GoodJudgement, JudgedDrawing, Names, PlaceBy, Question, Trial, first_good,
-    good_of)
+    DrawingRefused, JudgedDrawing, Names, PlaceBy, Question, Trial, first_good, reasons_against)
 from pertxogai.judging.edited import EditedDrawing
 from pertxogai.judging.judgement import judge_trial
 from pertxogai.judging.limits import check_fits
@@ -119,14 +118,20 @@ class Trials:
             first = first or state
         return first
 
-    def good(self, drawing: Drawing) -> GoodJudgement | None:
-        """The judgement on a drawing that is good; None where it isn't. Raises ProgramError."""
+    def judged(self, drawing: Drawing) -> JudgedDrawing | None:
+        """A drawing that is good, but for what its file has and it can't express, with the
+        judgement on it; None where it isn't. Raises ProgramError."""
         tried = self._tried(drawing)
         if tried.trial is None or not isinstance(tried.trial.solved, Solved):
             return None
-        judgement = judge_trial(tried.edited, tried.trial, self._question(tried.edited.drawing))
-        found = good_of(JudgedDrawing("", tried.edited.drawing, judgement, limit=self._limit))
-        return found if isinstance(found, GoodJudgement) else None
+        drawing = tried.edited.drawing
+        judgement = judge_trial(tried.edited, tried.trial, self._question(drawing))
+        judged = JudgedDrawing("", drawing, judgement, limit=self._limit)
+        alone = judged
+        if drawing.not_drawn:
+            said = replace(drawing, not_drawn=())
+            alone = JudgedDrawing("", said, judgement, limit=self._limit)
+        return None if reasons_against(alone) else judged
 
     def without_room(self, drawing: Drawing, places: range) -> Constraint | None:
         """Of the constraints of a drawing at some places, from 0, the last by which it has no

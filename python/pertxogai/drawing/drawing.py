@@ -4,7 +4,7 @@ from __future__ import annotations
 
 from collections.abc import Iterator
 from copy import copy
-from dataclasses import dataclass, replace
+from dataclasses import dataclass, field, replace
 from fractions import Fraction
 from functools import cached_property
 
@@ -35,15 +35,18 @@ class Note:
 @dataclass(frozen=True)
 class Drawing:
     """A designer's drawing: its shapes and constraints. The origin, the x axis and the y axis
-    always exist, and aren't among `geometry`. `pertxogai.drawing.checked` says whether a drawing is
-    sound, however it was made; the methods here are for sound drawings and raise KeyError for an
-    unknown name."""
+    always exist, and aren't among `geometry`. not_drawn: what the file that it was read from has
+    and a drawing can't express, a line for each; drawings that differ in that alone are equal, and
+    `write_drawing` doesn't write it. `pertxogai.drawing.checked` says whether a drawing is sound,
+    however it was made; the methods here are for sound drawings and raise KeyError for an unknown
+    name."""
 
     geometry: tuple[Shape, ...] = ()
     constraints: tuple[Constraint, ...] = ()
     notes: tuple[Note, ...] = ()
     values: tuple[Value, ...] = ()
     tolerancing: Tolerancing = Tolerancing()
+    not_drawn: tuple[str, ...] = field(default=(), compare=False)
 
     @cached_property
     def scene(self) -> NamedShapes:

@@ -17,6 +17,7 @@ from pertxogai.drawing.refusal import WordFault
 from pertxogai.drawing.soundness import check_shape
 from pertxogai.drawing.values.table import Values
 from pertxogai.files.contents import FileSketch, LeftOut, NotDriving
+from pertxogai.files.printable import printable
 
 _ROOM = 8
 """Letters that are kept free behind a name for its count."""
@@ -70,9 +71,10 @@ class DrawingBuilder:
 
     def found(self, name: str, label: str, aside: Sequence[NotDriving] = ()) -> FileSketch:
         """The sketch of all that was added."""
-        drawing = Drawing(tuple(self._geometry), tuple(self._constraints), values=self._values)
+        drawing = Drawing(tuple(self._geometry), tuple(self._constraints), values=self._values,
+                          not_drawn=tuple(printable(str(each)) for each in self._left_out))
         return FileSketch(name, label, drawing, tuple(self._numbers), tuple(self._left_out),
-                           tuple(aside))
+                          tuple(aside))
 
     def _way(self, line: ShapeRef) -> tuple[Fraction, Fraction]:
         """The drawn way of a segment."""

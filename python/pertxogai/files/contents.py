@@ -54,7 +54,8 @@ class NotDriving:
 class FileSketch:
     """A sketch of a file. `name` is its name in the file, `label` the designer's name for it.
     `numbers` has for each constraint of the drawing, in order, its number in the file, from 1;
-    several constraints of the drawing may stand for one of the file."""
+    several constraints of the drawing may stand for one of the file. The drawing itself tells in
+    `not_drawn` what is left out, so no judgement on it is good where something is."""
 
     name: str
     label: str

@@ -28,14 +28,18 @@ class SketchText:
 
 @dataclass(frozen=True)
 class DesignerDrawing:
-    """A designer's drawing, what of the file couldn't be said in it, the file's own name of it,
-    and which of the file's constraints only measure or are switched off."""
+    """A designer's drawing, as a file has it. key: the file's own name of it. aside: which of the
+    file's constraints only measure or are switched off."""
 
     name: str
     drawing: Drawing
-    left_out: tuple[str, ...] = ()
     key: str = ""
     aside: tuple[str, ...] = ()
+
+    @property
+    def left_out(self) -> tuple[str, ...]:
+        """What of the file couldn't be said in the drawing, a line for each."""
+        return self.drawing.not_drawn
 
 
 Input = SketchText | DesignerDrawing
@@ -114,12 +118,7 @@ def _read_outline(path: Path) -> tuple[Input, ...]:
 def _designer_drawing(found: FileSketch) -> DesignerDrawing:
     aside = tuple(printable(f"{each.name} ({each.why.value})") for each in found.aside)
     return DesignerDrawing(
-        printable(found.label or found.name),
-        found.drawing,
-        tuple(printable(str(each)) for each in found.left_out),
-        found.name,
-        aside,
-    )
+        printable(found.label or found.name), found.drawing, found.name, aside)
 
 
 def _write_freecad(path: Path, out: Path, good: Mapping[str, GoodJudgement]) -> None:

@@ -21,12 +21,14 @@ if TYPE_CHECKING:  # It is imported where the stored places are measured.
 @dataclass(frozen=True)
 class JudgedDrawing:
     """A drawing of a file, and the judgement on it. not_drawn: what of the file the drawing can't
-    express. aside: the constraints of the file that only measure, or are switched off. limit: the
-    limit for each constraint. finding: the result of the search; not_searched: why there is none,
-    if there should be. proposed: lines that would make it fully constrained. nearly: the relations
-    that it nearly has. stored: how far the positions stored in the file are off. short: by how much
-    the dimensions behind a fault fail to meet. The last four are empty if they weren't asked for or
-    aren't known. `pertxogai.judging.good` says whether it is good."""
+    express: what the drawing itself tells of that, and what is given here besides, of a drawing
+    that went through a text since it was read. aside: the constraints of the file that only
+    measure, or are switched off. limit: the limit for each constraint. finding: the result of the
+    search; not_searched: why there is none, if there should be. proposed: lines that would make it
+    fully constrained. nearly: the relations that it nearly has. stored: how far the positions
+    stored in the file are off. short: by how much the dimensions behind a fault fail to meet. The
+    last four are empty if they weren't asked for or aren't known. `pertxogai.judging.good` says
+    whether it is good."""
 
     name: str
     drawing: Drawing
@@ -40,6 +42,11 @@ class JudgedDrawing:
     nearly: tuple[Nearly, ...] = ()
     stored: StoredOffs | None = None
     short: str = ""
+
+    def __post_init__(self) -> None:
+        known = self.drawing.not_drawn
+        more = (each for each in self.not_drawn if each not in known)
+        object.__setattr__(self, "not_drawn", (*known, *more))
 
     def left_out(self) -> tuple[str, ...]:
         """What of the file the drawing can't express, and what of the drawing can't be encoded."""

@@ -32,7 +32,7 @@ def _proposal_lines(name: str, found: Completion) -> Iterator[str]:
     if not found.ties_the_whole:
         yield ("  nothing was found that ties it to the origin and the axes: the whole can still "
                "be moved")
-    off = (greatest(found.good.judged.judgement.deviations, unit) for unit in Unit)
+    off = (greatest(found.judged.judgement.deviations, unit) for unit in Unit)
     most = [amount_text(each) for each in off if each is not None and each.amount]
     within = f"each constraint within {' and '.join(most)}" if most else "each constraint exactly"
     yield f"  with these it is well and placed, and meets {within}"
@@ -67,7 +67,7 @@ def completion_json(name: str, found: Completion | NoProposal,
                 "placed": found.is_placed, "good": is_whole(found, left_out), "fixes": [],
                 "datum": [], "why": found.why.value, "left_out": list(left_out)}
     return {"name": name, "lines": _lines(tuple(found.all())),
-            "verdict": found.good.judged.judgement.verdict.value, "placed": True,
+            "verdict": found.judged.judgement.verdict.value, "placed": True,
             "good": is_whole(found, left_out), "fixes": [list(it.fixes) for it in found.all()],
             "datum": _lines(found.datum), "why": None, "left_out": list(left_out)}
 

@@ -65,8 +65,9 @@ class Ranging:
     @staticmethod
     def of(drawing: Drawing, program: Solver, limit: Limit = Limit(),
            not_drawn: tuple[str, ...] = ()) -> Ranging:
-        """Of a drawing; not_drawn: what of its file the drawing can't express. Raises NoRange if
-        the drawing isn't good, and the exceptions of `judge_at_once`."""
+        """Of a drawing; not_drawn: what of its file the drawing can't express, besides what it
+        tells itself. Raises NoRange if the drawing isn't good, and the exceptions of
+        `judge_at_once`."""
         return Ranging(drawing, Way.of(drawing, program, limit, not_drawn))
 
     def parameters(self) -> tuple[Parameter, ...]:

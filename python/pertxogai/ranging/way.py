@@ -60,8 +60,8 @@ class Way:
     @staticmethod
     def of(drawing: Drawing, program: Solver, limit: Limit = Limit(),
            not_drawn: tuple[str, ...] = ()) -> Way:
-        """The way of a sound drawing. not_drawn: what its file has and it can't say. Raises NoRange
-        where it isn't good, and as `judge_at_once`."""
+        """The way of a sound drawing. not_drawn: what its file has and it can't say, besides what
+        it tells itself. Raises NoRange where it isn't good, and as `judge_at_once`."""
         program = Wider(program, limit)
         judged = judge_at_once(drawing, program, limit=limit)
         reasons = reasons_against(JudgedDrawing("", drawing, judged, not_drawn, limit=limit))
