@@ -85,7 +85,7 @@ def signs(page: Page) -> list[tuple[float, float, int]]:
     """The middle of each sign in pixels of the board, and its constraint."""
     return [tuple(each) for each in page.driver.execute_script(
         "const b = document.getElementById('board').getBoundingClientRect();"
-        "return [...document.querySelectorAll('#board text.sign')].map((each) => {"
+        "return [...document.querySelectorAll('#board .marks text.sign')].map((each) => {"
         "  const r = each.getBoundingClientRect();"
         "  return [r.x + r.width / 2 - b.x, r.y + r.height / 2 - b.y,"
         "    Number(each.parentNode.dataset.constraint)]; });")]
