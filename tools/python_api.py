@@ -16,7 +16,7 @@ PACKAGES = [
     "pertxogai.program", "pertxogai.program.live", "pertxogai.program.library", "pertxogai.language",
     "pertxogai.program.reports", "pertxogai.drawing", "pertxogai.spelling", "pertxogai.judging",
     "pertxogai.judging.measure", "pertxogai.search", "pertxogai.completing", "pertxogai.ranging",
-    "pertxogai.fitting", "pertxogai.output", "pertxogai.output.picture", "pertxogai.files",
+    "pertxogai.fitting", "pertxogai.output", "pertxogai.output.picture", "pertxogai.output.dxf", "pertxogai.files",
     "pertxogai.files.freecad",
     "pertxogai.files.solvespace", "pertxogai.files.dxf",
 ]

@@ -2,7 +2,8 @@
 drawings or sketch texts come out, with what of the file the drawing can't express. A good result
 goes back into a copy of a FreeCAD or SolveSpace file."""
 from pertxogai.files.contents import FileRefusal, FileSketch, LeftOut
-from pertxogai.files.kinds import Input, InputRefused, kind_of, read_inputs
+from pertxogai.files.kinds import (
+    DesignerDrawing, Input, InputRefused, SketchText, kind_of, read_inputs)
 
-__all__ = ["FileRefusal", "FileSketch", "Input", "InputRefused", "LeftOut", "kind_of",
-           "read_inputs"]
+__all__ = ["DesignerDrawing", "FileRefusal", "FileSketch", "Input", "InputRefused", "LeftOut",
+           "SketchText", "kind_of", "read_inputs"]
