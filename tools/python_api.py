@@ -71,7 +71,7 @@ def entry(package: str, name: str, files: dict[str, Path]) -> Entry:
     body = ast.parse(files[module].read_text()).body
     for node, after in zip(body, [*body[1:], None]):
         if isinstance(node, ast.ClassDef) and node.name == known:
-            return of_class(node)
+            return of_class(node, module, files)
         if isinstance(node, ast.FunctionDef) and node.name == known:
             return of_function(node)
         if isinstance(node, ast.Assign | ast.AnnAssign) and target(node) == known:
@@ -88,12 +88,12 @@ def found(package: str, name: str, files: dict[str, Path]) -> tuple[str, str]:
     return package, name
 
 
-def of_class(node: ast.ClassDef) -> Entry:
-    """A class: how it is made, and its public methods and properties; of an enum, its members."""
+def of_class(node: ast.ClassDef, module: str, files: dict[str, Path]) -> Entry:
+    """A class of a module: how it is called, and its public methods and properties; of an enum, its members."""
     if any(ast.unparse(it).endswith("Enum") for it in node.bases):
         return of_enum(node)
-    bases = tuple(ast.unparse(it) for it in node.bases if is_dataclass(node) and not isinstance(it, ast.Subscript))
-    return Entry(f"{node.name}{made_of(node)}", joined(ast.get_docstring(node)), methods(node), bases)
+    head = node.name + (called(node, module, files) if is_dataclass(node) else made_of(node))
+    return Entry(head, joined(ast.get_docstring(node)), methods(node), tuple(bases(node)) if is_dataclass(node) else ())
 
 
 def of_enum(node: ast.ClassDef) -> Entry:
@@ -111,11 +111,60 @@ def is_dataclass(node: ast.ClassDef) -> bool:
     return any("dataclass" in ast.unparse(it) for it in node.decorator_list)
 
 
+def bases(node: ast.ClassDef) -> Iterator[str]:
+    """The names of the classes that a class extends, without those that only give it type variables."""
+    return (ast.unparse(it) for it in node.bases if not isinstance(it, ast.Subscript))
+
+
+def called(node: ast.ClassDef, module: str, files: dict[str, Path]) -> str:
+    """How a dataclass is called, in brackets: what it is given by position, and after `*` what by name alone."""
+    given = fields(node, module, files).values()
+    by_name = [parameter(it) for it in given if is_by_name(it)]
+    shown = [parameter(it) for it in given if not is_by_name(it)] + (["*", *by_name] if by_name else [])
+    return f"({', '.join(shown)})"
+
+
+def fields(node: ast.ClassDef, module: str, files: dict[str, Path]) -> dict[str, ast.AnnAssign]:
+    """The public fields of a dataclass by name, as a call takes them: those of the dataclasses that it extends first.
+    One that is declared anew keeps its place."""
+    known: dict[str, ast.AnnAssign] = {}
+    for base in bases(node):
+        for home, each in dataclasses(*found(module, base, files), files):
+            known |= fields(each, home, files)
+    return known | {target(it): it for it in node.body if isinstance(it, ast.AnnAssign) and target(it)[0] != "_"}
+
+
+def dataclasses(module: str, name: str, files: dict[str, Path]) -> Iterator[tuple[str, ast.ClassDef]]:
+    """The dataclass of that name in a module, with the module; none where it is no dataclass of the package."""
+    body = ast.parse(files[module].read_text()).body
+    return ((module, it) for it in body if isinstance(it, ast.ClassDef) and it.name == name and is_dataclass(it))
+
+
+def parameter(field: ast.AnnAssign) -> str:
+    """A field as a parameter: its type, and the default where it has one."""
+    told = options(field)
+    default = field.value if told is None else told.get("default")
+    shown = f"{target(field)}: {ast.unparse(field.annotation)}"
+    if told and "default_factory" in told:
+        return f"{shown} = {ast.unparse(told['default_factory'])}()"
+    return shown + (f" = {ast.unparse(default)}" if default else "")
+
+
+def is_by_name(field: ast.AnnAssign) -> bool:
+    """Whether a field is given by name alone."""
+    return "kw_only" in (options(field) or {})
+
+
+def options(field: ast.AnnAssign) -> dict[str, ast.expr] | None:
+    """What `dataclasses.field` is told of a field; None where the field's value is its default."""
+    call = field.value
+    if isinstance(call, ast.Call) and ast.unparse(call.func) == "field":
+        return {it.arg: it.value for it in call.keywords if it.arg}
+    return None
+
+
 def made_of(node: ast.ClassDef) -> str:
-    """What an object of a class is made of, in brackets; of a class that isn't made so, what it extends."""
-    if is_dataclass(node):
-        fields = [it for it in node.body if isinstance(it, ast.AnnAssign) and target(it)[0] != "_"]
-        return f"({', '.join(map(ast.unparse, fields))})"
+    """What another class extends, in brackets; where it extends nothing, how it is called."""
     if node.bases:
         return f"({ast.unparse(node.bases[0])})"
     return "".join(parameters(it) for it in node.body if isinstance(it, ast.FunctionDef) and it.name == "__init__")

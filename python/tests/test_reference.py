@@ -63,6 +63,27 @@ def test_what_is_in_a_class_stands_below_it() -> None:
     assert lines[2].startswith("  - `ask(words: Sequence[str], text: str) -> Answer`: ")
 
 
+def head(package: str, name: str) -> str:
+    return python_api.entry(package, name, FILES).head
+
+
+def test_a_class_that_extends_another_is_called_with_the_other_s_fields_first() -> None:
+    assert head("pertxogai.program.reports", "Solved") == (
+        "Solved(places: tuple[Placed, ...], tolerances: Tolerances, steps: int, bits: int)")
+
+
+def test_a_field_that_is_declared_anew_keeps_its_place() -> None:
+    assert head("pertxogai.judging", "CountedDrawing").startswith(
+        "CountedDrawing(name: str, drawing: Drawing, judgement: CountedJudgement,"
+        " not_drawn: tuple[str, ...] = (), ")
+
+
+def test_what_is_given_by_name_alone_stands_behind_a_star() -> None:
+    assert head("pertxogai.drawing", "Diameter") == (
+        "Diameter(rim: ShapeRef, value_um: Fraction, name: str | None = None, *,"
+        " expression: Expression | None = None, tolerance: Tolerance | None = None)")
+
+
 def test_a_name_that_no_module_defines_is_told() -> None:
     with pytest.raises(ValueError, match="no Nothing, which pertxogai.program.running has"):
         python_api.entry("pertxogai.program.running", "Nothing", FILES)
