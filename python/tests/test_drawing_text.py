@@ -185,7 +185,7 @@ REFUSED = [
     ("outside Hole Hole", "outside", "write `tangent CIRCLE CIRCLE`"),
     ("block Bottom", "block", "leave it out"),
     ("fly Bottom", "fly", "write one of point, segment, circle"),
-    ("drawing 1", "drawing", "only its first line"),
+    ("drawing 1", "drawing", "only the first line"),
     ("end", "end", "leave it out"),
     ("tan Bottom Hole", "tan", "begins no line"),
     ("point C 0", "0", "a number for y is missing behind it"),
@@ -200,8 +200,8 @@ REFUSED = [
     ("point Origin 1 1", "Origin", "the datum's own name"),
     ("point closed 1 1", "closed", "take another name"),
     ("point " + "N" * 41 + " 1 1", "N" * 41, "40 letters at most"),
-    ("point C 1,5 2", "1,5", "write a point for the comma, as 1.5"),
-    ("point C 1cm 2", "1cm", "write millimetres, as 12.5, or inches, as 0.5in"),
+    ("point C 1,5 2", "1,5", "write 1.5, with a point for the comma"),
+    ("point C 1cm 2", "1cm", "write millimetres, such as 12.5, or inches, such as 0.5in"),
     ("point C 1e3 2", "1e3", "is no number"),
     ("point C .5 2", ".5", "is no number"),
     ("point C 1000001 2", "1000001", "beyond 1000000 mm"),
@@ -250,14 +250,14 @@ REFUSED = [
     ("distance A Fillet.middle 4", "Fillet.middle",
      "write Fillet.centre or Fillet.start or Fillet.end"),
     ("distance Bottom Bottom.end 4", "Bottom.end", "a point of Bottom itself"),
-    ("angle Bottom Right 60", "60", "write 60deg, or a ratio as 1/2"),
-    ("angle Bottom Right 60mm", "60mm", "write degrees, as 60deg"),
+    ("angle Bottom Right 60", "60", "write 60deg, or a ratio such as 1/2"),
+    ("angle Bottom Right 60mm", "60mm", "write degrees, such as 60deg"),
     ("angle Bottom Right 0deg", "0deg", "write `parallel` instead"),
     ("angle Bottom Right 0/3", "0/3", "write `parallel` instead"),
     ("angle Bottom Right +180deg", "+180deg", "write `parallel` instead"),
     ("angle Bottom Right 200deg", "200deg", "below 180 degrees"),
     ("angle Bottom Right 1/20000", "1/20000", "a nearer ratio"),
-    ("angle Bottom Right sixty", "sixty", "write degrees, as 60deg"),
+    ("angle Bottom Right sixty", "sixty", "write degrees, such as 60deg"),
     ("angle Hole 60deg", "Hole", "write the name of a segment"),
     ("angle XAxis YAxis 60deg", "YAxis", "write a segment for one of them"),
     ("horizontal A", "A", "write a second one, or a segment"),
@@ -301,7 +301,7 @@ def test_text_that_draws_nothing(text):
     with pytest.raises(DrawingRefusal) as refused:
         read_drawing(text)
     assert str(refused.value) == (
-        "the text draws nothing: write a line as `segment Bottom 0 0 40 0`")
+        "the text draws nothing: write a line such as `segment Bottom 0 0 40 0`")
 
 
 def test_limits():

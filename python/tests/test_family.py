@@ -137,7 +137,7 @@ def test_a_cell_stands_for_what_its_line_says(tmp_path, capsys):
     main(["family", str(drawing), str(table), "-o", str(out), "--dxf", "--jobs", "1"])
     rows = rows_of((out / "verdicts.csv").read_text())
     assert [row[4] for row in rows[1:]] == ["yes", "yes", "yes", "no"]
-    assert rows[4][5] == ("variant 4: '40' is no angle: write 40deg, or a ratio as 1/2")
+    assert rows[4][5] == ("variant 4: '40' is no angle: write 40deg, or a ratio such as 1/2")
     ezdxf = pytest.importorskip("ezdxf")
     at = [ezdxf.readfile(out / f"{each}.dxf").modelspace().query("CIRCLE")[0].dxf.center.x
           for each in (1, 2, 3)]

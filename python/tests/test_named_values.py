@@ -243,12 +243,12 @@ def test_a_line_that_is_too_long_is_refused_before_it_is_reckoned():
     ("value A 3 4", "line 1: '4' stands behind a whole expression: write + - * or / between them"),
     ("value A (3", "line 1: '(3' opens a bracket that isn't closed"),
     ("value A 3 +", "line 1: '3 +' ends where a number or a value is missing"),
-    ("value A", "line 1: 'A' has no value: write a number behind it, as value A 120"),
+    ("value A", "line 1: 'A' has no value: write a number behind it, such as value A 120"),
     ("value", "line 1: 'value' is the last word, and a name is missing behind it: write value "
      "Width 120"),
     ("value mm 3", "line 1: 'mm' is a word of expressions: take another name"),
-    ("value Width 3\nvalue C Widht", "line 2: 'Widht' is no value: write a line as `value Widht 40`"
-     ", or do you mean Width?"),
+    ("value Width 3\nvalue C Widht", "line 2: 'Widht' is no value: write a line such as "
+     "`value Widht 40`, or do you mean Width?"),
     ("Size: value A 3", "line 1: 'Size' is a name in front of a value, whose name stands behind its "
      "word: write value NAME .."),
     ("outer value A 3", "line 1: 'value' names no shape, and only shapes are construction or outer"),
@@ -267,17 +267,17 @@ def test_a_value_is_refused_by_its_line_and_name(text, told):
     ("value A 3deg", "length S A", "'A' is in deg, and no length"),
     ("value A 3mm", "length S A*A", "'A*A' is in mm², and no length"),
     ("value A 3", "angle S T A", "'A' is a number without a unit, and no angle: write deg behind a "
-     "number in it, as 60deg"),
+     "number in it, such as 60deg"),
     ("value A 3mm", "angle S T A", "'A' is in mm, and no angle"),
     ("value A 3", "angle S T 60deg*A", "'60deg*A' comes to 180deg, and that is no angle of two "
      "lines that cross: change a value in it"),
     ("value A 3", "x Hole A-5", "'A-5' comes to -2 mm, and that has a minus where the drawing is to "
      "decide: change a value in it"),
-    ("value A 3", "length S B/2", "'B' is no value: write a line as `value B 40`"),
-    ("value Width 3", "length S Widht", "'Widht' is no number and no value: write millimetres, as "
-     "12.5, or a line as `value Widht 12.5`, or do you mean Width?"),
-    ("value Slope 3deg", "angle S T Slop", "'Slop' is no angle and no value: write degrees, as "
-     "60deg, a ratio, as 1/2, or a line as `value Slop 60deg`, or do you mean Slope?"),
+    ("value A 3", "length S B/2", "'B' is no value: write a line such as `value B 40`"),
+    ("value Width 3", "length S Widht", "'Widht' is no number and no value: write millimetres, "
+     "such as 12.5, or a line such as `value Widht 12.5`, or do you mean Width?"),
+    ("value Slope 3deg", "angle S T Slop", "'Slop' is no angle and no value: write degrees, such "
+     "as 60deg, a ratio, such as 1/2, or a line such as `value Slop 60deg`, or do you mean Slope?"),
     ("value Width 3", "x S.start Widht Width", "'Widht' isn't drawn above this line: "
      "do you mean Width?"),
 ])

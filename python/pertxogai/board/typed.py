@@ -18,5 +18,5 @@ def value_word(value: str) -> str:
     try:
         return read_expression(value).text
     except WordFault:
-        raise WordFault(value, "isn't one value: write a number, as 40, 0.5in or 60deg, or an "
-                               "expression, as Width/2") from None
+        raise WordFault(value, "isn't one value: write a number such as 40, 0.5in or 60deg, or "
+                               "an expression such as Width/2") from None

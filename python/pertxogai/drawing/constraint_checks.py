@@ -179,7 +179,7 @@ def _check_lines(scene: NamedShapes, first: ShapeRef, second: ShapeRef) -> None:
     check_line(scene, second)
     _check_different(first, second)
     if {first.name, second.name} <= DATUM_NAMES:
-        raise WordFault(second.name, "is an axis as the other is: write a segment for one of them")
+        raise WordFault(second.name, "is an axis, like the other: write a segment for one of them")
 
 
 def _check_rims(scene: NamedShapes, first: ShapeRef, second: ShapeRef) -> None:

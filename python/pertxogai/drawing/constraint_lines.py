@@ -175,8 +175,8 @@ def _touching(words: Cursor) -> tuple[ShapeRef, ShapeRef, Pair | None]:
         return first, second, None
     for each, other in ((first, second), (second, first)):
         if isinstance(each, ShapeRef):
-            raise WordFault(each.name, f"is no end as {other} is: write an end of each, or two "
-                                       "whole shapes")
+            raise WordFault(each.name, f"is a whole shape, and {other} an end: write an end of "
+                                       "each, or two whole shapes")
     assert isinstance(first, PointRef) and isinstance(second, PointRef)
     return ShapeRef(first.shape), ShapeRef(second.shape), Pair(first, second)
 

@@ -79,7 +79,7 @@ class Cursor:
 
     def angle(self) -> WrittenAngle:
         """An angle, or an expression, and its tolerance, to the end of the line."""
-        text, word = split_tolerance(self.rest("an angle, as 60deg,"))
+        text, word = split_tolerance(self.rest("an angle, such as 60deg,"))
         tolerance = read_tolerance(word, of_angle=True)
         return replace(read_written_angle(text, self.scene.values), tolerance=tolerance)
 

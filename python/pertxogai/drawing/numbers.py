@@ -24,7 +24,7 @@ MOST_RATIO = 10_000
 """No number of a ratio is greater, as in the language."""
 
 _DIGITS = 20
-_BEYOND = f"is beyond {MOST_MM} mm: give lengths in millimetres, or as 1.5in"
+_BEYOND = f"is beyond {MOST_MM} mm: give lengths in millimetres, or in inches, such as 1.5in"
 _NUMBER = re.compile(r"([+-]?)([0-9]{1,7}(?:\.[0-9]{1,20})?)(mm|in)?\Z")
 _DEGREES = re.compile(r"([+-]?)([0-9]{1,3}(?:\.[0-9]{1,20})?)(?:deg|°)\Z")
 _RATIO = re.compile(r"([+-]?)([0-9]{1,5})/([0-9]{1,5})\Z")
@@ -84,8 +84,8 @@ def read_length(text: str, values: Values) -> WrittenLength:
     WordFault, and ValueFault where a value that it uses can't be reckoned."""
     if _PLAIN.match(text):
         return WrittenLength(read_um(text), _sense(has_sign(text)))
-    _check_name(text, values, f"is no number and no value: write millimetres, as 12.5, or a line "
-                              f"as `value {text} 12.5`")
+    _check_name(text, values, "is no number and no value: write millimetres, such as 12.5, or a "
+                              f"line such as `value {text} 12.5`")
     expression = read_expression(text)
     return WrittenLength(um_of(expression, values), _sense(expression.has_sign), expression)
 
@@ -94,8 +94,8 @@ def read_written_angle(text: str, values: Values) -> WrittenAngle:
     """An angle, or an expression over values that comes to one. Raises as `read_length`."""
     if _PLAIN.match(text) or _RATIO.match(text):
         return WrittenAngle(read_angle(text), _sense(has_sign(text)))
-    _check_name(text, values, f"is no angle and no value: write degrees, as 60deg, a ratio, as "
-                              f"1/2, or a line as `value {text} 60deg`")
+    _check_name(text, values, "is no angle and no value: write degrees, such as 60deg, a ratio, "
+                              f"such as 1/2, or a line such as `value {text} 60deg`")
     expression = read_expression(text)
     degrees = Degrees(degrees_of(expression, values))
     return WrittenAngle(degrees, _sense(expression.has_sign), expression)
@@ -144,10 +144,11 @@ def _why_no_number(word: str) -> str:
     if re.match(r"[+-]?0*[1-9][0-9]{7,}(\.[0-9]*)?(mm|in)?\Z", word):
         return _BEYOND
     if "," in word:
-        return f"is no number: write a point for the comma, as {word.replace(',', '.')}"
+        return f"is no number: write {word.replace(',', '.')}, with a point for the comma"
     if re.match(r"[+-]?[0-9.]+(cm|m|um|µm|\"|')\Z", word):
-        return "has a unit that isn't read: write millimetres, as 12.5, or inches, as 0.5in"
-    return "is no number: write one in millimetres, as 12.5, or in inches, as 0.5in"
+        return ("has a unit that isn't read: write millimetres, such as 12.5, or inches, such as "
+                "0.5in")
+    return "is no number: write one in millimetres, such as 12.5, or in inches, such as 0.5in"
 
 
 def read_angle(word: str) -> AngleValue:
@@ -159,8 +160,8 @@ def read_angle(word: str) -> AngleValue:
     if ratio is not None:
         return _ratio(word, -1 if ratio[1] == "-" else 1, int(ratio[2]), int(ratio[3]))
     if _NUMBER.match(word) and word[-1].isdigit():
-        raise WordFault(word, f"is no angle: write {word}deg, or a ratio as 1/2")
-    raise WordFault(word, "is no angle: write degrees, as 60deg, or a ratio, as 1/2")
+        raise WordFault(word, f"is no angle: write {word}deg, or a ratio such as 1/2")
+    raise WordFault(word, "is no angle: write degrees, such as 60deg, or a ratio, such as 1/2")
 
 
 def _ratio(word: str, sign: int, p: int, q: int) -> Ratio:

@@ -63,7 +63,7 @@ def read_drawing(text: str) -> Drawing:
         except WordFault as fault:
             raise DrawingRefusal(number, fault.word, fault.what) from None
     if not reader.shapes:
-        raise DrawingRefusal(0, "", "draws nothing: write a line as `segment Bottom 0 0 40 0`")
+        raise DrawingRefusal(0, "", "draws nothing: write a line such as `segment Bottom 0 0 40 0`")
     reader.read_checks()
     return reader.drawing()
 
@@ -256,7 +256,7 @@ def _advice(word: str) -> str:
             return ("begins a sketch of the language, and no drawing: keep it in a file whose "
                     "name ends in .sketch, and open that")
         case "drawing":
-            return "begins the text, and only its first line, as `drawing 1`"
+            return "begins only the first line of the text, `drawing 1`"
         case "end":
             return "is no word of a drawing, which just ends: leave it out"
         case "outside" | "inside":

@@ -44,7 +44,7 @@ def _exact(number: Exact) -> Fraction:
     if isinstance(number, Decimal):
         is_number = number.is_finite() and abs(number.adjusted()) < 30
     if not is_number:
-        raise NotHeld(f"{number!r} is no number of millimetres as 2.5", None)
+        raise NotHeld(f"{number!r} is no number of millimetres such as 2.5", None)
     return Fraction(repr(number)) if isinstance(number, float) else Fraction(number)
 
 
@@ -86,7 +86,8 @@ def checked_ratio(p: int, q: int) -> None:
 def _check_whole(number: object) -> None:
     """Raises TypeError at a number that is whole by its value alone, as 4000.0."""
     if not isinstance(number, int):
-        raise TypeError(f"{number!r} is no int: take a whole number, as micrometres(..) makes one")
+        raise TypeError(f"{number!r} is no int: give a whole number, such as micrometres(..) "
+                        "returns")
 
 
 def nearest_ratio(p: int | Fraction, q: int | Fraction) -> tuple[int, int]:

@@ -384,7 +384,7 @@ def test_a_value_is_typed_with_its_unit_and_one_that_isnt_taken_is_told(page: Pa
     page.driver.switch_to.active_element.send_keys("10000000", Keys.ENTER)
     page.wait("told", "return document.querySelector('#hint.trouble')")
     assert page.told("hint") == ("constraint 1 (length A 41): '10000000' is beyond 1000000 mm: "
-                                 "give lengths in millimetres, or as 1.5in")
+                                 "give lengths in millimetres, or in inches, such as 1.5in")
     assert page.text().splitlines()[-1] == "length A 41"
     page.keys(Keys.ESCAPE)
     assert page.count("#hint.trouble") == 0

@@ -68,16 +68,17 @@ def test_a_value_is_asked_for_with_its_unit(words: list[str], value: str, line: 
 
 @pytest.mark.parametrize("edit, told", [
     ({"do": "value", "number": 1, "value": "10000000"},
-     "Width: '10000000' is beyond 1000000 mm: give lengths in millimetres, or as 1.5in"),
+     "Width: '10000000' is beyond 1000000 mm: give lengths in millimetres, or in inches, such as "
+     "1.5in"),
     ({"do": "value", "number": 1, "value": "40 50"}, 
-     "Width: '40 50' isn't one value: write a number, as 40, 0.5in or 60deg, or an expression, as "
-     "Width/2"),
+     "Width: '40 50' isn't one value: write a number such as 40, 0.5in or 60deg, or an expression "
+     "such as Width/2"),
     ({"do": "value", "number": 1, "value": "0"}, "Width: '0' is no length, which is above 0"),
     ({"do": "value", "number": 2, "value": "60"},
-     "constraint 2 (angle Bottom Left 90deg): '60' is no angle: write 60deg, or a ratio as 1/2"),
+     "constraint 2 (angle Bottom Left 90deg): '60' is no angle: write 60deg, or a ratio such as 1/2"),
     ({"do": "ask", "words": ["diameter", "Hole"], "value": "4 cm"},
-     "diameter Hole: '4cm' has a unit that isn't read: write millimetres, as 12.5, or inches, as "
-     "0.5in"),
+     "diameter Hole: '4cm' has a unit that isn't read: write millimetres, such as 12.5, or "
+     "inches, such as 0.5in"),
     ({"do": "ask", "words": ["length", "Left"], "value": "-3"},
      "length Left: '-3' is no length: write it without the minus")])
 def test_a_value_that_isnt_taken_is_told_with_its_dimension(

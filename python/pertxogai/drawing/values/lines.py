@@ -24,8 +24,8 @@ def read_value(words: Sequence[str], called: str | None = None) -> Value:
                               f"{WORD} Width 120")
     check_value_name(words[1])
     if len(words) == 2:
-        raise WordFault(words[1], f"has no value: write a number behind it, as {WORD} {words[1]} "
-                                  "120")
+        raise WordFault(words[1], "has no value: write a number behind it, such as "
+                                  f"{WORD} {words[1]} 120")
     return Value(words[1], read_expression(" ".join(words[2:])))
 
 

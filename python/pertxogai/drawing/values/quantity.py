@@ -85,7 +85,7 @@ class Quantity:
         """An angle in degrees. Raises Misfit for another unit."""
         if self.is_plain:
             raise Misfit("is a number without a unit, and no angle: write deg behind a number in "
-                         "it, as 60deg")
+                         "it, such as 60deg")
         if self.length or self.angle != 1:
             raise Misfit(f"is in {self.unit_text()}, and no angle")
         return self.number

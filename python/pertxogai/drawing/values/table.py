@@ -58,7 +58,7 @@ class Values:
         """What the value of a name comes to. Raises WordFault where none has it, and ValueFault
         where it, or one that it uses, can't be reckoned."""
         if not self.has(name):
-            raise WordFault(name, f"is no value: write a line as `value {name} 40`"
+            raise WordFault(name, f"is no value: write a line such as `value {name} 40`"
                             + nearest(name, self.names()))
         self._reckon(name)
         return self._known[name]

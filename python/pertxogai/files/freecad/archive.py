@@ -87,7 +87,7 @@ def _refusing_in_one_line(path: Path) -> Iterator[None]:
     except OSError as error:
         raise FileRefusal(f"{path}: can't be read: {error.strerror or error}") from None
     except _DAMAGED:
-        raise FileRefusal(f"{path}: no sound zip, as a FreeCAD file is: save it by FreeCAD again"
+        raise FileRefusal(f"{path}: no sound zip, which a FreeCAD file is: save it by FreeCAD again"
                           ) from None
 
 
