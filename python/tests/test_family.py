@@ -197,11 +197,13 @@ def test_a_folder_that_is_none_is_refused(sizes, tmp_path, capsys):
     assert "can't be read as a table: No such file or directory" in capsys.readouterr().err
 
 
-def test_circles_taken_as_drawn_have_no_family_and_no_range(sizes, capsys):
-    assert main(["family", "--freeze", str(DRAWING), str(sizes)]) == 2
-    assert "--freeze makes no family" in capsys.readouterr().err
-    assert main(["range", "--freeze", str(DRAWING)]) == 2
-    assert "--freeze has no ranges" in capsys.readouterr().err
+@pytest.mark.parametrize("words", [["family", str(DRAWING), "sizes.csv"], ["range", str(DRAWING)],
+                                   ["complete", str(DRAWING)], ["fit", str(DRAWING)]])
+def test_circles_taken_as_drawn_are_for_what_judges_alone(words, capsys):
+    with pytest.raises(SystemExit) as ended:
+        main([*words, "--freeze"])
+    assert ended.value.code == 2
+    assert "unrecognized arguments: --freeze" in capsys.readouterr().err
 
 
 @pytest.mark.parametrize(("table", "told"), [

@@ -1,7 +1,7 @@
 """The manual page pertxogai(1): the commands of the Python package."""
 from .options import commands, options
 from .roff import LICENCE, chapter, head, shown, terms
-from pertxogai.commands import EPILOG
+from pertxogai.commands.statuses import ENDS, GOOD, PROGRAM
 
 ABOUT = "judges, places and draws sketches by the proved program sketch"
 SAYS = (
@@ -47,7 +47,7 @@ def page(version: str, date: str) -> list[str]:
         *chapter("DESCRIPTION", *SAYS),
         *chapter("COMMANDS", described),
         *chapter("ENVIRONMENT", terms(*VARIABLES)),
-        *chapter("EXIT STATUS", *(" ".join(it.split()) for it in EPILOG.removeprefix("exit status: ").split("\n\n"))),
+        *chapter("EXIT STATUS", terms(*((name, f"{says}.") for name, says in ENDS.items())), GOOD, PROGRAM),
         *chapter("EXAMPLES", shown(EXAMPLE)),
         *chapter("SEE ALSO", "`sketch`(1), `sketch`(5)"),
         *LICENCE,

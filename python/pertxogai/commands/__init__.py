@@ -13,6 +13,7 @@ from typing import TypeAlias
 
 from pertxogai import __version__
 from pertxogai.board.command import add_page
+from pertxogai.commands.statuses import epilog
 from pertxogai.exits import CommandError, Exit
 from pertxogai.files.contents import FileRefusal
 from pertxogai.files.kinds import InputRefused
@@ -23,31 +24,22 @@ from pertxogai.judging.measure.limit import DEFAULT, MOST as MOST_LIMIT
 from pertxogai.output.release import Release
 from pertxogai.program import ProgramError
 
-EPILOG = """exit status: 0 if every sketch is good, or was drawn as asked for; 1 if one isn't good,
-and a line says why; 2 if the arguments or a file can't be read, or nothing can be written; 3 if the
-program gave no answer; of several files the greatest.
-
-A sketch is good if the program says well and places it, every constraint is measured within
---within, nothing is left out, every size is given, no dimension is known to be missing by rank, and
-nothing is found to lie mirrored.
-
-The program is the one of --program, else of the variable PERTXOGAI_SKETCH, else the repository's
-build, else the one on the path."""
+EPILOG = "`pertxogai COMMAND --help` says what a command takes, and its exit status."
 AS_STORED = "also report how far the positions in the file are off each constraint"
 CHECK = "check it by sketch verify, sketch_claim.py and sketch_claim.c"
 COMPLETED = "write the completed drawing as a .drawing, or into a copy of the .FCStd or .slvs"
 CLAIM = "the claim to write: the sketch, its steps, positions and tolerances, as verify reads them"
 FILE = "a sketch: .sketch, .drawing, .FCStd, .slvs, .dxf"
-CHART = "a chart of which dimension gives how much, as SVG"
+CHART = "a chart of how much each dimension contributes, as SVG"
 FITTED = "a .drawing with tolerances and checks"
 FREEZE = "fix lengths and radii that have no dimension at their drawn values"
-JOBS = "how many files are judged at a time (default: as many as processors)"
+JOBS = "how many {} are judged at a time (default: as many as processors)"
 NAMES = "values or dimensions, by name or as `judge` calls them (default: all)"
 FOLDER = "where to write the table of verdicts and the drawings (default: print the table)"
 PART = "only every N-th line of the table, beginning with the K-th"
 SIZES = "a table with a line for each variant and a column for each value; - for standard input"
 NEARLY = "also list relations that the drawing nearly has, such as horizontal edges, equal lengths"
-NO_SEARCH = "leave out what is found by numbers about what isn't well"
+NO_SEARCH = "leave out what is found by numbers about what isn't fully constrained"
 OUTPUT = "the file to write: OUT.svg or OUT.dxf"
 RELEASE = "the version of DXF (default: %(default)s)"
 SCALE = "draw the SVG in mm to print: 1:1 is life-size, 1:2 half of it"
@@ -89,7 +81,6 @@ def command_line() -> argparse.ArgumentParser:
     parser = argparse.ArgumentParser(
         prog="pertxogai",
         epilog=EPILOG,
-        formatter_class=argparse.RawDescriptionHelpFormatter,
         description="Judges, places and draws sketches, by the proved program `sketch`.",
     )
     parser.add_argument("--version", action="version", version=f"pertxogai {__version__}")
@@ -109,8 +100,9 @@ def command_line() -> argparse.ArgumentParser:
 def _add_judge(commands: Commands) -> None:
     judge = _command(commands, "judge", "judges sketches, and says what to do, by your own names")
     judge.set_defaults(act=_judge)
+    _add_freeze(judge)
     judge.add_argument("file", type=Path, nargs="+", metavar="FILE", help=FILE)
-    judge.add_argument("--jobs", type=int, default=os.cpu_count() or 1, metavar="N", help=JOBS)
+    _add_jobs(judge, "files")
     judge.add_argument("--json", action="store_true", help="print one object of JSON for each file")
     judge.add_argument("--write", type=Path, metavar="OUT", help=WRITE)
     _add_more(judge)
@@ -119,6 +111,7 @@ def _add_judge(commands: Commands) -> None:
 def _add_watch(commands: Commands) -> None:
     watch = _command(commands, "watch", "judges a file now, and each time that it is saved")
     watch.set_defaults(act=_watch, json=False, write=None)
+    _add_freeze(watch)
     watch.add_argument("file", type=Path, metavar="FILE", help=FILE)
     _add_more(watch)
 
@@ -133,6 +126,7 @@ def _add_more(parser: argparse.ArgumentParser) -> None:
 def _add_draw(commands: Commands) -> None:
     draw = _command(commands, "draw", "draws a sketch as SVG or DXF")
     draw.set_defaults(act=_draw)
+    _add_freeze(draw)
     draw.add_argument("file", type=Path, metavar="FILE", help=FILE)
     draw.add_argument("-o", "--output", type=Path, required=True, metavar="OUT", help=OUTPUT)
     draw.add_argument("--as-drawn", action="store_true", help="draw it as drawn, not as placed")
@@ -155,7 +149,7 @@ def _add_complete(commands: Commands) -> None:
 
 def _add_range(commands: Commands) -> None:
     ranging = _command(commands, "range",
-                       "tells how far each value and dimension may go, and why no further")
+                       "says how far each value and dimension can go, and why no further")
     ranging.set_defaults(act=_range)
     ranging.add_argument("file", type=Path, metavar="FILE", help=FILE)
     ranging.add_argument("names", nargs="*", metavar="NAME", help=NAMES)
@@ -165,17 +159,17 @@ def _add_range(commands: Commands) -> None:
 
 def _add_family(commands: Commands) -> None:
     family = _command(commands, "family",
-                      "judges and draws one drawing with many values, those of a table")
+                      "judges and draws one drawing in many sizes, those of a table")
     family.set_defaults(act=_family)
     family.add_argument("file", type=Path, metavar="FILE", help=FILE)
     family.add_argument("sizes", type=Path, metavar="SIZES.csv", help=SIZES)
     family.add_argument("-o", "--output", type=Path, metavar="FOLDER", help=FOLDER)
     family.add_argument("--svg", action="store_true", help="write each variant to NAME.svg")
-    family.add_argument("--dxf", action="store_true", help="write what is good to NAME.dxf")
+    family.add_argument("--dxf", action="store_true", help="write each good variant to NAME.dxf")
     family.add_argument("--copy", action="store_true",
-                        help="copy the file, with the values of what is good, to NAME")
+                        help="copy the file, with the values of each good variant, to NAME")
     family.add_argument("--part", type=_part, default="1/1", metavar="K/N", help=PART)
-    family.add_argument("--jobs", type=int, default=os.cpu_count() or 1, metavar="N", help=JOBS)
+    _add_jobs(family, "variants")
     family.add_argument("--sketch", metavar="NAME", help=SKETCH)
 
 
@@ -192,6 +186,7 @@ def _add_fit(commands: Commands) -> None:
 def _add_certify(commands: Commands) -> None:
     certify = _command(commands, "certify", "writes a claim on a good sketch that anyone can check")
     certify.set_defaults(act=_certify, no_search=True)
+    _add_freeze(certify)
     certify.add_argument("file", type=Path, metavar="FILE", help=FILE)
     certify.add_argument(
         "-o", "--output", type=Path, required=True, metavar="OUT.claim", help=CLAIM
@@ -200,13 +195,23 @@ def _add_certify(commands: Commands) -> None:
     certify.add_argument("--sketch", metavar="NAME", help=SKETCH)
 
 
+def _add_freeze(parser: argparse.ArgumentParser) -> None:
+    """Adds the option that takes as drawn what has no dimension."""
+    parser.add_argument("--freeze", action="store_true", help=FREEZE)
+
+
+def _add_jobs(parser: argparse.ArgumentParser, what: str) -> None:
+    """Adds the option that says how many of these are judged at a time."""
+    at_once = os.cpu_count() or 1
+    parser.add_argument("--jobs", type=int, default=at_once, metavar="N", help=JOBS.format(what))
+
+
 def _command(commands: Commands, name: str, what: str) -> argparse.ArgumentParser:
     """The reader of the words that several commands take."""
     formatter = argparse.RawDescriptionHelpFormatter
     parser = commands.add_parser(
-        name, help=what, description=what, epilog=EPILOG, formatter_class=formatter
+        name, help=what, description=what, epilog=epilog(name), formatter_class=formatter
     )
-    parser.add_argument("--freeze", action="store_true", help=FREEZE)
     parser.add_argument("--within", type=_limit, default=str(DEFAULT), metavar="N", help=WITHIN)
     parser.add_argument("--program", metavar="PATH", help="the program `sketch`")
     parser.add_argument("--seconds", type=float, default=60.0, help=SECONDS)

@@ -99,8 +99,6 @@ def _check_words(options: argparse.Namespace) -> None:
                            "file of FreeCAD or SolveSpace")
     if options.jobs < 1:
         raise CommandError("--jobs takes a whole number from 1 on")
-    if options.freeze:
-        raise CommandError("--freeze makes no family: give the circles their sizes")
 
 
 def _left(variants: Iterator[Variant], kept: Verdicts,

@@ -41,8 +41,6 @@ def tell_ranges(options: argparse.Namespace) -> Exit:
 
 def _drawings(options: argparse.Namespace) -> list[DesignerDrawing]:
     """The drawings that are asked about. Raises CommandError, InputRefused and FileRefusal."""
-    if options.freeze:
-        raise CommandError("--freeze has no ranges: give the circles their sizes")
     inputs = read_inputs(options.file)
     if options.sketch is not None:
         inputs = (chosen(inputs, options.sketch),)
