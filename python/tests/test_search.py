@@ -147,6 +147,41 @@ def test_ends_of_a_crank_move_square_to_their_arms():
         assert hypot(move.dx, move.dy) == pytest.approx(1)
 
 
+TWO_LINES = "segment A 0 0 20 0\nsegment B 3 9 28 9\ndistance A B 9\n"
+PINNED = "coincident A.start Origin\non A.end XAxis\nlength A 20\nlength B 25\nx B.start 3\n"
+
+
+@pytest.mark.parametrize("text, freedoms, of_the_whole", [
+    # Four points have 8 coordinates, and the distance says that B.start lies 9 mm off A. That B is
+    # parallel to A, another constraint has to say: it is one of the four dimensions that are missing.
+    (TWO_LINES, 7, 3),
+    (TWO_LINES + "parallel A B\n", 6, 3),
+    (TWO_LINES + "horizontal A B\n", 5, 2),
+    (TWO_LINES + PINNED, 1, 0),
+    (TWO_LINES + PINNED + "parallel A B\n", 0, 0),
+    # A line 9 mm off an axis is moved along it, turns about its start, and has no length.
+    ("segment B 3 9 28 9\ndistance B XAxis 9\n", 3, 2),
+    # Six points have 12 coordinates, less three distances. The starts of B and C are 9 and 16 mm
+    # off A, and that of C is 7 mm off B: that leaves no direction to B, but one to C.
+    (TWO_LINES + "segment C 8 16 40 16\ndistance A C 16\ndistance B C 7\n", 9, 3),
+    # Of an open chain the last line stands beside another; the hunt found this.
+    ("segment S1 0.053075891577 0.013180234198 -0.000027798573 25.193006753\n"
+     "segment S2 S1.end -12.5 25.166644591602\n"
+     "segment S5 58.078500737204 34.315513083855 82.678500737204 34.315513083855\n"
+     "distance S2 S5 9\n", 9, 3),
+])
+def test_a_distance_of_lines_leaves_it_to_others_that_they_are_parallel(
+        text, freedoms, of_the_whole):
+    found = found_of(text)
+    assert (found.freedoms, found.of_the_whole) == (freedoms, of_the_whole)
+    assert not found.is_doubtful and worst_nm(found) <= WITHIN_NM
+
+
+def test_a_line_turns_about_its_start_until_it_is_parallel():
+    assert found_of(TWO_LINES + PINNED).moves == (PointMove(point("B.end"), 0.0, 1.0),)
+    assert found_of(TWO_LINES + PINNED + "parallel A B\n").moves == ()
+
+
 def test_what_floats_is_held_where_the_fewest_points_move():
     # Of a plate and a loose hole the hole moves, and not the plate about it.
     found = found_of("rectangle P 0 0 40 30\nlength PBottom 40\nlength PRight 30\n"

@@ -119,7 +119,7 @@ def _ways(drawing: Drawing, equations: Equations, x: Array,
     parallel = tuple(Parallel(each.first, each.second) for each in distances
                      if isinstance(each, ParallelDistance))
     kinds = [values_of(equations, x, free.free)]
-    if free.count:
+    if free.ways():
         kinds.append(lengths_of(equations, x, free.free))
     for swaps in dict.fromkeys(((), _repeats(drawing, free))):
         for chosen in dict.fromkeys(kinds):
@@ -239,7 +239,7 @@ class _Mending:
         if equations.unknowns.count != len(self._x):
             return
         free = freedom(equations, self._x)
-        if free.count != 1:
+        if free.ways() != 1:
             return
         yield from self._lengths(equations, free)
         column = next(told_best(equations.unknowns, free.free))

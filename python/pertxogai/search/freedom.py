@@ -1,10 +1,16 @@
 """How many degrees of freedom a drawing has where it was found, what they move, what is said twice
-and what contradicts: by the rank of its rows there, in floats."""
+and what contradicts: by the rank of its rows there, in floats.
+
+A distance of lines doesn't say that they are parallel: another constraint has to. Until one does,
+the row of its far end keeps the lines parallel where places are looked for, and counts for
+nothing here: what turns one of the lines is a freedom, and is told to move."""
 from __future__ import annotations
 
 from dataclasses import dataclass
 
-from pertxogai.search.arrays import Array, row_factors, rows_times
+import numpy as np
+
+from pertxogai.search.arrays import Array, Matrix, row_factors, rows_times
 from pertxogai.search.dependencies import Dependency, dependencies
 from pertxogai.search.equations import Equations
 from pertxogai.search.motions import Motions, motions
@@ -16,10 +22,11 @@ from pertxogai.search.unknowns import By
 class Freedom:
     """The degrees of freedom, those of the whole among them.
 
-    free: how the unknowns may move, by piece. dependencies: what is said twice and what
-    contradicts. is_sure: False where the rank lies near its cut, as where two solutions meet; there
-    the count may be off. crooked: the distances of lines, by the places of the constraints from 1,
-    of which nothing else says that the lines are parallel."""
+    count, motions: what the constraints leave free. crooked: the distances of lines, by the places
+    of the constraints from 1, of which nothing else says that the lines are parallel. free: how the
+    unknowns may move by piece while these lines stay parallel. dependencies: what is said twice and
+    what contradicts. is_sure: False where the rank lies near its cut, as where two solutions meet;
+    there the count may be off."""
 
     count: int
     motions: Motions
@@ -28,6 +35,10 @@ class Freedom:
     is_sure: bool
     crooked: frozenset[int]
 
+    def ways(self) -> int:
+        """In how many ways the unknowns may move while those lines stay parallel."""
+        return sum(each.ways.shape[1] for each in self.free)
+
 
 def freedom(equations: Equations, x: Array) -> Freedom:
     """The freedoms where the unknowns are x."""
@@ -35,12 +46,16 @@ def freedom(equations: Equations, x: Array) -> Freedom:
     off, jacobian = equations.tangents(x)
     factors = row_factors(jacobian)
     jacobian = rows_times(jacobian, factors)
-    rank = rank_of(jacobian, len(unknowns.points))
-    found = [each for dependent in rank.dependent
+    rank = held = rank_of(jacobian, len(unknowns.points))
+    found = [each for dependent in held.dependent
              for each in dependencies(equations.rows, off * factors, dependent)]
+    crooked = _crooked(equations, found)
+    if crooked:
+        jacobian = _without_far_ends(equations, jacobian)
+        rank = rank_of(jacobian, len(unknowns.points))
     return Freedom(unknowns.count - rank.rank, motions(unknowns, x, jacobian, rank.free),
                    tuple(each for each in found if each.sources[0].by is By.CONSTRAINT),
-                   rank.free, rank.is_sure, _crooked(equations, found))
+                   held.free, held.is_sure and rank.is_sure, crooked)
 
 
 def _crooked(equations: Equations, found: list[Dependency]) -> frozenset[int]:
@@ -48,3 +63,11 @@ def _crooked(equations: Equations, found: list[Dependency]) -> frozenset[int]:
     ends = {row.source.number for row in equations.rows if row.source.by is By.FAR_END}
     return frozenset(ends - {each.sources[0].number for each in found
                              if each.sources[0].by is By.FAR_END})
+
+
+def _without_far_ends(equations: Equations, jacobian: Matrix) -> Matrix:
+    """A Jacobian without the far ends of distances of lines. Where one follows from what else is
+    asked, nothing is lost; and from another far end none may follow."""
+    kept = [place for place, row in enumerate(equations.rows)
+            if row.source.by is not By.FAR_END]
+    return jacobian[np.array(kept, dtype=int)]
