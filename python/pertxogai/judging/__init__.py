@@ -5,6 +5,7 @@ may be cut by it."""
 from typing import TYPE_CHECKING
 
 if TYPE_CHECKING:
+    from pertxogai.judging.cusps import Cusp
     from pertxogai.judging.departures import Departure, DepartureKind
     from pertxogai.judging.excess import Excess, Rest, TooMuch, too_much
     from pertxogai.judging.faults import Amount, Failure
@@ -24,6 +25,7 @@ else:
     from pertxogai._later import handed_on
 
     __getattr__, __dir__ = handed_on(__name__, {
+        ".cusps": "Cusp",
         ".departures": "Departure DepartureKind",
         ".excess": "Excess Rest TooMuch too_much",
         ".faults": "Amount Failure",
@@ -38,7 +40,7 @@ else:
         ".surplus": "Surplus Then",
         ".trials": "PlaceBy Question Trial first_good"})
 
-__all__ = ["Amount", "CountedDrawing", "CountedJudgement", "Departure", "DepartureKind",
+__all__ = ["Amount", "CountedDrawing", "CountedJudgement", "Cusp", "Departure", "DepartureKind",
            "DrawingRefused", "Excess", "Failure", "GoodJudgement", "GoodSketch", "Joint",
            "JudgedDrawing", "JudgedSketch", "Judgement", "LeftOut", "Missing", "Names", "NotGood",
            "Piece", "PlaceBy", "Question", "Rest", "Surplus", "TextRefused", "Then", "Tie",

@@ -1,5 +1,5 @@
 """Where the placed shape departs from the drawn one: edges turned about, corners on the other
-side, crossings.
+side, crossings; and, however it is drawn, which edges turn back on each other.
 
 All is by whole numbers of nanometres. A drawing that isn't tied to the datum's directions is
 compared as it lies once it has been turned, as a whole, the way that fits best."""
@@ -8,9 +8,11 @@ from __future__ import annotations
 from collections.abc import Collection, Iterator, Sequence
 from dataclasses import dataclass
 from enum import Enum
+from functools import cached_property
 
 from pertxogai.drawing import Arc, Circle, Drawing, Segment
 from pertxogai.exact import Vector, cross, dot
+from pertxogai.judging.cusps import Corners, Cusp
 from pertxogai.judging.edges import Chord, Edge, Edges, boxes_meet, corners, leaders_of
 from pertxogai.judging.insides import Loops
 from pertxogai.judging.measure.solution import Solution
@@ -45,10 +47,19 @@ class Departure:
                 return f"{' and '.join(self.shapes)} {self.departure.value}"
 
 
-def warnings(drawing: Drawing, solution: Solution, free: bool = False) -> tuple[Departure, ...]:
-    """Every departure of a placed drawing, edge by edge. `free`: whether nothing ties the
-    drawing to the datum's directions, so that all of it may have turned."""
+Warned = Departure | Cusp
+"""What is warned of: a departure, or edges that turn back on each other, drawn so or not."""
+
+
+def warnings(drawing: Drawing, solution: Solution, free: bool = False) -> tuple[Warned, ...]:
+    """Everything that is warned of in a placed drawing, edge by edge. `free`: whether nothing ties
+    the drawing to the datum's directions, so that all of it may have turned."""
     return Comparison(drawing, solution.radii).warnings(Edges(drawing, solution), free)
+
+
+def departures(drawing: Drawing, solution: Solution) -> tuple[Departure, ...]:
+    """Every departure of a placed drawing that is tied to the datum's directions."""
+    return Comparison(drawing, solution.radii).departures(Edges(drawing, solution), False)
 
 
 class Comparison:
@@ -56,6 +67,7 @@ class Comparison:
     circles and arcs of which a radius is placed."""
 
     def __init__(self, drawing: Drawing, sized: Collection[str]) -> None:
+        self._drawing = drawing
         self._segments = [each for each in drawing.geometry if isinstance(each, Segment)]
         self._outline = [each for each in self._segments if not each.construction]
         self._rims = [each for each in drawing.geometry if isinstance(each, Circle | Arc)
@@ -65,9 +77,17 @@ class Comparison:
         self._loops = Loops([*self._ends, *(leaders_of(drawing, each) if isinstance(each, Arc)
                                             else None for each in self._rims)])
 
-    def warnings(self, edges: Edges, free: bool) -> tuple[Departure, ...]:
-        """Every departure of a placed drawing, which may differ from this one by its dimensions.
-        Raises MissingPlace."""
+    @cached_property
+    def _met(self) -> Corners:
+        return Corners(self._drawing)
+
+    def warnings(self, edges: Edges, free: bool) -> tuple[Warned, ...]:
+        """Everything that is warned of in a placed drawing, which may differ from this one by its
+        dimensions. Raises MissingPlace."""
+        return (*self.departures(edges, free), *self._met.cusps(edges))
+
+    def departures(self, edges: Edges, free: bool) -> tuple[Departure, ...]:
+        """Every departure of such a drawing. Raises MissingPlace."""
         outline = [*map(edges.of, self._outline)]
         rims = [Rim.of(edges.drawing, edges.solution, each) for each in self._rims]
         return (*_reversals([*map(edges.of, self._segments)], free), *self._turned(outline),

@@ -6,7 +6,7 @@ from dataclasses import dataclass
 from typing import TYPE_CHECKING
 
 from pertxogai.drawing import Drawing
-from pertxogai.judging.departures import Departure, warnings
+from pertxogai.judging.departures import Warned, warnings
 from pertxogai.judging.finding import Finding, Nearly, PlacesBy
 from pertxogai.judging.judgement import CountedJudgement, Judgement
 from pertxogai.judging.measure.deviation import Deviation, Unit, greatest
@@ -64,8 +64,9 @@ class JudgedDrawing:
             return PlacesBy.PROGRAM
         return self.finding.places_by if self.finding else None
 
-    def warnings(self) -> tuple[Departure, ...]:
-        """What is placed in another orientation than drawn, at these positions."""
+    def warnings(self) -> tuple[Warned, ...]:
+        """What is placed in another orientation than drawn at these positions, and the edges that
+        turn back on each other there."""
         if self.judgement.solution is not None or not self.finding or not self.finding.solution:
             return self.judgement.warnings
         asked = self.judgement.asked

@@ -6,7 +6,7 @@ from functools import cached_property
 from typing import TYPE_CHECKING
 
 from pertxogai.drawing import Circle, Drawing
-from pertxogai.judging.departures import Departure
+from pertxogai.judging.departures import Warned
 from pertxogai.judging.edited import EditedDrawing
 from pertxogai.judging.freedoms import Freedoms, Twice, Whole, freedoms
 from pertxogai.judging.limits import check_fits
@@ -95,8 +95,9 @@ class Judgement:
         return self._placed.measurement.all if self._placed else ()
 
     @property
-    def warnings(self) -> tuple[Departure, ...]:
-        """What is placed in another orientation than drawn."""
+    def warnings(self) -> tuple[Warned, ...]:
+        """What is placed in another orientation than drawn, and the edges that turn back on each
+        other."""
         return self._placed.warnings if self._placed else ()
 
     @property

@@ -7,7 +7,7 @@ from functools import cached_property
 from typing import TYPE_CHECKING
 
 from pertxogai.judging import departures
-from pertxogai.judging.departures import Departure
+from pertxogai.judging.departures import Warned
 from pertxogai.judging.measure.measuring import Measurement
 
 if TYPE_CHECKING:  # What isn't well imports what is told of it alone.
@@ -31,8 +31,9 @@ class WithPlaces:
     unsized: tuple[str, ...] = ()
 
     @cached_property
-    def warnings(self) -> tuple[Departure, ...]:
-        """What lies otherwise than it is drawn; it is looked for when it is asked for."""
+    def warnings(self) -> tuple[Warned, ...]:
+        """What lies otherwise than it is drawn, and what turns back; it is looked for when it is
+        asked for."""
         placed = self.measurement
         return departures.warnings(placed.drawing, placed.solution, self.is_free)
 

@@ -7,7 +7,7 @@ from enum import Enum
 from typing import assert_never
 
 from pertxogai.judging import Failure, Names
-from pertxogai.judging.departures import Departure
+from pertxogai.judging.departures import Warned
 from pertxogai.judging.good import Lack, Reason, mirrored_text
 from pertxogai.judging.measure import Deviation, Unit, amount_text, units_text
 from pertxogai.program.reports import (
@@ -15,7 +15,7 @@ from pertxogai.program.reports import (
     Verdict)
 
 MOST_NAMED = 6
-"""The most names, and the most departures, that a reason tells."""
+"""The most names, and the most warnings, that a reason tells."""
 
 _GAPS = {"height": "the distances make no triangle", "reach": "the distance doesn't reach the line",
          "rise": "no line lies at these distances from both points"}
@@ -47,7 +47,7 @@ class FaultKind(Enum):
     """The positions don't give the size of a circle any more."""
     DEPARTURE = "departure"
     """Something is placed in another orientation than drawn: an edge reversed, a corner on the
-    other side, edges or circles that cross."""
+    other side, edges or circles that cross; or two edges turn back on each other."""
     NOT_GOOD = "not good"
     """It isn't good for another reason, for example because a dimension is missing by rank."""
 
@@ -60,9 +60,9 @@ class Fault:
     text: str
 
 
-def of_departures(departures: Sequence[Departure]) -> Fault:
-    """That something lies otherwise than it is drawn."""
-    return Fault(FaultKind.DEPARTURE, _some("; ", [each.text() for each in departures]))
+def of_warnings(warnings: Sequence[Warned]) -> Fault:
+    """That something lies otherwise than it is drawn, or that edges turn back on each other."""
+    return Fault(FaultKind.DEPARTURE, _some("; ", [each.text() for each in warnings]))
 
 
 def of_surplus(names: Sequence[str]) -> Fault:

@@ -15,7 +15,7 @@ from pertxogai.drawing import (
     ORIGIN, X_AXIS, Y_AXIS, Arc, Circle, Constraint, Distance, Drawing, PointLineDistance, PointOn,
     PointRef, Segment, Tangent, Which)
 from pertxogai.exact import between, cross, dot
-from pertxogai.judging.departures import Departure, DepartureKind
+from pertxogai.judging.departures import Departure, DepartureKind, Warned
 from pertxogai.judging.edges import Chord, Edge, Edges, leaders_of, name_of
 from pertxogai.judging.rims import Rim, Round
 
@@ -64,9 +64,9 @@ class Things:
     meeting: tuple[tuple[Straight, Straight], ...]
 
     @staticmethod
-    def of(edges: Edges, known: Collection[Departure], is_free: bool) -> Things:
-        """The things of a drawing, of which one placement is known. known: what lies otherwise than
-        it is drawn there. Raises MissingPlace."""
+    def of(edges: Edges, known: Collection[Warned], is_free: bool) -> Things:
+        """The things of a drawing, of which one placement is known. known: what is warned of
+        there. Raises MissingPlace."""
         shapes = edges.drawing.geometry
         segments = tuple(each for each in shapes if isinstance(each, Segment))
         outline = tuple(each for each in segments if not each.construction)
@@ -148,7 +148,7 @@ def _turn(one: Edge, other: Edge) -> float:
 
 
 def _may_cross(edges: Edges, one: Edge | Rim, other: Edge | Rim,
-               known: Collection[Departure]) -> bool:
+               known: Collection[Warned]) -> bool:
     """Whether two things that come to cross would be a departure: they are drawn apart, and don't
     end in one point."""
     if not _ends(edges, one).isdisjoint(_ends(edges, other)):

@@ -11,7 +11,7 @@ from pertxogai.drawing import Drawing, Segment
 from pertxogai.judging import (
     DrawingRefused, JudgedDrawing, Judgement, Names, Question, Trial, judge_at_once,
     reasons_against)
-from pertxogai.judging.departures import Comparison, Departure
+from pertxogai.judging.departures import Comparison, Warned
 from pertxogai.judging.edges import Edges
 from pertxogai.judging.faults import failure
 from pertxogai.judging.measure import Deviation, Limit
@@ -25,7 +25,7 @@ from pertxogai.language import NotHeld, Refusal
 from pertxogai.program import Solver
 from pertxogai.program.reports import Fault as ProgramFault, Solved, read_plan
 from pertxogai.ranging.faults import (
-    Fault, FaultKind, of_departures, of_deviation, of_failure, of_gone, of_mirrored, of_reason,
+    Fault, FaultKind, of_warnings, of_deviation, of_failure, of_gone, of_mirrored, of_reason,
     of_surplus, of_verdict)
 from pertxogai.ranging.things import Things
 from pertxogai.spelling import READINGS, Interpretation, Reading, Style
@@ -40,16 +40,16 @@ class NoRange(Exception):
 
 @dataclass(frozen=True)
 class Way:
-    """A good drawing, its edges as they are placed, what of it lies otherwise than it is drawn,
-    what may depart from the drawing, lie mirrored, and come to cross, and how it is told: by which
-    reading and style. reading: None where no single one will do, as where a value was read off a
-    placed part, so that all ways are tried for each number. before: how the reading spells it."""
+    """A good drawing, its edges as they are placed, what is warned of in it, what may depart from
+    the drawing, lie mirrored, and come to cross, and how it is told: by which reading and style.
+    reading: None where no single one will do, as where a value was read off a placed part, so that
+    all ways are tried for each number. before: how the reading spells it."""
 
     drawing: Drawing
     program: Solver
     limit: Limit
     edges: Edges
-    known: frozenset[Departure]
+    known: frozenset[Warned]
     comparison: Comparison
     pieces: Pieces
     things: Things
@@ -122,10 +122,10 @@ class Way:
             return self._of_deviation(off, edges)
         if found.unsized:
             return Fault(FaultKind.UNSIZED, f"no size is given for {', '.join(found.unsized)}")
-        departures = [each for each in self.comparison.warnings(edges, _is_free(trial))
-                      if each not in self.known]
-        if departures:
-            return of_departures(departures)
+        warnings = [each for each in self.comparison.warnings(edges, _is_free(trial))
+                    if each not in self.known]
+        if warnings:
+            return of_warnings(warnings)
         turned = next(self.pieces.mirrored(edges), None)
         return edges if turned is None else of_mirrored(turned)
 
@@ -148,9 +148,9 @@ class Way:
             return of_surplus([self.drawing.called(each.number) for each in judged.surplus])
         if judged.solution is None:
             return of_verdict(judged.verdict)
-        departures = [each for each in judged.warnings if each not in self.known]
-        if departures:
-            return of_departures(departures)
+        warnings = [each for each in judged.warnings if each not in self.known]
+        if warnings:
+            return of_warnings(warnings)
         reasons = reasons_against(JudgedDrawing("", drawing, judged, limit=self.limit))
         edges = Edges(drawing, judged.solution)
         if reasons:

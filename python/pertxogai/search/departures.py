@@ -5,7 +5,7 @@ from __future__ import annotations
 from collections.abc import Iterator
 from math import atan2, pi, tau
 
-from pertxogai.judging.departures import Departure, DepartureKind, warnings
+from pertxogai.judging.departures import Departure, DepartureKind, departures
 from pertxogai.drawing import Arc, Drawing, PointOn, PointRef, Which
 from pertxogai.judging.measure import Solution
 from pertxogai.search.arrays import Array
@@ -30,8 +30,8 @@ class Departures:
         arcs = sum(abs(angle - self._drawn[name]) > OTHER_ARC
                    for name, angle in _angles(drawing, placed))
         radii = int((x[2 * len(self._unknowns.points):] <= 0).sum())
-        departures = sum(map(self._counts, warnings(drawing, placed)))
-        return departures + arcs + radii
+        counted = sum(map(self._counts, departures(drawing, placed)))
+        return counted + arcs + radii
 
     def _counts(self, departure: Departure) -> bool:
         """Whether a departure counts: edges that are told to touch may cross by the rounding."""
