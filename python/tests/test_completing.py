@@ -111,6 +111,9 @@ def test_relations_that_are_nearly_so(text, lines):
     # A bar beside the wall: the place of an end, and then its angle.
     (WALL + "segment D 10 10 40 50\nlength D 50\n",
      ["x D.start 10", "y D.start 10", "angle D +53.13deg"], []),
+    # A bar 9 mm from an axis: that it is parallel to it, its length, and where along it.
+    ("segment B 3 9 28 9\ndistance B XAxis 9\n", ["parallel B XAxis", "length B 25"],
+     ["x B.start 3"]),
 ])
 def test_what_a_designer_would_give(text, own, datum):
     slack = Slack.of(read_drawing(text))

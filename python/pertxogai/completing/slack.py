@@ -59,7 +59,7 @@ class Slack:
         if not search.found.is_solved() or ways is None:
             return None
         placed = drawn_at(drawing, solution_of(equations.unknowns, x))
-        whole = ways.T @ freedom.motions.whole
+        whole = ways.T @ freedom.whole
         distances = (drawing.constraints[number - 1] for number in sorted(freedom.crooked))
         parallel = tuple(Parallel(each.first, each.second) for each in distances
                          if isinstance(each, ParallelDistance))

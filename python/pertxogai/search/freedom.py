@@ -13,7 +13,7 @@ import numpy as np
 from pertxogai.search.arrays import Array, Matrix, row_factors, rows_times
 from pertxogai.search.dependencies import Dependency, dependencies
 from pertxogai.search.equations import Equations
-from pertxogai.search.motions import Motions, motions
+from pertxogai.search.motions import Motions, motions, of_the_whole
 from pertxogai.search.rank import Free, rank_of
 from pertxogai.search.unknowns import By
 
@@ -24,14 +24,16 @@ class Freedom:
 
     count, motions: what the constraints leave free. crooked: the distances of lines, by the places
     of the constraints from 1, of which nothing else says that the lines are parallel. free: how the
-    unknowns may move by piece while these lines stay parallel. dependencies: what is said twice and
-    what contradicts. is_sure: False where the rank lies near its cut, as where two solutions meet;
-    there the count may be off."""
+    unknowns may move by piece while these lines stay parallel, and whole: how all of it may be
+    moved at once then, as columns of length 1. dependencies: what is said twice and what
+    contradicts. is_sure: False where the rank lies near its cut, as where two solutions meet; there
+    the count may be off."""
 
     count: int
     motions: Motions
     dependencies: tuple[Dependency, ...]
     free: tuple[Free, ...]
+    whole: Array
     is_sure: bool
     crooked: frozenset[int]
 
@@ -49,13 +51,13 @@ def freedom(equations: Equations, x: Array) -> Freedom:
     rank = held = rank_of(jacobian, len(unknowns.points))
     found = [each for dependent in held.dependent
              for each in dependencies(equations.rows, off * factors, dependent)]
-    crooked = _crooked(equations, found)
+    crooked, whole = _crooked(equations, found), of_the_whole(unknowns, x, jacobian)
     if crooked:
         jacobian = _without_far_ends(equations, jacobian)
         rank = rank_of(jacobian, len(unknowns.points))
     return Freedom(unknowns.count - rank.rank, motions(unknowns, x, jacobian, rank.free),
                    tuple(each for each in found if each.sources[0].by is By.CONSTRAINT),
-                   held.free, held.is_sure and rank.is_sure, crooked)
+                   held.free, whole, held.is_sure and rank.is_sure, crooked)
 
 
 def _crooked(equations: Equations, found: list[Dependency]) -> frozenset[int]:

@@ -40,7 +40,7 @@ class Motions:
 
 def motions(unknowns: Unknowns, x: Array, jacobian: Matrix, free: Sequence[Free]) -> Motions:
     """What moves from x by these free motions, of the rows of this Jacobian."""
-    whole = _that_stay(_of_the_plane(unknowns, x), jacobian)
+    whole = of_the_whole(unknowns, x, jacobian)
     own = _without(unknowns, whole, free)
     at = {column: each for each in own for column in each.columns.tolist()}
     rows = {column: row for each in own for row, column in zip(each.ways, each.columns.tolist())}
@@ -52,6 +52,12 @@ def motions(unknowns: Unknowns, x: Array, jacobian: Matrix, free: Sequence[Free]
 
 
 # -- the whole
+
+
+def of_the_whole(unknowns: Unknowns, x: Array, jacobian: Matrix) -> Array:
+    """How all of it may be moved and turned at once from x, where no row of this Jacobian changes:
+    three ways at most, each a column of length 1."""
+    return _that_stay(_of_the_plane(unknowns, x), jacobian)
 
 
 def _of_the_plane(unknowns: Unknowns, x: Array) -> Array:
