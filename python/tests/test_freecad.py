@@ -109,7 +109,7 @@ def test_what_a_drawing_has_not_is_named() -> None:
     assert told[0] == "Ellipse5: a drawing has no ellipse"
     assert told[1:5] == [f"{name}: it belongs to a curve that is left out"
                          for name in ("Line6", "Line7", "Point8", "Point9")]
-    assert told[-1] == "Constraint16: it speaks of Ellipse5, which is left out"
+    assert told[-1] == "Constraint16: it refers to Ellipse5, which is left out"
     assert len(found("ellipse").drawing.geometry) == 4
     assert str(found("spline").left_out[0]) == "BSplineCurve2: a drawing has no spline"
 
@@ -225,7 +225,7 @@ def test_numbers_are_read_as_they_were_typed(tmp_path: Path) -> None:
     (constraints('<Constrain Type="16" First="0"/>'), "Constraint1: a drawing has no constraint "
                                                       "for Snell's law"),
     (constraints('<Constrain Type="x" First="0"/>'), "Constraint1: its Type is no whole number"),
-    (constraints('<Constrain Type="2" First="9"/>'), "Constraint1: it speaks of a shape that "
+    (constraints('<Constrain Type="2" First="9"/>'), "Constraint1: it refers to a shape that "
                                                      "isn't in the file"),
 ])
 def test_what_is_unsound_is_left_out(tmp_path: Path, properties: str, what: str) -> None:
@@ -385,7 +385,7 @@ Ed
     ("0", "8 0 1 " * 5000 + "1 0 0 0 1 0 0", ""),
     ("0", "6 0 -2 0 0 0 0", "its shape isn't stored as FreeCAD stores it"),
     ("0", "7 0 0 3 -100 5 1 1 1", "its shape isn't stored as FreeCAD stores it"),
-    ("0", "1 1e999 0 0 1 0 0", "a number of it is too large"),
+    ("0", "1 1e999 0 0 1 0 0", "one of its numbers is too large"),
     ("1 2 1", "1 0 0 0 1 0 0", "its shape isn't stored as FreeCAD stores it"),
     ("1\n1 1 0 0", "1 0 0 0 1 0 0", "its shape isn't stored as FreeCAD stores it"),
     ("0", "\n" * (33 << 20), "has more than 16777216 bytes in its stored shapes"),

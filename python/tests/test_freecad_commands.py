@@ -66,7 +66,7 @@ def test_what_is_left_out_is_told_by_the_constraint(told: dict[str, Any]) -> Non
     plate = told["judge ellipse"]
     assert not plate["good"] and len(plate["rows"]) == 16
     assert [row[4] for row in plate["rows"]] == ["holds"] * 11 + ["left out"] * 5
-    assert plate["rows"][15][1:3] == ["Constraint16", "it speaks of Ellipse5, which is left out"]
+    assert plate["rows"][15][1:3] == ["Constraint16", "it refers to Ellipse5, which is left out"]
 
 
 def test_an_open_plate_has_its_freedom_counted(told: dict[str, Any]) -> None:

@@ -173,7 +173,7 @@ BROKEN_ARC = ('<Geometry type="Part::GeomArcOfCircle" id="1"><ArcOfCircle Center
 
 def test_an_arc_at_angles_beyond_all_numbers_is_left_out(tmp_path: Path) -> None:
     (one,) = read_freecad(packed(tmp_path, document(geometry(segment(0, 0, 1, 1), BROKEN_ARC))))
-    assert [str(each) for each in one.left_out] == ["Arc2: a number of it is too large"]
+    assert [str(each) for each in one.left_out] == ["Arc2: one of its numbers is too large"]
 
 
 def test_a_type_that_is_no_number_is_left_out(tmp_path: Path) -> None:

@@ -92,7 +92,7 @@ def test_a_reference_dimension_stands_aside() -> None:
 def test_what_a_drawing_has_not_is_named() -> None:
     assert [str(each) for each in found("curved").left_out] == [
         "r005: a drawing has no Bezier curve",
-        "c004-pts-coincident: it speaks of a point that isn't in this drawing"]
+        "c004-pts-coincident: it refers to a point that isn't in this drawing"]
 
 
 def test_places_are_written_and_all_else_is_kept(tmp_path: Path) -> None:
@@ -135,7 +135,7 @@ def test_other_files_are_refused(tmp_path: Path) -> None:
     path.write_bytes(magic)
     assert "no sketch in a plane" in refused(path)
     path.write_bytes(magic + b"Param.h.v.=00040010\nParam.val=inf\nAddParam\n")
-    assert "a Param is none" in refused(path)
+    assert "of a Param its val is no number" in refused(path)
     path.write_bytes(magic + b"Constraint.type=20\nAddConstraint\n" * 8001)
     assert "has more than 8000 constraints" in refused(path)
     assert "No such file" in refused(tmp_path / "none.slvs")

@@ -140,7 +140,7 @@ def _told(task: Task, variants: Iterator[Variant], options: argparse.Namespace) 
                 if waiting and (each is None or len(waiting) > AHEAD * options.jobs):
                     yield waiting.popleft().result()
     except BrokenProcessPool:
-        raise CommandError("a process that judges was ended from outside, or for want of memory: "
+        raise CommandError("a process that judges was killed, perhaps because memory ran out: "
                            "try again with --jobs 1") from None
 
 

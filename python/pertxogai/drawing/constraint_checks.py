@@ -45,7 +45,7 @@ def check_expression(scene: NamedShapes, constraint: Constraint) -> None:
         found, told = um_of(constraint.expression, scene.values), constraint.value_um
     if found != told:
         raise WordFault(constraint.expression.text, "comes to another value than the constraint's: "
-                        "take the expression away, or reckon it anew")
+                        "remove the expression, or compute the value from it")
     if isinstance(constraint, (XDistance, YDistance, AngleBetween)):
         _check_sign(constraint.expression, constraint.sense)
 
@@ -54,10 +54,10 @@ def _check_sign(expression: Expression, sense: Sense) -> None:
     """Raises WordFault where an expression is read with another sense than a constraint has."""
     if expression.has_sign and sense is Sense.DRAWN:
         raise WordFault(expression.text, "has a sign in front, and the constraint takes its side "
-                        "from the drawing: take the sign away")
+                        "from the drawing: remove the sign")
     if not expression.has_sign and sense is Sense.SIGNED:
-        raise WordFault(expression.text, "has no sign in front, and the constraint's value tells "
-                        "its side: write one in front")
+        raise WordFault(expression.text, "has no sign in front, and the constraint's value says on "
+                        "which side: write one in front")
 
 
 def _of_expression(constraint: Valued, expression: Expression, fault: WordFault) -> WordFault:
@@ -264,8 +264,8 @@ def _check_angle(value: AngleValue, sense: Sense) -> None:
     if not isinstance(value, Degrees) and (
             value.p == 0 or value.q < 0 or max(abs(value.p), value.q) > MOST_RATIO
             or (sense is Sense.DRAWN and value.p < 0)):
-        raise WordFault(word, f"is no ratio of this text: its numbers are at most {MOST_RATIO}, "
-                              "and the first isn't 0")
+        raise WordFault(word, f"is no ratio: both numbers are at most {MOST_RATIO}, and the "
+                              "first isn't 0")
 
 
 def _check_run(constraint: XDistance | YDistance) -> None:

@@ -258,7 +258,7 @@ def _advice(word: str) -> str:
         case "drawing":
             return "begins only the first line of the text, `drawing 1`"
         case "end":
-            return "is no word of a drawing, which just ends: leave it out"
+            return "is no word of a drawing, which has no last line: leave it out"
         case "outside" | "inside":
             return "is a word of the sketch language: in a drawing, write `tangent CIRCLE CIRCLE`"
         case "block":

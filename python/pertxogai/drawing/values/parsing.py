@@ -63,8 +63,8 @@ def _tokens(text: str) -> list[_Token]:
         kind = match.lastgroup
         assert kind is not None
         if kind == "other":
-            raise WordFault(match[kind], "is no sign of an expression: write numbers and values "
-                                         "with + - * / ( )")
+            raise WordFault(match[kind], "can't stand in an expression: write numbers and "
+                                         "values with + - * / ( )")
         found.append(_Token(match[kind], kind, match.start(kind), bool(match["blank"])))
     return found
 
@@ -150,8 +150,8 @@ class _Parser:
         self._close(bracket)
         function = _FUNCTIONS[token.text]
         if (len(arguments) == 1) is not (function is Function.SQRT):
-            raise WordFault(self._since(token.start), "has another number of arguments: write one "
-                            "for sqrt, and two or more for min and max")
+            raise WordFault(self._since(token.start), "has the wrong number of arguments: write "
+                            "one for sqrt, and two or more for min and max")
         return Call(function, tuple(arguments), self._since(token.start))
 
     def _close(self, bracket: _Token) -> None:

@@ -146,5 +146,5 @@ class _Reader:
     def _um(self, value: float) -> Fraction:
         """Micrometres of a number of the file, read to 10⁻⁹ of its unit."""
         if not math.isfinite(value):
-            raise NotSayable("a number of it is none")
+            raise NotSayable("one of its numbers is none")
         return um_of_mm(round(value, _DIGITS)) * self._mm_of_unit

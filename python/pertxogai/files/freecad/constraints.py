@@ -180,9 +180,9 @@ class Shapes:
     def _shape(self, end: End) -> Point | Segment | Circle | Arc:
         found = self._shapes.get(end.shape)
         if found is None:
-            raise NotSayable("it speaks of a shape that isn't in the file")
+            raise NotSayable("it refers to a shape that isn't in the file")
         if found.shape is None:
-            raise NotSayable(f"it speaks of {found.name}, which is left out")
+            raise NotSayable(f"it refers to {found.name}, which is left out")
         return found.shape
 
 

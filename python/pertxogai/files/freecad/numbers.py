@@ -62,4 +62,4 @@ def place(x: float, y: float) -> Place:
 def check_finite(value: float) -> None:
     """Raises Unsaid where sums or products of stored numbers went beyond all numbers."""
     if not math.isfinite(value):
-        raise NotSayable("a number of it is too large")
+        raise NotSayable("one of its numbers is too large")

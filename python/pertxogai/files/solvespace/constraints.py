@@ -104,7 +104,7 @@ class Plane:
     def point(self, handle: int) -> PointRef:
         """A point of the sketch, or its origin."""
         if handle not in self._points:
-            raise NotSayable("it speaks of a point that isn't in this drawing")
+            raise NotSayable("it refers to a point that isn't in this drawing")
         return self._points[handle]
 
     def line(self, handle: int) -> ShapeRef:
@@ -123,7 +123,7 @@ class Plane:
     def axis(self, handle: int) -> ShapeRef:
         """The axis that a reference plane shows as in this plane."""
         if not self._level or handle not in (X_PLANE, Y_PLANE):
-            raise NotSayable("it speaks of a plane that is no axis of this drawing")
+            raise NotSayable("it refers to a plane that is no axis of this drawing")
         return Y_AXIS if handle == X_PLANE else X_AXIS
 
     def along(self, handle: int) -> ShapeRef:
@@ -135,7 +135,7 @@ class Plane:
     def _shape(self, handle: int, *kinds: Request) -> Drawn:
         found = self._shapes.get(handle)
         if found is None or found.kind not in kinds:
-            raise NotSayable("it speaks of a shape that isn't in this drawing")
+            raise NotSayable("it refers to a shape that isn't in this drawing")
         return found
 
 

@@ -65,7 +65,7 @@ def contents_of(path: Path, lines: list[bytes]) -> Contents:
                 counts[record.word].add()
             contents.take(record)
     except NotSayable as unsaid:
-        raise FileRefusal(f"{path}: no sound SolveSpace file: a Param is none: {unsaid}") from None
+        raise FileRefusal(f"{path}: no sound SolveSpace file: of a Param {unsaid}") from None
     except TooMuch as much:
         raise FileRefusal(f"{path}: {much}") from None
     return contents
