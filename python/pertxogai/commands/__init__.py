@@ -98,7 +98,7 @@ def command_line() -> argparse.ArgumentParser:
 
 
 def _add_judge(commands: Commands) -> None:
-    judge = _command(commands, "judge", "judges sketches, and says what to do, by your own names")
+    judge = _command(commands, "judge", "judges sketches, and says in your own names what to do")
     judge.set_defaults(act=_judge)
     _add_freeze(judge)
     judge.add_argument("file", type=Path, nargs="+", metavar="FILE", help=FILE)
