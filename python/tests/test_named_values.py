@@ -316,7 +316,7 @@ def test_brackets_and_signs_have_a_limit():
 
 
 @pytest.mark.parametrize(("words", "um", "sense", "said"), [
-    ("Left", -5000, Sense.SIGNED, "'Left' has no sign in front, and the constraint's value tells"),
+    ("Left", -5000, Sense.SIGNED, "'Left' has no sign in front, and the constraint's value says"),
     ("-Left", 5000, Sense.DRAWN, "'-Left' has a sign in front, and the constraint takes its side"),
     ("+Left", -5000, Sense.SIGNED, None), ("-Left", 5000, Sense.SIGNED, None)])
 def test_the_sign_of_an_expression_is_that_of_the_constraint(words, um, sense, said):
