@@ -159,13 +159,18 @@ def test_json_of_a_drawing_has_the_same_members(capsys, tmp_path) -> None:
     } <= set(sketch)
 
 
+def _not_good(out: Path) -> str:
+    """What `draw` says where it has drawn what isn't good."""
+    return f"pertxogai: {out}: drawn, but the sketch isn't good, and the picture says why\n"
+
+
 @pytest.mark.parametrize("name, status", [("bracket", 0), ("hinge", 1), ("hole-row", 1),
                                           ("no-triangle", 1)])
 def test_draw_svg(name: str, status: int, capsys, tmp_path) -> None:
-    """What isn't good is drawn too, and the status says so."""
+    """What isn't good is drawn too, and the status and a line say so."""
     out = tmp_path / "out.svg"
     words = "draw", str(EXAMPLES / f"{name}.sketch"), "-o", str(out)
-    assert judged(capsys, *words) == (status, "", "")
+    assert judged(capsys, *words) == (status, "", _not_good(out) if status else "")
     assert ElementTree.parse(out).getroot().tag.endswith("svg")
     assert [it.name for it in tmp_path.iterdir()] == ["out.svg"]
 
@@ -362,7 +367,8 @@ def test_a_picture_tells_what_is_left_out(capsys, tmp_path) -> None:
     out = tmp_path / "out.svg"
     file = Path(__file__).parent / "files" / "ellipse.FCStd"
     for status, words in ((1, ["draw", str(file)]), (0, ["draw", "--as-drawn", str(file)])):
-        assert judged(capsys, *words, "-o", str(out))[0] == status
+        found, _, err = judged(capsys, *words, "-o", str(out))
+        assert (found, err) == (status, _not_good(out) if status else "")
         assert "left out of the file: Ellipse" in out.read_text()
 
 

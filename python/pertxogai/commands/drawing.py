@@ -2,12 +2,14 @@
 from __future__ import annotations
 
 import argparse
+import sys
 from fractions import Fraction
 
 from pertxogai.commands.judging import chosen, outcome_of, program_of
 from pertxogai.exits import CommandError, Exit
 from pertxogai.files.atomic import written_whole
 from pertxogai.files.kinds import read_inputs
+from pertxogai.files.printable import printable
 from pertxogai.output.drawing_sheet import NoPlaces
 from pertxogai.output.outcome import Sheet
 from pertxogai.output.release import Release
@@ -26,7 +28,11 @@ def draw(options: argparse.Namespace) -> Exit:
     text = _svg(sheet, options.scale) if suffix == ".svg" else _dxf(sheet, Release(options.release))
     with written_whole(options.output, options.file) as file:
         file.write(text.encode("utf-8", "replace"))
-    return Exit.GOOD if sheet.is_good() else Exit.NOT_GOOD
+    if sheet.is_good():
+        return Exit.GOOD
+    print(f"pertxogai: {printable(str(options.output))}: drawn, but the sketch isn't good, and the "
+          "picture says why", file=sys.stderr)
+    return Exit.NOT_GOOD
 
 
 def _svg(sheet: Sheet, scale: Fraction | None) -> str:
