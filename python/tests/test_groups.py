@@ -15,6 +15,7 @@ from pertxogai.judging.judged_drawing import JudgedDrawing
 from pertxogai.output import drawing_json, drawing_lines, sketch_json, sketch_lines
 from pertxogai.program import Program
 from pertxogai.program.reports import Verdict, read_why
+from pertxogai.search.searched import Searched
 
 DRAWINGS = Path(__file__).parent / "drawings"
 TRIANGLE = ("point A 0 0\npoint B 4 0\npoint C 4 3\n"
@@ -65,6 +66,43 @@ def test_what_stands_beside_is_in_no_group(program: Program) -> None:
     assert found == {"First": {"Again"}, "Again": {"First"}}
 
 
+PLATE = """rectangle Plate 0 0 118 79
+circle Hole 47 28 5
+coincident PlateBottom.start Origin
+Width: length PlateBottom 120
+length PlateRight 80
+Left: x Hole 45
+y Hole 30
+diameter Hole 12
+Right: distance Hole PlateRight 60
+Span: length PlateTop 120
+"""
+"""The hole is 45 from the left edge, so 75 from the right one, 15 more than `Right` says; and `Span`
+says what `Width` does."""
+
+
+def test_a_repeat_and_a_contradiction_have_groups_of_their_own(program: Program) -> None:
+    judged = judge(read_drawing(PLATE), program)
+    found = {each.name: each for each in judged.surplus}
+    for name in "Width", "Left", "Right":
+        assert found[name].repeats() is False and found[name].off.amount == 15_000_000
+        assert {"Width", "Left", "Right"} <= {name, *found[name].others}
+        assert "Span" not in found[name].others
+    assert found["Span"].repeats() is True and found["Span"].off.amount == 0
+    assert "Width" in found["Span"].others
+    assert {"Left", "Right"}.isdisjoint(found["Span"].others)
+
+
+def test_what_is_said_by_numbers_is_said_by_the_program(program: Program) -> None:
+    drawing = read_drawing(PLATE)
+    surplus = {each.name: each.repeats() for each in judge(drawing, program).surplus}
+    found = Searched(drawing).finding()
+    (repeat,), (contradiction,) = found.repeats, found.contradictions
+    assert repeat[0] == "Span" and "Width" in repeat and found.in_doubt == ()
+    assert {"Right", "Left", "Width"} <= set(contradiction)
+    assert surplus["Span"] and not any(surplus[name] for name in contradiction)
+
+
 def test_the_group_is_told_below_the_dimension_and_in_json(program: Program) -> None:
     drawing = read_drawing(f"{TRIANGLE}Again: distance A C 5.01\n")
     judged = JudgedDrawing("it", drawing, judge(drawing, program))
@@ -91,20 +129,20 @@ def test_of_many_only_the_first_are_asked_for(program: Program, monkeypatch) -> 
         f"point P{number} {number} 0\ndistance O P{number} {number}\n"
         f"Again{number}: distance O P{number} {number}\n" for number in range(1, 5))
     judged = judge(read_drawing(text), program)
-    numbers = [each.number for each in judged.surplus]
+    numbers = {each.number: each.beside for each in judged.surplus}
     assert len(numbers) == 8 and all(each.others for each in judged.surplus)
     monkeypatch.setattr("pertxogai.judging.groups.MOST", 2)
     groups = groups_of(judged.names, program, numbers, judged.asked.check)
-    assert groups.keys() == set(numbers[:2])
+    assert groups.keys() == set([*numbers][:2])
 
 
 def test_as_many_are_asked_for_as_are_answered_soon(program: Program, monkeypatch) -> None:
     text = TRIANGLE + "Again: distance A C 5\nOnce: distance A C 5\n"
     judged = judge(read_drawing(text), program)
-    numbers, check = [each.number for each in judged.surplus], judged.asked.check
+    numbers, check = {each.number: () for each in judged.surplus}, judged.asked.check
     assert (len(numbers), check.constraints, check.too_many()) == (3, 5, 2)
     monkeypatch.setattr("pertxogai.judging.groups.TOGETHER", 104)  # Thrice 7 times 5 is 105.
-    assert groups_of(judged.names, program, numbers, check).keys() == set(numbers[:2])
+    assert groups_of(judged.names, program, numbers, check).keys() == set([*numbers][:2])
 
 
 def test_what_is_kept_stays_over_where_too_little_is_left_out() -> None:

@@ -310,6 +310,72 @@ def test_a_triangle_that_cannot_be_is_contradicted_by_its_three_lengths():
     assert found.solution is None and found.is_doubtful
 
 
+BRACKET = """segment Bottom 0 0 100 0
+segment End Bottom.end 100 21
+segment Shelf End.end 25 21
+arc Fillet 25 26 20 26 Shelf.end
+segment Wall Fillet.start 20 58
+segment Top Wall.end 0 58
+segment Back Top.end Bottom.start
+circle Hole 80 10 4
+horizontal Bottom Shelf Top
+vertical End Wall Back
+coincident Bottom.start Origin
+tangent Shelf Fillet
+tangent Fillet Wall
+Round: radius Fillet 5
+Width: length Bottom 100
+length End 20
+Leg: length Top 20
+length Back 60
+diameter Hole 8
+y Hole 10
+Left: x Hole 80
+Shelf span: length Shelf 75
+Right: distance Hole End 25
+"""
+"""The shelf is as long as the bottom less the leg and the fillet, 75, as it says; the hole is 80 from
+the left, so 20 from the end, 5 less than `Right` says. No end that leans, of 20 from 100, 0, has 25
+from the hole, since it lies only 22.4 from there."""
+
+
+def test_what_only_repeats_is_told_so_beside_a_contradiction():
+    found = found_of(BRACKET)
+    (repeat,) = found.repeats
+    assert repeat[0] == "Shelf span" and {"Width", "Leg", "Round"} <= set(repeat)
+    assert {"Left", "Right"}.isdisjoint(repeat)
+    assert found.contradictions == (("Right", "Left", "Width"),) and found.in_doubt == ()
+    assert (found.freedoms, found.is_doubtful) == (0, True)
+
+
+def test_two_contradictions_have_groups_of_their_own():
+    # The shelf is 75; from the left the hole is 20 from the end.
+    found = found_of(BRACKET.replace("Shelf 75", "Shelf 70"))
+    one, other = found.contradictions
+    assert one == ("Right", "Left", "Width")
+    assert other[0] == "Shelf span" and {"Width", "Leg", "Round"} <= set(other)
+    assert {"Left", "Right"}.isdisjoint(other)
+    assert found.repeats == found.in_doubt == ()
+
+
+def test_two_triangles_that_cannot_be_are_two_contradictions():
+    # 30 is more than 10 and 10; and the length that is told twice repeats itself alone.
+    text = "".join(f"point A{n} {n}0 0\npoint B{n} {n}9 0\npoint C{n} {n}5 1\n" for n in (1, 3))
+    lines = "".join(f"AB{n}: distance A{n} B{n} 30\nBC{n}: distance B{n} C{n} 10\n"
+                    f"CA{n}: distance C{n} A{n} 10\n" for n in (1, 3))
+    found = found_of(text + lines + "Again: distance A1 B1 30\n")
+    assert set(found.contradictions) == {("CA1", "BC1", "AB1"), ("CA3", "BC3", "AB3")}
+    assert found.repeats == (("Again", "AB1"),) and found.in_doubt == ()
+
+
+def test_without_time_for_it_nothing_is_known_to_contradict(monkeypatch):
+    monkeypatch.setattr("pertxogai.search.contradictions.STEPS", 0)
+    monkeypatch.setattr("pertxogai.search.contradictions.SECONDS", 0.0)
+    monkeypatch.setattr("pertxogai.search.contradictions.REST_SECONDS", 0.0)
+    found = found_of(BRACKET)
+    assert found.contradictions == () and found.in_doubt
+
+
 def test_a_large_drawing_without_places_names_what_contradicts():
     # The ends of 400 triangles are 3,990 apart, and are told to be 5: so that word is the one.
     found = found_of(strip(400) + "\nNear: distance P0 P399 5\n")

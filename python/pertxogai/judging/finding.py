@@ -43,7 +43,8 @@ class Finding:
     says what the others do. contradictions: groups that can't all be met. solution: whole
     nanometres, where places are found that meet all constraints, and who has placed it so;
     deviations: each constraint, measured there. chosen: the values that the program was told
-    besides, or in the place of what is only measured, as lines."""
+    besides, or in the place of what is only measured, as lines. in_doubt: groups of which numbers
+    don't tell whether the first says what the others do, or contradicts them."""
 
     freedoms: int
     of_the_whole: int
@@ -57,6 +58,7 @@ class Finding:
     places_by: PlacesBy | None = None
     chosen: tuple[str, ...] = ()
     only_measured: tuple[str, ...] = ()
+    in_doubt: tuple[Group, ...] = ()
 
     def free_shapes(self, drawing: Drawing) -> Iterator[str]:
         """The shapes of which a point still moves, or the radius may still change."""

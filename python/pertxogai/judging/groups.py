@@ -2,12 +2,14 @@
 names them.
 
 The group of a dimension is the least of the kept lines that it follows from: without any one of
-them it wouldn't. A line may be said by several of the designer's words; then all of them are
-named, but for those that by rank take no part in anything that is too much."""
+them it wouldn't. What has to go beside it is left out before it, so it is in no group. A line may
+be said by several of the designer's words; then all of them are named, but for those that by rank
+take no part in anything that is too much."""
 from __future__ import annotations
 
-from collections.abc import Mapping, Sequence
+from collections.abc import Collection, Mapping, Sequence
 from dataclasses import replace
+from itertools import islice
 from types import MappingProxyType
 
 from pertxogai.judging.freedoms import freedoms
@@ -24,17 +26,18 @@ TOGETHER = 8 * WORK
 """How much the program may have to do for all of them: some ten seconds."""
 
 
-def groups_of(names: Names, program: Solver, numbers: Sequence[int],
+def groups_of(names: Names, program: Solver, numbers: Mapping[int, Collection[int]],
               check: CheckReport) -> Mapping[int, tuple[str, ...]]:
     """The others in the group of each of these dimensions, by its place: of the first of them, as
-    many as are answered soon, and only where the program leaves a line of it out. check: what the
-    program says of the sketch. Raises ProgramError."""
+    many as are answered soon, and only where the program leaves a line of it out. numbers: each
+    with those that go beside it. check: what the program says of the sketch. Raises
+    ProgramError."""
     found: dict[int, frozenset[Owner]] = {}
     left = TOGETHER
-    for number in numbers[:MOST]:
+    for number, beside in islice(numbers.items(), MOST):
         if work_of(check, False) > left:
             break
-        order = _told_last(names, Owner(number))
+        order = _told_last(names, Owner(number), frozenset(map(Owner, beside)))
         report = _why(names, program, order)
         found[number] = _others(names, report, order, Owner(number))
         left -= work_of(check, report.stays_over())
@@ -50,11 +53,13 @@ def _taking_part(names: Names) -> frozenset[Owner] | None:
     return free.among() if free is not None and free.excess else None
 
 
-def _told_last(names: Names, owner: Owner) -> Sequence[int]:
-    """The places of the lines, those of a dimension last: the program leaves the last ones out
-    that it can."""
+def _told_last(names: Names, owner: Owner, beside: frozenset[Owner]) -> Sequence[int]:
+    """The places of the lines, last those of a dimension, and behind them those of what goes beside
+    it: the program leaves the last ones out that it can."""
     owners = names.spelled.owners
-    return sorted(range(len(owners)), key=lambda place: owner in owners[place])
+    return sorted(range(len(owners)), key=lambda place: (
+        owner in owners[place] or not beside.isdisjoint(owners[place]),
+        owner not in owners[place]))
 
 
 def _why(names: Names, program: Solver, order: Sequence[int]) -> WhyReport:

@@ -401,7 +401,7 @@ def weighed(judged: Judgement, program: Solver) -> WeighedJudgement:
 
     surplus = what_may_go(Question(drawing, program, judged.limit), judged.asked)
     if judged.asked.check is not None:
-        numbers = [each.number for each in surplus]
+        numbers = {each.number: each.beside for each in surplus}
         groups = groups_of(judged.names, program, numbers, judged.asked.check)
         surplus = tuple(replace(each, others=groups.get(each.number, ())) for each in surplus)
     return _weighed_judgement(judged, WithSurplus(surplus), loose(judged.names))

@@ -64,6 +64,9 @@ class Surplus:
     """Those that it follows from, as the program names them, of those that by rank take part in
     something that is too many; none where it wasn't asked, or keeps it."""
     rounding: int = 0
+    beside: frozenset[int] = frozenset()
+    """The places of the others that were left out when it was measured, since more than one has to
+    go. Its group is one without these."""
 
     def repeats(self) -> bool | None:
         """Whether it is redundant; None if that can't be told."""
@@ -192,11 +195,11 @@ class _Trials:
         too many beside it; and then how far rounding moves what is off. Raises _Enough."""
         last = self._last(numbers)
         self._stay = self._may_stay(last.numbers)
-        for number in numbers:
+        for number in dict.fromkeys((*last.numbers, *numbers)):
             self.found[number] = self._try(number, self._others(number, last))
         for number in numbers:
-            gone = self._others(number, last) | {number}
-            self.found[number] = self._with_rounding(self.found[number], gone)
+            tried = self.found[number]
+            self.found[number] = self._with_rounding(tried, tried.beside | {number})
 
     def _last(self, numbers: Sequence[int]) -> Gone:
         """The last constraints without which nothing is said twice, and nothing more is free where
@@ -219,11 +222,14 @@ class _Trials:
         return stay
 
     def _others(self, number: int, last: Gone) -> frozenset[int]:
-        """Those of the last that have to go beside a constraint, if it isn't enough: all but the
-        one nearest to it of those that may stay then."""
+        """Those of the last that have to go beside a constraint, if it isn't enough: all but one of
+        those that may stay then, one that contradicts the others before one that repeats them, and
+        else the nearest. So what is in the groups of both is measured against what contradicts."""
         if self.free.fewer([number]) == self.free.excess:
             return frozenset()
-        stays = min(last.instead(number), key=lambda other: abs(other - number))
+        stays = min(last.instead(number), key=lambda other: (
+            other not in self.found or self.found[other].repeats() is not False,
+            abs(other - number)))
         return frozenset(last.numbers) - {stays, number} - self._stay
 
     def _try(self, number: int, others: frozenset[int]) -> Surplus:
@@ -234,7 +240,7 @@ class _Trials:
         if asked.verdict is not Verdict.OVER and not self.free.freed(gone):
             off = self._off(number, gone, asked)
         then = _then(self._without(frozenset({number})))
-        return Surplus(number, self.drawing.called(number), off, then, self.limit)
+        return Surplus(number, self.drawing.called(number), off, then, self.limit, beside=others)
 
     def _without(self, gone: frozenset[int]) -> Trial:
         """What the program says of the drawing without some constraints. Raises _Enough."""

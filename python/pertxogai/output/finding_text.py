@@ -40,6 +40,8 @@ def finding_lines(judged: JudgedDrawing) -> Iterator[str]:
     yield from (f"  redundant (by numbers): {_group_text(each)}" for each in finding.repeats)
     yield from (f"  can't all be met (by numbers): {', '.join(each)}"
                 for each in finding.contradictions)
+    yield from (f"  in doubt, redundant or conflicting (by numbers): {', '.join(each)}"
+                for each in finding.in_doubt)
 
 
 def finding_json(judged: JudgedDrawing) -> dict[str, object]:
@@ -55,6 +57,7 @@ def finding_json(judged: JudgedDrawing) -> dict[str, object]:
         "only_measured": list(finding.only_measured) if finding else [],
         "repeats": [list(each) for each in _repeats(finding, names)],
         "contradictions": [list(each) for each in finding.contradictions] if finding else [],
+        "in_doubt": [list(each) for each in finding.in_doubt] if finding else [],
         "places_by": by.value if by else None,
     }
 
@@ -85,7 +88,7 @@ def _placed_lines(judged: JudgedDrawing, finding: Finding) -> Iterator[str]:
             yield f"  not passed to the program, only measured: {', '.join(finding.only_measured)}"
     elif finding.places_by is PlacesBy.NUMBERS:
         yield "  placed by numbers, not constructed"
-    elif not finding.contradictions:
+    elif not (finding.contradictions or finding.in_doubt):
         yield "  no positions were found that meet all of it (by numbers)"
     if finding.solution is not None:
         off = [each for each in judged.worst() if each.amount]

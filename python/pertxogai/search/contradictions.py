@@ -1,22 +1,28 @@
-"""What contradicts in a drawing that has no places.
+"""What contradicts in a drawing that has no places, and what only repeats there.
 
 The rank, where the search came nearest, tells who says what follows from the others; else those are
-taken that are off most there. Of these, those contradict each other without each of which there are
-places; all of them, where leaving out one alone helps nowhere."""
+taken that are off most there. That place meets nothing, so it doesn't tell which of these groups
+contradict: the drawing is searched again without the latest constraint of each, and there each of
+these is measured by itself. Of a group that contradicts, those are told without each of which there
+are places, once nothing else is told twice; all of them, where leaving out one alone helps
+nowhere."""
 from __future__ import annotations
 
-from collections.abc import Iterable, Iterator
+from collections.abc import Collection, Iterable, Iterator, Sequence
+from dataclasses import dataclass
 from itertools import takewhile
 from time import thread_time
 
 import numpy as np
 
-from pertxogai.drawing import Drawing, Segment, ShapeRef
+from pertxogai.drawing import Segment, ShapeRef
+from pertxogai.judging.surplus import without
 from pertxogai.search.arrays import Array
 from pertxogai.search.budget import Budget
 from pertxogai.search.combination import Combination
+from pertxogai.search.dependencies import Dependency
 from pertxogai.search.equations import Equations
-from pertxogai.search.freedom import Freedom
+from pertxogai.search.freedom import Freedom, freedom
 from pertxogai.search.solving import Found, solve
 from pertxogai.search.unknowns import By, Unknowns
 
@@ -28,23 +34,97 @@ SHRUNK = 0.02
 """Next to nothing: this part of the size as it is drawn."""
 STEPS, SECONDS = 60, 0.6
 """The most steps of each of these searches, and the seconds after which no more are begun."""
+REST_SECONDS = 0.4
+"""What the search may take for what is left without what contradicts."""
 
 
-def contradictions(equations: Equations, found: Found, free: Freedom | None,
-                   within_nm: float) -> tuple[Numbers, ...]:
-    """Groups of constraints that can't all be met within so many nanometres; none where the drawing
-    is solved, or none is found. free: None where the rank isn't asked."""
-    if found.is_solved():
-        return ()
+@dataclass(frozen=True)
+class Clashes:
+    """What is told twice in a drawing without places. contradictions: groups that can't all be met.
+    in_doubt: groups of which numbers don't tell whether they can. repeats: where the latest
+    constraint says what the others do."""
+
+    contradictions: tuple[Numbers, ...] = ()
+    in_doubt: tuple[Numbers, ...] = ()
+    repeats: tuple[Dependency, ...] = ()
+
+    def latest(self) -> list[int]:
+        """The latest constraint of each group that may contradict, the last first."""
+        return sorted({each[0] for each in self.contradictions + self.in_doubt}, reverse=True)
+
+
+def clashes(equations: Equations, found: Found, free: Freedom | None,
+            within_nm: float) -> Clashes:
+    """What can't all be met within so many nanometres, and what repeats others so nearly; nothing
+    where the drawing is solved. free: None where the rank isn't asked."""
     dependencies = free.dependencies if free is not None else ()
-    by_rank = [tuple(source.number for source in each.sources if source.by is not By.SHAPE)
-               for each in dependencies if not each.repeats(within_nm)]
-    if by_rank:
-        return tuple(_sharp(equations, numbers) or _latest_first(numbers) for numbers in by_rank)
+    if not all(each.repeats(within_nm) for each in dependencies):
+        return _one_by_one(equations, dependencies, within_nm)
     if found.end.worst_nm <= within_nm:
-        return ()
-    sharp = _sharp(equations, _worst(equations, found))
-    return (sharp,) if sharp else ()
+        return Clashes(repeats=dependencies)
+    again = frozenset(each.sources[0].number for each in dependencies)
+    worst = (number for number in _worst(equations, found) if number not in again)
+    sharp = _Rests(equations, within_nm, again).sharp(worst)
+    return Clashes((sharp,) if sharp else (), repeats=dependencies)
+
+
+def _one_by_one(equations: Equations, dependencies: Sequence[Dependency],
+                within_nm: float) -> Clashes:
+    """Each group by itself, of groups of which some seem to contradict where the search came
+    nearest: by the place where all but the latest constraints of these are met, if one is found."""
+    off = [each for each in dependencies if not each.repeats(within_nm)]
+    latest = frozenset(each.sources[0].number for each in off)
+    rest = solve(Equations(equations.unknowns.drawing, latest), Budget(seconds=REST_SECONDS))
+    if rest.end.worst_nm > within_nm:
+        rests = _Rests(equations, within_nm, latest)
+        return rests.clashes(off, [each for each in dependencies if each.repeats(within_nm)])
+    told = freedom(equations, rest.x).dependencies
+    known = {number for each in told for number in _numbers(each)}
+    clashing = [each for each in told if not each.repeats(within_nm)]
+    unknown = [each for each in off if each.sources[0].number not in known]
+    rests = _Rests(equations, within_nm, latest.union(each.sources[0].number for each in told))
+    return rests.clashes([*clashing, *unknown],
+                         [each for each in told if each.repeats(within_nm)], clashing)
+
+
+class _Rests:
+    """A drawing without some of its constraints. latest: those that aren't needed by the others, of
+    which a group is tried with one, its own."""
+
+    def __init__(self, equations: Equations, within_nm: float,
+                 latest: frozenset[int] = frozenset()) -> None:
+        self._drawing, self._within_nm, self._latest = (
+            equations.unknowns.drawing, within_nm, latest)
+
+    def clashes(self, groups: Iterable[Dependency], repeats: Iterable[Dependency],
+                known: Collection[Dependency] = ()) -> Clashes:
+        """What becomes of groups that may contradict. known: those of them that do."""
+        contradictions, in_doubt = list[Numbers](), list[Numbers]()
+        for each in groups:
+            numbers = _numbers(each)
+            sharp = self.sharp(numbers)
+            if sharp or each in known:
+                contradictions.append(sharp or numbers)
+            elif not self._is_met(self._beside(numbers), SECONDS):
+                in_doubt.append(numbers)
+        return Clashes(tuple(contradictions), tuple(in_doubt), tuple(repeats))
+
+    def sharp(self, numbers: Iterable[int]) -> Numbers:
+        """Those without each of which there are places, of the first that can be tried in time."""
+        tried = list(dict.fromkeys(numbers))[:MOST_LEFT_OUT]
+        beside, end = self._beside(tried), thread_time() + SECONDS
+        in_time = takewhile(lambda _: thread_time() < end, tried)
+        return _latest_first(number for number in in_time
+                             if self._is_met(beside | {number}, SECONDS / len(tried)))
+
+    def _beside(self, numbers: Collection[int]) -> frozenset[int]:
+        """What is left out while a group is tried: the latest constraints of the others."""
+        return self._latest - {max(self._latest.intersection(numbers), default=0)}
+
+    def _is_met(self, gone: Collection[int], seconds: float) -> bool:
+        """Whether places are found that meet all but some constraints."""
+        rest = solve(Equations(without(self._drawing, gone)), Budget(STEPS, seconds))
+        return rest.end.worst_nm <= self._within_nm
 
 
 def has_shrunk(equations: Equations, x: Array) -> bool:
@@ -69,12 +149,6 @@ def _way(way: Combination, x: Array) -> Array:
     return ends
 
 
-def without(drawing: Drawing, number: int) -> Drawing:
-    """A drawing without one constraint."""
-    kept = drawing.constraints[:number - 1] + drawing.constraints[number:]
-    return Drawing(drawing.geometry, kept)
-
-
 def _worst(equations: Equations, found: Found) -> Iterator[int]:
     """The constraints that are off, those that are off most first."""
     off = np.abs(equations.off(found.x))
@@ -82,18 +156,10 @@ def _worst(equations: Equations, found: Found) -> Iterator[int]:
     return (source.number for source in numbers if source.by is not By.SHAPE)
 
 
-def _sharp(equations: Equations, numbers: Iterable[int]) -> Numbers:
-    """Those without each of which there are places, of the first that can be tried in time."""
-    tried = list(dict.fromkeys(numbers))[:MOST_LEFT_OUT]
-    seconds, end = SECONDS / max(1, len(tried)), thread_time() + SECONDS
-    in_time = takewhile(lambda _: thread_time() < end, tried)
-    return _latest_first(number for number in in_time
-                         if _is_solved_without(equations, number, seconds))
-
-
-def _is_solved_without(equations: Equations, number: int, seconds: float) -> bool:
-    rest = Equations(without(equations.unknowns.drawing, number))
-    return solve(rest, Budget(STEPS, seconds)).is_solved()
+def _numbers(dependency: Dependency) -> Numbers:
+    """The constraints of a group."""
+    return _latest_first(source.number for source in dependency.sources
+                         if source.by is not By.SHAPE)
 
 
 def _latest_first(numbers: Iterable[int]) -> Numbers:

@@ -5,7 +5,7 @@ the unknowns; and each entry of the Jacobian is a combination, always the same, 
 rows by their ways."""
 from __future__ import annotations
 
-from collections.abc import Iterable, Iterator, Sequence
+from collections.abc import Collection, Iterable, Iterator, Sequence
 from copy import copy
 from typing import NamedTuple, Self
 
@@ -18,7 +18,7 @@ from pertxogai.search.constraint_rows import rows_of
 from pertxogai.search.kinds import Asides, Distances, EqualLengths, Leans, RowsOfKind, Ways
 from pertxogai.search.pattern import Pattern, SlopeEntry
 from pertxogai.search.row import Kind, Row
-from pertxogai.search.unknowns import Unknowns
+from pertxogai.search.unknowns import By, Unknowns
 
 LEAST_SIZE_NM = 1e3
 """No drawing counts as smaller than a micrometre."""
@@ -105,12 +105,15 @@ class System:
 
 
 class Equations(System):
-    """All rows of a drawing, which begins as it is drawn."""
+    """The rows of a drawing, which begins as it is drawn: all but those of some constraints, by
+    their places, from 1. The points that these join stay one."""
 
-    def __init__(self, drawing: Drawing) -> None:
+    def __init__(self, drawing: Drawing, left_out: Collection[int] = ()) -> None:
         self.unknowns = Unknowns(drawing)
         drawn = self.unknowns.drawn()
-        super().__init__(rows_of(self.unknowns), drawn, _size_nm(self.unknowns, drawn))
+        rows = (each for each in rows_of(self.unknowns)
+                if each.source.by is By.SHAPE or each.source.number not in left_out)
+        super().__init__(rows, drawn, _size_nm(self.unknowns, drawn))
 
     def beside(self, rows: Iterable[Row]) -> System:
         """Rows of other constraints on the same unknowns."""

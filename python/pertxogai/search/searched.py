@@ -2,7 +2,7 @@
 drawing."""
 from __future__ import annotations
 
-from collections.abc import Callable, Mapping
+from collections.abc import Callable, Iterable, Mapping
 from dataclasses import replace
 from functools import cached_property
 
@@ -14,12 +14,13 @@ from pertxogai.judging.finding import Finding, Group, PlacesBy
 from pertxogai.judging.judgement import Judgement
 from pertxogai.judging.measure import Deviation, Solution, measure
 from pertxogai.judging.measure.limit import Limit
+from pertxogai.judging.surplus import without
 from pertxogai.program import Solver
 from pertxogai.program.reports import Verdict
 from pertxogai.search.arrays import Array
 from pertxogai.search.budget import MOST_SECONDS, Budget
 from pertxogai.search.constructing import construct
-from pertxogai.search.contradictions import Numbers, contradictions, has_shrunk, without
+from pertxogai.search.contradictions import REST_SECONDS, Numbers, clashes, has_shrunk
 from pertxogai.search.dependencies import SAME_NM, Dependency
 from pertxogai.search.descent import descend
 from pertxogai.search.equations import Equations
@@ -32,8 +33,6 @@ from pertxogai.search.unknowns import By, FloatPointNm, Source
 
 Measured = Callable[[Solution], tuple[Deviation, ...]]
 """What measures a drawing on some places."""
-REST_SECONDS = 0.4
-"""What the search may take for what is left without what contradicts."""
 MENDED_NM = 10_000.0
 """Places that were told in rounded numbers are mended by no more; at a dead point a tenth of a
 nanometre is a micrometre of what else moves."""
@@ -93,7 +92,7 @@ class Searched:
         solution = solution_of(self.equations.unknowns, self.found.x)
         return Finding(
             self.freedom.count, motions.of_the_whole, not self.freedom.is_sure,
-            motions.moves, motions.rims, self._repeats(self.freedom), (), solution,
+            motions.moves, motions.rims, self._repeats(), (), solution,
             measured(solution) if measured else measure(self.drawing, solution), PlacesBy.NUMBERS)
 
     def finding_with(self, judgement: Judgement, program: Solver) -> Finding:
@@ -115,19 +114,21 @@ class Searched:
         what is taken for a contradiction. Where the search has ended with an edge or a rim that has
         shrunk to nothing, it is stuck, and nothing is told to contradict."""
         free = self.freedom if self.equations.unknowns.count <= MOST_RANKED else None
-        groups = contradictions(self.equations, self.found, free, limit.amount)
-        is_stuck = has_shrunk(self.equations, self.found.x)
-        drawing = self.drawing
-        for latest in sorted({numbers[0] for numbers in groups}, reverse=True):
-            drawing = without(drawing, latest)
-        rest = Searched(drawing, REST_SECONDS).freedom if groups else self.freedom
-        return Finding(rest.count, rest.motions.of_the_whole, True,
-                       repeats=self._repeats(free, limit.amount) if free is not None else (),
-                       contradictions=() if is_stuck else tuple(map(self._names, groups)))
+        found = clashes(self.equations, self.found, free, limit.amount)
+        latest = found.latest()
+        rest = Searched(without(self.drawing, latest), REST_SECONDS) if latest else self
+        told = Finding(rest.freedom.count, rest.freedom.motions.of_the_whole, True,
+                       repeats=self._groups(found.repeats))
+        if has_shrunk(self.equations, self.found.x):
+            return told
+        return replace(told, contradictions=tuple(map(self._names, found.contradictions)),
+                       in_doubt=tuple(map(self._names, found.in_doubt)))
 
-    def _repeats(self, free: Freedom, within_nm: float = SAME_NM) -> tuple[Group, ...]:
+    def _repeats(self) -> tuple[Group, ...]:
         """What says what others do, the latest first."""
-        repeats = (each for each in free.dependencies if each.repeats(within_nm))
+        return self._groups(each for each in self.freedom.dependencies if each.repeats())
+
+    def _groups(self, repeats: Iterable[Dependency]) -> tuple[Group, ...]:
         groups = map(self._group, sorted(repeats, key=_latest, reverse=True))
         return tuple(dict.fromkeys(groups))
 
