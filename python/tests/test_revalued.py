@@ -71,3 +71,20 @@ def test_two_heights_that_are_alike_by_their_values_alone_are_not_later() -> Non
         EditedDrawing(anew, known), EditedDrawing(anew)))
     assert first == other
     assert "distance" in first["sketch"].text() != spelled(known)[0]["sketch"].text()
+
+
+def test_two_points_that_are_one_by_their_values_alone_are_not_later() -> None:
+    # Q is drawn to the right of P, and told to be at the same place: a distance of 3 contradicts
+    # that. With Q 3 to the left of P it only repeats it.
+    drawing = read_drawing("point P 10 20\npoint Q 14 20\nhorizontal P Q\nx P 10\nx Q 10\n"
+                           "y P 20\ndistance P Q 3\n")
+    known, anew = EditedDrawing(drawing), moved(drawing, {3: Fraction(-3000)})
+    assert amounts(known) == [-3000]
+    edited = EditedDrawing(anew, known)
+    assert amounts(edited) == [0]
+    assert spelled(edited) == spelled(EditedDrawing(anew))
+
+
+def amounts(edited: EditedDrawing) -> list[object]:
+    """By how much what follows from the rest is off that, in the first reading."""
+    return [told.amount for _, told in next(edited.readings()).axes.told]

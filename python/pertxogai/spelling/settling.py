@@ -115,7 +115,7 @@ class Settling:
             sign = self._sign(frame, upwards, fact, reduced(way))
             along = way - value.times(sign)
             if reduced(across) == Form():
-                self.level.append((number, across))
+                self.level += [(number, each) for each in (across, way) if reduced(each) == Form()]
                 self.steps.append(Step(number, frame.number, upwards, sign))
                 self.axes.tell(along, owners)
                 return True
