@@ -2,7 +2,8 @@
 from __future__ import annotations
 
 from collections.abc import Callable
-from functools import wraps
+from copy import copy
+from functools import cached_property, wraps
 from typing import TypeVar
 
 Thing = TypeVar("Thing")
@@ -10,8 +11,8 @@ Value = TypeVar("Value")
 
 
 def cached_on(of: Callable[[Thing], Value]) -> Callable[[Thing], Value]:
-    """A function of one frozen dataclass, which keeps its answer beside the fields of the thing:
-    so what an edit leaves as it was isn't worked out again."""
+    """A function of one thing that never changes, which keeps its answer beside the fields of the
+    thing: so what an edit leaves as it was isn't worked out again."""
     name = f"{of.__module__}.{of.__name__}"
 
     @wraps(of)
@@ -22,3 +23,13 @@ def cached_on(of: Callable[[Thing], Value]) -> Callable[[Thing], Value]:
         return known[name]
 
     return found
+
+
+def copied(thing: Thing) -> Thing:
+    """A copy that is to be changed, without what was worked out of the thing once: neither by
+    `cached_on`, whose answers have names with points, nor by its `cached_property`s."""
+    other = copy(thing)
+    for name in list(vars(other)):
+        if "." in name or isinstance(getattr(type(thing), name, None), cached_property):
+            del vars(other)[name]
+    return other

@@ -88,3 +88,35 @@ def test_two_points_that_are_one_by_their_values_alone_are_not_later() -> None:
 def amounts(edited: EditedDrawing) -> list[object]:
     """By how much what follows from the rest is off that, in the first reading."""
     return [told.amount for _, told in next(edited.readings()).axes.told]
+
+
+PLATE = """segment South {} {}
+segment East South.end {}
+segment North East.end {}
+segment West North.end South.start
+point Q {}
+perpendicular South East
+perpendicular East North
+perpendicular North West
+length South {}
+length East 20
+distance South.start Q 21
+distance North.end Q 6
+"""
+FLAT = "0 0", "28.8 8.4", "23.2 27.6", "-5.6 19.2", "-10.4 17.8"
+STEEP = "0 0", "8.4 28.8", "-10.8 34.4", "-19.2 5.6", "-20.6 0.8"
+"""A plate of 30 by 20, turned by the angle of the sides 7, 24 and 25, and by the rest to 90
+degrees; Q is beside its left edge, outside."""
+
+
+def test_what_is_drawn_elsewhere_after_other_values_were_tried() -> None:
+    first = EditedDrawing(read_drawing(PLATE.format(*FLAT, 30)))
+    drawing = read_drawing(PLATE.format(*FLAT, 31))
+    assert spelled(first) != spelled(EditedDrawing(drawing, first))
+    turned = EditedDrawing(read_drawing(PLATE.format(*STEEP, 30)), first)
+    assert spelled(turned) == spelled(EditedDrawing(turned.drawing))
+    lines = {each.axes.lines for edited in (first, turned)
+             for each in edited.analysis.interpretations}
+    assert len(lines) == 1, "they were taken over"
+    longer = read_drawing(PLATE.format(*STEEP, 31))
+    assert spelled(EditedDrawing(longer, turned)) == spelled(EditedDrawing(longer))

@@ -4,11 +4,11 @@ from __future__ import annotations
 
 from collections import Counter
 from collections.abc import Hashable
-from copy import copy
 from dataclasses import dataclass, replace
 from functools import cached_property
 from typing import NamedTuple, Protocol
 
+from pertxogai.cached import copied
 from pertxogai.classes import Classes
 from pertxogai.drawing import X_AXIS
 from pertxogai.spelling.directions import Directions
@@ -92,7 +92,7 @@ class Axes:
                  without: Apart | Off | None = None) -> Axes:
         """The same with one equation replaced, or a new one, and without a distance; to be settled
         again, which `with_equation` does."""
-        other = copy(self)
+        other = copied(self)
         equations = list(self.equations)
         if number is None:
             equations.append(equation)
@@ -110,7 +110,7 @@ class Axes:
         where they differ otherwise."""
         if not self.facts.says_but_for_lengths(facts):
             return None
-        other = copy(self._of_lines)
+        other = copied(self._of_lines)
         other.facts = facts
         other.system = self._of_lines.system.copied()
         other._frames_of = {knot: set(each) for knot, each in self._of_lines._frames_of.items()}
@@ -123,7 +123,7 @@ class Axes:
     @cached_property
     def _of_lines(self) -> Axes:
         """The same, of which the lines have told their equations alone."""
-        other = copy(self)
+        other = copied(self)
         other.system, other._frames_of = LinearSystem(rank), {}
         other.equations, other.told, other.loose = [], [], []
         other._lines_say()
@@ -132,7 +132,7 @@ class Axes:
     def redrawn(self, facts: Facts) -> Axes | None:
         """The same for facts that differ only in drawn positions; None if a point is drawn on
         another side than before."""
-        other = copy(self)
+        other = copied(self)
         other.facts = facts
         other.frames = [replace(each, way=facts.direction(each.line)) for each in self.frames]
         other._of_root = {root: other.frames[each.number] for root, each in self._of_root.items()}
