@@ -412,15 +412,31 @@ def test_a_corner_that_turns_by_the_directions_of_its_edges_is_not_mirrored(prog
 
 @pytest.mark.parametrize("words", [
     "angle A +60deg\nangle B -30deg\nlength A 40\nlength B 30\n",
+    "angle A +60deg\nangle YAxis B -120deg\nlength A 40\nlength B 30\n",
     "horizontal A\nvertical B\nlength A 40\ny A.end B.end -30\n",
     "horizontal A\nvertical B\nlength A 40\ny B.end -30\n",  # A begins in the origin.
     "horizontal A\nperpendicular A B\nlength A 40\ny A.end B.end -30\n",
+    "x A.end +40\ny A.end -1\nx B.end +50\ny B.end -30\n",
 ])
 def test_what_is_told_by_a_sign_is_not_mirrored(words, program):
     """The corner is drawn to turn to the left, and told to turn to the right."""
     found = judged("segment A 0 0 40 1\nsegment B A.end 50 31\ncoincident A.start Origin\n"
                    + words, program)
     assert lacks(found) == [] and found.judgement.warnings
+
+
+@pytest.mark.parametrize("more", [
+    "", "segment D B.end -20 50\nlength D 20\nangle B D +60deg\n",
+    "segment D B.end -20 50\nlength D 20\nangle B D +60deg\n"
+    "segment E C.end -20 -20\nlength E 20\nangle C E +60deg\n"])
+def test_angles_of_other_lines_do_not_tell_how_corners_turn(more, program):
+    """A is told by a sign to run to the left, and is drawn to the right. What is told of the other
+    two edges leaves their corner above, where it is drawn: so the triangle goes round to the right,
+    and is drawn to the left."""
+    triangle = ("segment A Origin 40 0\nsegment B A.end 20 30\nsegment C B.end Origin\n"
+                "angle A +170deg\nlength A 40\nlength B 36\nlength C 36\n")
+    assert [each.text for each in reasons_against(judged(triangle + more, program))] == [
+        "A, B, C lie mirrored: each corner turns the other way than it is drawn"]
 
 
 @pytest.mark.parametrize("side", ["Right", "Top"])

@@ -10,7 +10,8 @@ from collections.abc import Collection, Iterable, Iterator, Sequence
 from dataclasses import dataclass
 from functools import cached_property
 
-from pertxogai.drawing import AngleBetween, Arc, Distance, Drawing, PointRef, Segment, Sense
+from pertxogai.drawing import X_AXIS, Arc, Distance, Drawing, PointRef, Segment
+from pertxogai.exact import dot
 from pertxogai.judging.blocks import blocks
 from pertxogai.judging.edges import Edge, Edges, Ends, Side, corners, leaders_of
 from pertxogai.judging.measure.solution import Solution
@@ -82,46 +83,20 @@ class _Words:
     def _runs(self) -> ToldRuns:
         return ToldRuns(self._drawing)
 
-    @cached_property
-    def _angled(self) -> frozenset[str]:
-        return _lines(_angles(self._drawing))
-
-    @cached_property
-    def _turned(self) -> frozenset[str]:
-        return _lines(each for each in _angles(self._drawing) if each.sense is Sense.SIGNED)
-
     def tell(self, first: Edge, second: Edge) -> bool:
-        """Whether words tell the turn of a corner: they tell the directions of both edges, and
-        signs which way both run, or that one runs against its drawn way; or they tell both from
-        the axes, and each edge runs to the quarter to which it is drawn."""
-        if not (self._is_directed(first) and self._is_directed(second)):
-            return False
-        return (self._is_signed(first) and self._is_signed(second)
-                or self._is_against(first) or self._is_against(second)
-                or self._is_as_drawn(first) and self._is_as_drawn(second))
+        """Whether words tell the turn of a corner: signed angles lead from one edge to the other;
+        or words tell from the axes along which line each edge runs, and each runs there as a sign
+        tells, or where none does as it is drawn."""
+        return (self._runs.is_turned(first.name, second.name)
+                or self._is_told(first) and self._is_told(second))
 
-    def _is_directed(self, edge: Edge) -> bool:
-        return edge.name in self._angled or self._runs.is_directed(edge.name)
-
-    def _is_as_drawn(self, edge: Edge) -> bool:
-        return self._runs.is_directed(edge.name) and all(
-            drawn * placed >= 0 for drawn, placed in zip(edge.drawn.way, edge.placed.way))
-
-    def _is_signed(self, edge: Edge) -> bool:
-        return edge.name in self._turned or any(self._runs.run(*edge.ends))
-
-    def _is_against(self, edge: Edge) -> bool:
-        return edge.name in self._turned or any(
-            run and run * drawn <= 0
-            for run, drawn in zip(self._runs.run(*edge.ends), edge.drawn.way))
-
-
-def _angles(drawing: Drawing) -> list[AngleBetween]:
-    return [each for each in drawing.constraints if isinstance(each, AngleBetween)]
-
-
-def _lines(angles: Iterable[AngleBetween]) -> frozenset[str]:
-    return frozenset(line.name for each in angles for line in (each.first, each.second))
+    def _is_told(self, edge: Edge) -> bool:
+        run = self._runs.run(*edge.ends)
+        if None not in run:
+            return any(run)
+        return self._runs.is_directed(edge.name) and (
+            any(run) or self._runs.is_turned(X_AXIS.name, edge.name)
+            or dot(edge.drawn.way, edge.placed.way) > 0)
 
 
 def _pieces(drawing: Drawing) -> Iterator[list[Side]]:

@@ -1,5 +1,5 @@
 """What the words alone tell, whatever is drawn, of how edges run: along which lines, and by words
-with a sign to which side."""
+with a sign which way."""
 from __future__ import annotations
 
 from collections.abc import Iterator
@@ -7,9 +7,9 @@ from fractions import Fraction
 from typing import Generic, TypeVar
 
 from pertxogai.drawing import (
-    ORIGIN, X_AXIS, Y_AXIS, AngleBetween, Collinear, Drawing, Horizontal, Pair, Parallel,
-    Perpendicular, PointOn, PointRef, Segment, Sense, ShapeRef, Vertical, Which, XDistance,
-    YDistance)
+    ORIGIN, X_AXIS, Y_AXIS, AngleBetween, Collinear, Constraint, Degrees, Drawing, Horizontal, Pair,
+    Parallel, Perpendicular, PointOn, PointRef, Segment, Sense, ShapeRef, Vertical, Which,
+    XDistance, YDistance)
 
 Key = TypeVar("Key")
 Number = int | Fraction
@@ -49,8 +49,9 @@ class ToldRuns:
 
     def __init__(self, drawing: Drawing) -> None:
         self._leader = drawing.meetings.leader
-        self._tied, self._quarters = Runs[str](), Runs[str]()
+        self._tied, self._quarters, self._turned = Runs[str](), Runs[str](), Runs[str]()
         self._along_x, self._along_y = Runs[PointRef](), Runs[PointRef]()
+        self._turned.tell(X_AXIS.name, Y_AXIS.name, 0)
         for line, other, quarters in _turns(drawing):
             self._tied.tell(line, other, 0)
             if quarters is not None:
@@ -59,21 +60,32 @@ class ToldRuns:
             if isinstance(shape, Segment):
                 self._level(shape.name, PointRef(shape.name, Which.END))
         for each in drawing.constraints:
-            match each:
-                case XDistance(first, second, value) if each.sense is Sense.SIGNED:
-                    self._tell(self._along_x, first, second, value)
-                case YDistance(first, second, value) if each.sense is Sense.SIGNED:
-                    self._tell(self._along_y, first, second, value)
-                case Horizontal(Pair(first, second)):
-                    self._tell(self._along_y, first, second, 0)
-                case Vertical(Pair(first, second)):
-                    self._tell(self._along_x, first, second, 0)
-                case PointOn(point, curve):
-                    self._level(curve.name, point)
+            self._take(each)
+
+    def _take(self, said: Constraint) -> None:
+        """Takes what a constraint tells with a sign, and what is level by it."""
+        match said:
+            case AngleBetween(line, other, Degrees()) if said.sense is Sense.SIGNED:
+                self._turned.tell(line.name, other.name, 0)
+            case XDistance(first, second, value) if said.sense is Sense.SIGNED:
+                self._tell(self._along_x, first, second, value)
+            case YDistance(first, second, value) if said.sense is Sense.SIGNED:
+                self._tell(self._along_y, first, second, value)
+            case Horizontal(Pair(first, second)):
+                self._tell(self._along_y, first, second, 0)
+            case Vertical(Pair(first, second)):
+                self._tell(self._along_x, first, second, 0)
+            case PointOn(point, curve):
+                self._level(curve.name, point)
 
     def is_directed(self, name: str) -> bool:
         """Whether words tell the direction of a segment, up to a half turn, from the axes."""
         return self._tied.run(X_AXIS.name, name) is not None
+
+    def is_turned(self, line: str, other: str) -> bool:
+        """Whether angles with signs lead from one line to another, and so tell which way it runs
+        where the one does; an angle by a ratio doesn't."""
+        return self._turned.run(line, other) is not None
 
     def run(self, first: PointRef, second: PointRef) -> tuple[Number | None, Number | None]:
         """How far the second lies from the first along x, and along y; None where no words with a
