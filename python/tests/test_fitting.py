@@ -217,6 +217,15 @@ def test_a_gap_of_nothing_counts_to_the_side_where_it_is_drawn(wall, program) ->
     assert gap.answer is Answer.FITS
 
 
+def test_a_coordinate_of_nothing_is_more_to_the_side_where_the_first_of_joined_points_is(
+        program) -> None:
+    # So x Q 1 puts Q at -1 too: Q is C's start, which is drawn to the left of the origin.
+    text = ("segment C -5 10 -5 20\npoint Q 5 10\ncoincident C.start Q\nvertical C\nlength C 10\n"
+            "y Q 10\nx Q 0 +1-0\ncheck There x Q -2 .. +2\n")
+    (there,) = checked(text, program).checks
+    assert (mm(there.worst.least), mm(there.worst.greatest)) == (-1, 0)
+
+
 def test_a_gap_of_nothing_that_is_drawn_so_has_no_side(program) -> None:
     text = ("check Gap distance A.end W 0 ..\nsegment W 20 -5 20 5\nfixed W\n" + BAR
             + "length A 20 +0-0.1\n")

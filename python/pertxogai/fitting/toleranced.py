@@ -134,22 +134,14 @@ def _off_by(drawing: Drawing, each: Valued, off: Fraction) -> Valued:
     where it is drawn, and may so come to lie on the other side: it is told by its sign then."""
     match each:
         case XDistance() | YDistance():
-            run = run_um(drawing, each)
-            is_back = each.sense is Sense.DRAWN and (run or _drawn_run(drawing, each)) < 0
-            return replace(each, value_um=run - off if is_back else run + off, sense=Sense.SIGNED,
-                           expression=None)
+            is_back = each.sense is Sense.DRAWN and not drawing.meetings.is_ahead(each)
+            return replace(each, value_um=run_um(drawing, each) + (-off if is_back else off),
+                           sense=Sense.SIGNED, expression=None)
         case AngleBetween():
             turned = _turned(drawing, each) + off * _way(drawing, each)
             return replace(each, value=Degrees(turned), sense=Sense.SIGNED, expression=None)
         case _:
             return replace(each, value_um=each.value_um + off, expression=None)
-
-
-def _drawn_run(drawing: Drawing, run: XDistance | YDistance) -> Fraction:
-    """How far the second point of a coordinate is drawn from the first along the axis."""
-    first, second = drawing.drawn(run.first), drawing.drawn(run.second)
-    return (second.x_um - first.x_um if isinstance(run, XDistance)
-            else second.y_um - first.y_um)
 
 
 def _turned(drawing: Drawing, angle: AngleBetween) -> Fraction:
