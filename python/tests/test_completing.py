@@ -23,7 +23,7 @@ from pertxogai.completing.values import round_degrees, round_um
 from pertxogai.drawing import (
     AngleBetween, Coincident, Concentric, Diameter, Distance, Drawing, Length, PointLineDistance,
     Radius, XDistance, YDistance, line_of, read_drawing, words_of)
-from pertxogai.judging import Question, first_good
+from pertxogai.judging import DrawingRefused, Question, first_good
 from pertxogai.judging.measure import Limit
 from pertxogai.program import Answer, Solver
 from pertxogai.search.searched import Searched
@@ -191,6 +191,13 @@ def test_what_is_rigid_beyond_triangles_lacks_nothing(program):
     found = complete(read_drawing(frame), program)
     # It floats, so that what would tie it is free; the program finds no construction with that.
     assert isinstance(found, NoProposal) and found.why is WhyNot.STUCK
+
+
+def test_what_is_no_drawing_of_a_sketch_is_refused_as_judge_refuses_it(program) -> None:
+    closed = read_drawing("segment A 0 0 10 0\npoint P 3 3\ncoincident A.start P\n"
+                          "coincident P A.end\n")
+    with pytest.raises(DrawingRefused, match="makes both ends of A one point"):
+        complete(closed, program)
 
 
 def test_what_each_line_fixes(program):

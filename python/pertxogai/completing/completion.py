@@ -17,6 +17,7 @@ from pertxogai.completing.slack import Slack, Remaining
 from pertxogai.completing.from_program import Words
 from pertxogai.drawing import Constraint, Drawing
 from pertxogai.judging import Question, first_good, reasons_against
+from pertxogai.judging.limits import check_fits
 from pertxogai.judging.measure import Limit
 from pertxogai.program import Solver
 from pertxogai.program.reports import Verdict
@@ -82,6 +83,7 @@ class OpenDrawing:
 
 def completion_of(drawing: Drawing, program: Solver, limit: Limit) -> Completion | NoProposal:
     """What completes a sound drawing. Raises ProgramError, DrawingRefused, Refusal, NotHeld."""
+    check_fits(drawing)
     whole = OpenDrawing(drawing, program, limit)
     why = whole.why_not()
     if why is None:
