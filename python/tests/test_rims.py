@@ -157,6 +157,16 @@ def test_what_lies_on_the_chord_of_an_arc_lies_within(program, lines, told):
         ["Hole is drawn on the other side of the outline, at Lower"] if told else [])
 
 
+@pytest.mark.parametrize("x", [9, 10, 50])
+def test_a_hole_that_is_drawn_on_the_rest_of_the_circle_of_an_arc_lies_within(program, x):
+    """The ends are rounded by 10 about 0 0 and about 60 0; placed is the hole at 100."""
+    text = ("segment Lower 0 -10 60 -10\narc East 60 0 Lower.end 60 10\n"
+            "segment Upper East.end 0 10\narc West 0 0 Upper.end Lower.start\n"
+            f"circle Hole {x} 0 4\n" + LINK.partition("circle Hole 59 1 4\n")[2] + "on Hole XAxis\nx Hole 100\n")
+    assert [each.text() for each in judge(read_drawing(text), program).warnings] == [
+        "Hole is drawn on the other side of the outline, at Lower"]
+
+
 @pytest.mark.parametrize(("at", "edge"), [
     ("60 77", "PlateTop"), ("60 2", "PlateBottom"), ("3 40", "PlateLeft"), ("116 40", "PlateRight")])
 def test_a_hole_that_is_asked_for_on_an_edge_is_on_no_side_of_it(program, at, edge):

@@ -61,7 +61,7 @@ class Loop:
     def is_on(self, spot: Vector, is_placed: bool) -> bool:
         """Whether a place lies on it, as near as what touches: on neither side then."""
         return (any(_is_on_way(spot, *each) for each in self._ways(is_placed))
-                or any(each.is_on_circle(spot) for each in self._rims(is_placed)))
+                or any(each.is_near(spot) for each in self._rims(is_placed)))
 
     def _rims(self, is_placed: bool) -> list[Round]:
         return [each.placed if is_placed else each.drawn for each in self.rims]

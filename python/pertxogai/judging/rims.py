@@ -37,10 +37,12 @@ class Round:
         return (cross(between(start, end), between(start, spot)) < 0
                 and _is_apart(start, spot) and _is_apart(end, spot))
 
-    def is_on_circle(self, spot: Vector) -> bool:
-        """Whether a place is as near to its whole circle as what touches."""
+    def is_near(self, spot: Vector) -> bool:
+        """Whether a place is as near to it as what touches."""
         least, most = max(0, self.radius - TOUCHING_NM), self.radius + TOUCHING_NM
-        return least ** 2 <= square(between(self.centre, spot)) <= most ** 2
+        if not least ** 2 <= square(between(self.centre, spot)) <= most ** 2:
+            return False
+        return self.has(spot) or not all(_is_apart(end, spot) for end in self.ends or ())
 
     def is_cut_by(self, chord: Chord) -> bool:
         """Whether a segment crosses it, and doesn't only touch it or end on it."""
