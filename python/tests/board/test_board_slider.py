@@ -181,6 +181,15 @@ def test_all_ranges_are_listed_on_wish(page: Page) -> None:
     assert page.count("#ranges li") == 0
 
 
+def test_a_dimension_is_listed_beside_a_value_of_its_name(page: Page) -> None:
+    page.begin("value Width 30\nsegment S 0 0 40 0\ncoincident S.start Origin\nhorizontal S\n"
+               "Width: length S 40\n", "well")
+    page.click("#tab-values")
+    page.click("#all-ranges")
+    wait_for("both", lambda: page.count("#ranges li [data-selects='4']") == 1)
+    assert page.count("#ranges li [data-range=Width]") == 1
+
+
 def test_a_value_that_is_removed_has_no_slider(page: Page) -> None:
     page.begin("value Width 30\nsegment S 0 0 40 0\ncoincident S.start Origin\nhorizontal S\n"
                "length S 40\n", "well")

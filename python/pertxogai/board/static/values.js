@@ -100,7 +100,7 @@ export class Values {
     }
     if (this.listed.text !== this.paper.text) this.listed = { text: '', rows: [], line: '' };
     const { rows, line } = this.listed;
-    this.list.show(line ? [...rows, ['line', 'li', { class: 'quiet' }, line]] : rows);
+    this.list.show(line ? [...rows, [0, 'li', { class: 'quiet' }, line]] : rows);
   }
 
   /** Asks for the range of each value and dimension, one after the other, and lists them. */
@@ -155,13 +155,13 @@ function row({ name, expression, comes }) {
 }
 
 /**
- * The row of a range.
+ * The row of a range, by the number of its dimension or the name of its value.
  * @param {RangeShown} range
  * @returns {Keyed}
  */
 function rangeRow(range) {
   const { called, name, number, low, high, low_why: below, high_why: above, told } = range;
-  return [called, 'li', {}, ['button', { class: 'line', title: 'show its slider',
+  return [number ?? name ?? called, 'li', {}, ['button', { class: 'line', title: 'show its slider',
     'data-range': name, 'data-selects': number }, called],
   `: ${withUnit(low, range)} to ${withUnit(high, range)}`,
     ['span', { class: 'quiet' }, `below: ${below}; above: ${above}; ${told}`]];
