@@ -42,6 +42,14 @@ def root(value: Number) -> Fraction:
     return Fraction(isqrt(int(value * DECIMALS ** 2)), DECIMALS)
 
 
+def off_line(way: Vector, step: Vector) -> Fraction:
+    """How far the end of a step lies from the line that a way leads along, where both begin in one
+    place: from that place where the way is none. Rounded as `root`."""
+    if not any(way):
+        return root(square(step))
+    return abs(Fraction(cross(way, step))) / root(square(way))
+
+
 @dataclass(frozen=True)
 class Root:
     """The number `sign` times the square root of `square`, which isn't negative."""

@@ -11,6 +11,7 @@ import pytest
 
 from pertxogai.drawing import PointRef, Which, read_drawing
 from pertxogai.judging import DepartureKind, DrawingRefused, Then, Tie, judge
+from pertxogai.judging.as_drawn import frozen_choices
 from pertxogai.judging.departures import warnings
 from pertxogai.judging.faults import Unit as Measure
 from pertxogai.judging.measure import Limit, Solution, Unit
@@ -19,7 +20,9 @@ from pertxogai.judging.judged_drawing import JudgedDrawing
 from pertxogai.judging.shortage import shortage_of
 from pertxogai.output import drawing_json, drawing_lines
 from pertxogai.program.reports import Verdict, read_excess
-from pertxogai.spelling import Style
+from pertxogai.spelling import Rails, Style, axes_of
+from pertxogai.spelling.facts import RadiusOf
+from pertxogai.spelling.linear import Form
 
 DRAWINGS = Path(__file__).parent / "drawings"
 PLATE = """rectangle Plate 0 0 61 39
@@ -347,6 +350,17 @@ def test_a_free_radius_is_named_and_can_be_frozen(program):
     frozen = judge(read_drawing(CAM), program, freeze=True)
     assert frozen.verdict is Verdict.WELL and frozen.frozen and frozen.solution is not None
     assert max(each.amount for each in frozen.deviations if each.unit is Unit.NM) < 500_000
+
+
+def test_a_radius_is_frozen_beside_an_edge_that_is_drawn_as_a_point(program):
+    """A's end is told to be P, which is drawn in A's start: the circle's centre is drawn 50 from
+    there, 30 and 40 aside."""
+    drawing = read_drawing("point P 0 0\nsegment A 0 0 10 0\ncoincident A.end P\ncircle C 30 40 3\n"
+                           "tangent A C\nangle A 30deg\n")
+    axes = axes_of(drawing)
+    frozen, = frozen_choices(axes, Rails(axes, Style.VALUES))
+    assert frozen.axes.equations[-1].form == Form({RadiusOf("C"): 1}, -50_000)
+    assert judge(drawing, program, freeze=True).verdict is Verdict.OPEN
 
 
 def test_a_half_mirrored_in_an_axis_grows_from_the_other(program):

@@ -8,7 +8,7 @@ from collections.abc import Iterator
 from dataclasses import dataclass
 from fractions import Fraction
 
-from pertxogai.exact import between, cross, root, square
+from pertxogai.exact import between, off_line, root, square
 from pertxogai.spelling.axes import Axes, Equation
 from pertxogai.spelling.facts import Facts, Knot, Line, Owner
 from pertxogai.spelling.linear import Form
@@ -36,10 +36,9 @@ def frozen_choices(axes: Axes, rails: Rails) -> Iterator[Frozen]:
 
 
 def _drawn_distance(facts: Facts, first: Knot, second: Knot | Line) -> Fraction:
-    """How far a point is drawn from a point, or from a line, in micrometres."""
+    """How far a point is drawn from a point, or from a line, in micrometres. A line may be drawn
+    without a length, as its points are told to be others."""
     place = facts.drawn[first]
     if isinstance(second, Knot):
         return root(square(between(place, facts.drawn[second])))
-    way, start = facts.direction(second), facts.drawn[facts.own[second][0]]
-    aside = cross(way, between(start, place))
-    return max(aside, -aside) / root(square(way))
+    return off_line(facts.direction(second), between(facts.drawn[facts.own[second][0]], place))

@@ -11,7 +11,7 @@ from functools import cached_property
 
 from pertxogai.drawing import X_AXIS, Y_AXIS
 from pertxogai.drawing.places import NM_PER_UM
-from pertxogai.exact import Vector, between, cross, root, square, whole_near
+from pertxogai.exact import Vector, between, off_line, root, square, whole_near
 from pertxogai.judging.measure.solution import PointNm
 from pertxogai.spelling.axes import rank
 from pertxogai.spelling.facts import Apart, Facts, Knot, Line, Off, RadiusOf, Sized
@@ -55,10 +55,7 @@ class Sizes:
         if isinstance(fact, Apart):
             return root(square(between(self._spots[fact.first], self._spots[fact.second])))
         start, way = self._line(fact.line)
-        step = between(start, self._spots[fact.point])
-        if not any(way):
-            return root(square(step))
-        return abs(Fraction(cross(way, step))) / root(square(way))
+        return off_line(way, between(start, self._spots[fact.point]))
 
     def _line(self, line: Line) -> tuple[PointNm, Vector]:
         """A placed point of a line, and the way from there to another."""
