@@ -99,22 +99,22 @@ class Way:
             return self._placed_by_all(drawing)
         trial = placed(answered(spellings.rails(self.style), spelled, self.program), self.program)
         if isinstance(trial.solved, Solved):
-            return self._of_places(drawing, trial, trial.solved)
+            return self._checked(drawing, trial, trial.solved)
         if trial.solved is None:
             return of_verdict(trial.verdict)
         return self._of_failure(names, trial.solved)
 
-    def _of_places(self, drawing: Drawing, trial: Trial, solved: Solved) -> Edges | Fault:
-        """What is told of the places; where something is wrong, also by finer angles."""
-        found = self._of_placed(drawing, trial, solved)
+    def _checked(self, drawing: Drawing, trial: Trial, solved: Solved) -> Edges | Fault:
+        """The placed edges, or what is wrong with them; then they are placed by finer angles too."""
+        found = self._checked_once(drawing, trial, solved)
         if isinstance(found, Edges):
             return found
         fine = finer(Question(drawing, self.program, self.limit), trial)
         if fine is trial or not isinstance(fine.solved, Solved):
             return found
-        return self._of_placed(drawing, fine, fine.solved)
+        return self._checked_once(drawing, fine, fine.solved)
 
-    def _of_placed(self, drawing: Drawing, trial: Trial, solved: Solved) -> Edges | Fault:
+    def _checked_once(self, drawing: Drawing, trial: Trial, solved: Solved) -> Edges | Fault:
         found = settled(drawing, trial, solved)
         edges = Edges(drawing, found.solution)
         off = next(self.limit.beyond(measure(drawing, found.solution)), None)
