@@ -352,6 +352,20 @@ def test_a_free_radius_is_named_and_can_be_frozen(program):
     assert max(each.amount for each in frozen.deviations if each.unit is Unit.NM) < 500_000
 
 
+@pytest.mark.parametrize("segment, end", [("segment B A.start 40.5 30.2", "B.end"),
+                                          ("segment B 40.5 30.2 A.start", "B.start")])
+def test_edges_between_points_that_are_one_are_equal_already(segment, end, program):
+    """The ends of A and B lie on both C and D, which cross, so that they are one."""
+    drawing = read_drawing(
+        f"segment C 0 30 60 30\nsegment D 40 0 40 60\nsegment A Origin 40 30\n{segment}\n"
+        f"on A.end C\non A.end D\non {end} C\non {end} D\nhorizontal C\nvertical D\n"
+        "y C.start 30\nx D.start 40\nx C.start 0\nlength C 60\ny D.start 0\nlength D 60\n"
+        "equal A B\n")
+    found = judge(drawing, program)
+    assert found.verdict is Verdict.WELL
+    assert found.repeats == (drawing.called(len(drawing.constraints)),)
+
+
 def test_a_radius_is_frozen_beside_an_edge_that_is_drawn_as_a_point(program):
     """A's end is told to be P, which is drawn in A's start: the circle's centre is drawn 50 from
     there, 30 and 40 aside."""

@@ -77,8 +77,8 @@ class _One:
         if isinstance(value, Knot):
             return self.knot(value)
         if isinstance(value, Form):
-            return Form({self._unknown(key): each for key, each in value.terms.items()},
-                        value.number)
+            terms = (Form({self._unknown(key): each}) for key, each in value.terms.items())
+            return sum(terms, Form(number=value.number))
         return self.line(value) if isinstance(value, Between) else value
 
     def _unknown(self, unknown: Hashable) -> Hashable:
