@@ -366,6 +366,19 @@ def test_edges_between_points_that_are_one_are_equal_already(segment, end, progr
     assert found.repeats == (drawing.called(len(drawing.constraints)),)
 
 
+@pytest.mark.parametrize("rims", [
+    "arc E 40 30 50 30 40 40\narc F 40.2 30.1 E.end 30 30\n",
+    "circle E 40 30 5\ncircle F 40.2 30.1 9\npoint P 45 30\non P E\non P F\n"])
+def test_rims_touch_in_a_point_of_both_where_their_centres_are_one(rims, program):
+    """Both centres lie on both C and D, which cross: so both rims go through the point with one
+    radius, and touch. Of the tangent the program is told no more."""
+    lines = ("segment C 0 30 60 30\nsegment D 40 0 40 60\n" + rims + "on E.centre C\n"
+             "on E.centre D\non F.centre C\non F.centre D\n")
+    without, found = (judge(read_drawing(lines + more), program) for more in ("", "tangent E F\n"))
+    assert found.verdict is Verdict.OPEN
+    assert found.asked.spelled.sketch == without.asked.spelled.sketch
+
+
 def test_a_radius_is_frozen_beside_an_edge_that_is_drawn_as_a_point(program):
     """A's end is told to be P, which is drawn in A's start: the circle's centre is drawn 50 from
     there, 30 and 40 aside."""

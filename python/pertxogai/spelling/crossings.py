@@ -43,6 +43,11 @@ def _says_so(facts: Facts, fact: Fact, met: set[Line], crossing: Crossing) -> bo
         fact.point == crossing.kept and crossing.gone in facts.own[fact.line])
 
 
+def _led(fact: Lies | Leans) -> Line:
+    """The line that a fact puts a point on, or leads in a direction."""
+    return fact.line if isinstance(fact, Lies) else fact.second
+
+
 class _One:
     """Two points that are one from now on."""
 
@@ -67,7 +72,7 @@ class _One:
 
     def fact(self, fact: Fact) -> Fact | None:
         """A fact of these points; None of one that says nothing more."""
-        if isinstance(fact, Leans) and self.is_point(fact.second):
+        if isinstance(fact, Lies | Leans) and self.is_point(_led(fact)):
             return None
         values = {each.name: getattr(fact, each.name) for each in fields(fact)}
         changed = {name: self._value(value) for name, value in values.items()}
