@@ -11,6 +11,7 @@ from pertxogai import search
 from pertxogai.commands import main
 from pertxogai.program import Program
 from pertxogai.search.searched import Searched
+from shared_drawings import SHRUNKEN_CHAIN
 
 TESTS = Path(__file__).parent
 KEYS = {"freedoms", "moves", "chosen", "only_measured", "repeats", "contradictions", "places_by"}
@@ -118,6 +119,25 @@ def test_an_open_drawing_is_searched_once_and_nothing_is_asked_twice(capsys, mon
     constraints = min(len(each.constraints) for each in searched)
     assert sum(len(each.constraints) == constraints for each in searched) == 1
     assert len(asked) == len(set(asked))
+
+
+def test_where_edges_have_come_to_nothing_the_search_asks_the_program_nothing(
+        capsys, monkeypatch, tmp_path):
+    path, asked, ask = tmp_path / "chain.drawing", [], Program.ask
+    path.write_text(SHRUNKEN_CHAIN)
+
+    def asking(self, words, text):
+        asked.append((tuple(words), text))
+        return ask(self, words, text)
+
+    monkeypatch.setattr(Program, "ask", asking)
+    main(["judge", "--no-search", str(path)])
+    alone = len(asked)
+    capsys.readouterr()
+    main(["judge", "--json", str(path)])
+    (found,) = json.loads(capsys.readouterr().out)["sketches"]
+    assert (found["verdict"], found["places_by"], found["proposed"]) == ("open", "numbers", [])
+    assert len(asked) == 2 * alone
 
 
 def test_without_a_search_nothing_is_counted(capsys):

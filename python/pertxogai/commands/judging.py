@@ -18,6 +18,9 @@ from pertxogai.program import Program, Solver
 from pertxogai.program.called import COMMAND
 from pertxogai.program.reports import Verdict
 
+PROPOSING_SECONDS = 1.0
+"""The seconds of a processor after which no more is tried to complete what is judged."""
+
 
 def program_of(options: argparse.Namespace) -> Program:
     """The program that the words of a command name. Raises CommandError and MissingProgram."""
@@ -84,7 +87,7 @@ def _proposals(judged: JudgedDrawing, program: Solver) -> tuple[str, ...]:
         return ()
     from pertxogai.completing import Completion, complete
 
-    found = complete(judged.drawing, program, judged.limit)
+    found = complete(judged.drawing, program, judged.limit, PROPOSING_SECONDS)
     return tuple(each.line() for each in found.all()) if isinstance(found, Completion) else ()
 
 

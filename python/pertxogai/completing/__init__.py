@@ -5,7 +5,8 @@ placed, the program says, and nothing is proposed without that. Nothing here imp
 is used."""
 from __future__ import annotations
 
-from pertxogai.completing.proposal import Completion, NoProposal, Proposal, WhyNot
+from pertxogai.completing.proposal import (
+    MOST_SECONDS, Completion, NoProposal, Proposal, WhyNot)
 from pertxogai.drawing import Drawing
 from pertxogai.judging.finding import Nearly
 from pertxogai.judging.measure import Limit
@@ -15,13 +16,14 @@ from pertxogai.search import check_libraries
 __all__ = ["Completion", "NoProposal", "Proposal", "WhyNot", "complete", "nearly"]
 
 
-def complete(drawing: Drawing, program: Solver,
-             limit: Limit = Limit()) -> Completion | NoProposal:
+def complete(drawing: Drawing, program: Solver, limit: Limit = Limit(),
+             seconds: float = MOST_SECONDS) -> Completion | NoProposal:
     """The dimensions that a sound drawing lacks, as a designer would give them; or why none are
-    proposed. Raises MissingLibrary without numpy or scipy, and the exceptions of `judge`."""
+    proposed. Nothing more is tried once this many seconds of processor time are spent, by default
+    20. Raises MissingLibrary without numpy or scipy, and the exceptions of `judge`."""
     check_libraries()
     from pertxogai.completing.completion import completion_of
-    return completion_of(drawing, program, limit)
+    return completion_of(drawing, program, limit, seconds)
 
 
 def nearly(drawing: Drawing) -> tuple[Nearly, ...]:

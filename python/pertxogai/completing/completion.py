@@ -31,9 +31,10 @@ class OpenDrawing:
     """A sound drawing that is to be completed: what of it is free, the trials by the program, and
     what the program says of the drawing itself, asked only where that is needed."""
 
-    def __init__(self, drawing: Drawing, program: Solver, limit: Limit) -> None:
-        self.drawing, self.trials = drawing, Trials(program, limit)
-        self.slack = Slack.of(drawing)
+    def __init__(self, drawing: Drawing, program: Solver, limit: Limit, seconds: float) -> None:
+        self.drawing, self.trials = drawing, Trials(program, limit, seconds)
+        self._search = searched(drawing)
+        self.slack = None if self._search.has_vanished() else Slack.of(drawing)
         self._question = Question(drawing, program, limit)
         self._completed: dict[Choice, Completion | None] = {}
 
@@ -57,8 +58,9 @@ class OpenDrawing:
         if self.is_over():
             return WhyNot.OVER
         if slack is None:
-            is_placed = searched(self.drawing).found.is_solved()
-            return WhyNot.TOO_MUCH if is_placed else WhyNot.NO_PLACES
+            if not self._search.found.is_solved():
+                return WhyNot.NO_PLACES
+            return WhyNot.VANISHED if self._search.has_vanished() else WhyNot.TOO_MUCH
         if slack.ways.shape[1]:
             return None
         return WhyNot.NOTHING if self.state.verdict is Verdict.WELL else WhyNot.RIGID
@@ -81,10 +83,12 @@ class OpenDrawing:
         return None
 
 
-def completion_of(drawing: Drawing, program: Solver, limit: Limit) -> Completion | NoProposal:
-    """What completes a sound drawing. Raises ProgramError, DrawingRefused, Refusal, NotHeld."""
+def completion_of(drawing: Drawing, program: Solver, limit: Limit,
+                  seconds: float) -> Completion | NoProposal:
+    """What completes a sound drawing; after these seconds of a processor nothing more is tried.
+    Raises ProgramError, DrawingRefused, Refusal, NotHeld."""
     check_fits(drawing)
-    whole = OpenDrawing(drawing, program, limit)
+    whole = OpenDrawing(drawing, program, limit, seconds)
     why = whole.why_not()
     if why is None:
         found = _first_tied(map(whole.completion, _choices(whole)))

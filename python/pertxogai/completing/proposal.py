@@ -11,6 +11,9 @@ from pertxogai.judging.measure import Solution
 from pertxogai.program.called import COMMAND
 from pertxogai.program.reports import Verdict
 
+MOST_SECONDS = 20.0
+"""The seconds of a processor after which nothing more is tried, unless fewer are asked for."""
+
 
 @dataclass(frozen=True)
 class Proposal:
@@ -67,6 +70,7 @@ class WhyNot(Enum):
     NOTHING = "nothing is missing"
     OVER = f"it is over-constrained: first remove a dimension that {COMMAND} judge lists"
     NO_PLACES = "no positions were found that meet all of it"
+    VANISHED = "positions that meet all of it were only found with an edge or a circle of no size"
     TOO_MUCH = "too much of it is free: dimension a part of it first"
     RIGID = "nothing of it can move (by numbers), though the program doesn't find it rigid"
     STUCK = "no dimensions were found with which it is well, placed and good"

@@ -7,6 +7,7 @@ from dataclasses import dataclass, replace
 from fractions import Fraction
 
 from pertxogai import language
+from pertxogai.completing.proposal import MOST_SECONDS
 from pertxogai.drawing import (
     AngleBetween, Constraint, Degrees, Diameter, Distance, Drawing, Length, PointLineDistance,
     Radius, XDistance, YDistance)
@@ -24,9 +25,8 @@ from pertxogai.program import Solver, Status
 from pertxogai.program.reports import Solved, Verdict, read_parts
 from pertxogai.search.budget import spent_seconds
 
-MOST_ASKED, MOST_SECONDS = 400, 20.0
-"""The most drawings of which the program is asked, and the seconds of a processor after which no
-more are: so a busy machine finds the same."""
+MOST_ASKED = 400
+"""The most drawings of which the program is asked."""
 ROOM = (Fraction(101, 100), Fraction(99, 100))
 """How many times as large a value is tried."""
 ROOM_DEGREES = (Fraction(1, 2), Fraction(-1, 2))
@@ -74,11 +74,12 @@ class Tried:
 
 
 class Trials:
-    """Tries drawings of the same shapes by the program, within a number of them and a time."""
+    """Tries drawings of the same shapes by the program, within a number of them, and until so many
+    seconds of a processor are spent: so a busy machine finds the same."""
 
-    def __init__(self, program: Solver, limit: Limit) -> None:
+    def __init__(self, program: Solver, limit: Limit, seconds: float = MOST_SECONDS) -> None:
         self._program, self._limit = Remembering(Wider(program, limit)), limit
-        self._left, self._end = MOST_ASKED, spent_seconds() + MOST_SECONDS
+        self._left, self._end = MOST_ASKED, spent_seconds() + seconds
         self._known: dict[tuple[Constraint, ...], Tried] = {}
 
     def is_over(self) -> bool:

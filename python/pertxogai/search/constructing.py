@@ -37,9 +37,9 @@ MOST_VALUES = 6
 """The most values that take the place of constraints."""
 MOST_TRIED = 60
 """The most constraints that are tried for each."""
-MOST_ASKED, MOST_SECONDS = 200, 10.0
+MOST_ASKED, MOST_SECONDS = 200, 2.0
 """The most drawings of which the program is asked, and the seconds of a processor after which no
-more are."""
+more are. What is constructed takes three drawings at most in the gallery, and 0.13 s."""
 MANY_PIECES = 10 ** 6
 _FIRST = (Equal, Tangent, PointOn, Symmetric, Midpoint, Collinear)
 """What is only measured rather than others: these need a size that may be unknown."""

@@ -32,6 +32,8 @@ MOST_LEFT_OUT = 12
 """The most constraints that are left out, one after the other."""
 SHRUNK = 0.02
 """Next to nothing: this part of the size as it is drawn."""
+LEAST_NM = 10.0
+"""What is shorter may be nothing, since places are rounded."""
 STEPS, SECONDS = 60, 0.6
 """The most steps of each of these searches, and the seconds after which no more are begun."""
 REST_SECONDS = 0.4
@@ -131,6 +133,13 @@ def has_shrunk(equations: Equations, x: Array) -> bool:
     """Whether an edge or a rim is next to nothing where the unknowns are x, and wasn't drawn so."""
     drawn, there = (_sizes(equations.unknowns, each) for each in (equations.drawn, x))
     return bool((there < SHRUNK * drawn).any())
+
+
+def has_vanished(equations: Equations, x: Array) -> bool:
+    """Whether an edge has no length, or a rim no size, where the unknowns are x, and was drawn with
+    one."""
+    drawn, there = (_sizes(equations.unknowns, each) for each in (equations.drawn, x))
+    return bool(((there < LEAST_NM) & (drawn >= LEAST_NM)).any())
 
 
 def _sizes(unknowns: Unknowns, x: Array) -> Array:

@@ -20,7 +20,8 @@ from pertxogai.program.reports import Verdict
 from pertxogai.search.arrays import Array
 from pertxogai.search.budget import MOST_SECONDS, Budget
 from pertxogai.search.constructing import construct
-from pertxogai.search.contradictions import REST_SECONDS, Numbers, clashes, has_shrunk
+from pertxogai.search.contradictions import (
+    REST_SECONDS, Numbers, clashes, has_shrunk, has_vanished)
 from pertxogai.search.dependencies import SAME_NM, Dependency
 from pertxogai.search.descent import descend
 from pertxogai.search.equations import Equations
@@ -62,6 +63,10 @@ class Searched:
             self.found.end.worst_nm <= SAME_NM
             and all(each.repeats() for each in self.freedom.dependencies))
 
+    def has_vanished(self) -> bool:
+        """Whether an edge has no length where it was found, or a rim no size."""
+        return has_vanished(self.equations, self.found.x)
+
     def loose(self) -> frozenset[int]:
         """The unknowns that may move, to the first order."""
         return frozenset(loose_columns(self.freedom.free))
@@ -100,6 +105,8 @@ class Searched:
         by found values so that each constraint is met."""
         finding = self.finding(judgement.limit)
         if judgement.verdict is not Verdict.OPEN or finding.solution is None:
+            return finding
+        if self.has_vanished():  # What has no length has no direction to construct it by.
             return finding
         construction = construct(self.drawing, self.equations, self.found.x, self.freedom, program)
         if construction is None or not construction.is_good():
