@@ -39,12 +39,18 @@ class Lost(Exception):
 
 @dataclass
 class BoardDrag:
-    """What is dragged of a drawing, and what the page was told of it last."""
+    """What is dragged of a drawing, and what the page was told of it last. taken: how many frames
+    the page has of it, also from other processes of the server."""
 
     drawing: Drawing
     drag: Drag
+    taken: int
     points: dict[str, Point] = field(default_factory=dict)
     radii: dict[str, float] = field(default_factory=dict)
+
+    def is_at(self, drawing: Drawing, taken: int) -> bool:
+        """Whether it is of this very drawing, and the page has its last frame and no later one."""
+        return self.drawing is drawing and self.taken == taken
 
     def to(self, x_nm: float, y_nm: float) -> Dragged:
         """The frame of a hand that goes to a place."""
@@ -66,6 +72,7 @@ class BoardDrag:
             "marks": self._marks(frame), "reach": frame.reach.value, "off": frame.off_nm,
             "passed": dict(frame.passed)}
         self.points, self.radii = points, radii
+        self.taken += 1
         return answer
 
     def _marks(self, frame: Frame) -> list[Mark]:
@@ -88,7 +95,8 @@ class Drags:
 
     def frame(self, judged: BoardDrawing, given: Fields) -> Dragged:
         """The frame of a drag: of one that is kept, begun, or gone on with from places that are
-        given. Raises FieldRefused, WordFault."""
+        given, where the page has taken frames that weren't told here. Raises FieldRefused,
+        WordFault."""
         if judged.searched is None:
             return {"fixed": why_still(judged.judgement) or NO_SHAPE}
         if not judged.searched.found.is_solved():
@@ -97,7 +105,7 @@ class Drags:
         name = given.text("drag")
         dragged = self._kept.pop(name, None)
         try:
-            if dragged is None or dragged.drawing is not judged.drawing:
+            if dragged is None or not dragged.is_at(judged.drawing, given.whole("taken")):
                 dragged = _begun(judged.drawing, judged.searched, given)
         except NothingFree:
             return {"fixed": FIXED}
@@ -120,11 +128,11 @@ def _begun(drawing: Drawing, searched: Searched, given: Fields) -> BoardDrag:
         x = searched.met_at(*_places_nm(drawing, given.single("places")))
         if x is None:
             raise Lost
-    elif not given.flag("begins"):
+    elif given.whole("taken"):
         raise Unknown
     drag = Drag(searched.equations, searched.found.x, _grip(drawing, given), x, searched.loose(),
                 given.counts("passed"))
-    return BoardDrag(drawing, drag)
+    return BoardDrag(drawing, drag, given.whole("taken"))
 
 
 def _grip(drawing: Drawing, given: Fields) -> Grip:

@@ -276,17 +276,17 @@ class AboutEdit(About):
 
 
 class AboutDrag(About):
-    """A frame of a drag: its name, and where the hand is. begins: whether it is the first. names:
-    the points and shapes that the hand holds; begin: where it took hold. turns: whether the other
-    shape is asked for, at a dead point. places, passed: where what moves lay in the frame before,
-    and what arcs had passed, once the server has lost the drag."""
+    """A frame of a drag: its name, and where the hand is. taken: how many frames of it the page has
+    taken. names: the points and shapes that the hand holds; begin: where it took hold. turns:
+    whether the other shape is asked for, at a dead point. places, passed: where what moves lay in
+    the frame before, and what arcs had passed, once the server has lost the drag."""
 
     drag: str
     names: list[str]
     begin: FreeSpot
     x: float
     y: float
-    begins: NotRequired[bool]
+    taken: int
     turns: NotRequired[bool]
     places: NotRequired[Places]
     passed: NotRequired[dict[str, int]]
@@ -811,8 +811,8 @@ class Dragged(Answer, total=False):
     """A frame of a drag: the points and radii that aren't where they were in the frame before, by
     numbers, and the marks of what is asked of what moves. off: by how many nanometres the worst
     constraint is off there, measured. passed: how often each arc went past its own end since the
-    hand took hold, to the left positive. fixed: why nothing follows. lost: whether the server
-    doesn't know the drag, and wants the places."""
+    hand took hold, to the left positive. fixed: why nothing follows. lost: whether the process of
+    the server that was asked doesn't know the frame before, and wants the places."""
 
     points: dict[str, Point]
     radii: dict[str, float]

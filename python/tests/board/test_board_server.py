@@ -312,34 +312,50 @@ def test_a_moment_later_it_is_told_what_the_program_constructs(client) -> None:
     assert "once these values are chosen: " in constructed
 
 
-def frame(client, x: float, y: float, name: str = "a", **more: object) -> dict[str, object]:
+def frame(client, x: float, y: float, taken: int, name: str = "a",
+          **more: object) -> dict[str, object]:
     return answer(client, "drag", text=CRANK, drag=name, names=["Crank.end"],
-                  begin={"x": 11.14172, "y": 27.854301}, x=x, y=y, **more)
+                  begin={"x": 11.14172, "y": 27.854301}, x=x, y=y, taken=taken, **more)
 
 
 def test_a_drag_tells_what_moves_alone(client) -> None:
     """The hand is twice as far from the origin as the crank is long."""
-    first = frame(client, 36, 48, begins=True)
+    first = frame(client, 36, 48, 0)
     assert first["points"] == {"Crank.end": pytest.approx([18, 24], abs=1e-3)}
     assert first["reach"] == "beside" and first["off"] <= 2 and first["radii"] == {}
     assert [each["text"] for each in first["marks"]] == ["30"]
-    still = frame(client, 36, 48)
+    still = frame(client, 36, 48, 1)
     assert all(abs(x - u) < 1e-3 for place in still["points"].values()
                for x, u in zip(place, (18, 24)))
 
 
 def test_a_drag_that_the_server_has_lost_goes_on_from_its_places(client) -> None:
-    assert frame(client, 0, 30, "lost") == {"lost": True}
+    assert frame(client, 0, 30, 1, "lost") == {"lost": True}
     places = {"points": {"Crank.end": [18, 24]}, "radii": {}}
-    found = frame(client, 0, 30, "lost", places=places)
+    found = frame(client, 0, 30, 1, "lost", places=places)
     assert found["points"]["Crank.end"] == pytest.approx([0, 30], abs=1e-3)
     assert found["reach"] == "there"
+    assert frame(client, 0, 30, 2, "lost")["reach"] == "there", "it is known from there on"
+
+
+def test_a_process_that_missed_a_frame_of_a_drag_has_lost_it(client, program) -> None:
+    """It would leave out that the end is again where it was in the frame that it told last."""
+    other = board(GUARD, Desk(program)).test_client()
+    up, left = [0, 30], [-30, 0]
+    assert frame(client, *up, 0, "two")["points"]["Crank.end"] == pytest.approx(up, abs=1e-3)
+    begun = {"places": {"points": {"Crank.end": up}, "radii": {}}}
+    told = frame(other, *left, 1, "two", **begun)
+    assert told["points"]["Crank.end"] == pytest.approx(left, abs=1e-3)
+    assert frame(client, *up, 2, "two") == {"lost": True}
+    gone_on = {"places": {"points": {"Crank.end": left}, "radii": {}}}
+    told = frame(client, *up, 2, "two", **gone_on)
+    assert told["points"]["Crank.end"] == pytest.approx(up, abs=1e-3)
 
 
 def test_a_drag_is_lost_whose_places_arent_met_nearby(client) -> None:
     """The crank is 30 long, and not 18: what is met nearest is 12 mm away, and nothing leaps."""
     places = {"points": {"Crank.end": [18, 0]}, "radii": {}}
-    found = frame(client, 0, 30, "gone", places=places)
+    found = frame(client, 0, 30, 1, "gone", places=places)
     assert found == {"fixed": "the drag was lost, and it stays where it is shown: start to drag "
                               "again"}
 
@@ -352,15 +368,15 @@ radius Bow 20
 """It begins at 0 degrees, and runs to its end at 90, to the left."""
 
 
-def bow(client, turn: float, name: str, **more: object) -> dict[str, object]:
+def bow(client, turn: float, name: str, taken: int = 1, **more: object) -> dict[str, object]:
     """A frame of a drag of its end to an angle in degrees."""
     return answer(client, "drag", text=BOW, drag=name, names=["Bow.end"], begin={"x": 0, "y": 20},
-                  x=20 * cos(radians(turn)), y=20 * sin(radians(turn)), **more)
+                  x=20 * cos(radians(turn)), y=20 * sin(radians(turn)), taken=taken, **more)
 
 
 def test_an_arc_that_is_dragged_past_its_own_end_is_told_until_it_comes_back(client) -> None:
     """Also by a process of the server that goes on with the drag."""
-    assert bow(client, 20, "bow", begins=True)["passed"] == {}
+    assert bow(client, 20, "bow", 0)["passed"] == {}
     assert bow(client, -20, "bow")["passed"] == {"Bow": -1}
     places = {"points": {"Bow.end": [20 * cos(radians(-20)), 20 * sin(radians(-20))]}, "radii": {}}
     on = {"places": places, "passed": {"Bow": -1}}
@@ -372,7 +388,7 @@ def test_an_arc_that_is_dragged_past_its_own_end_is_told_until_it_comes_back(cli
 
 
 def test_what_is_fixed_isnt_dragged(client) -> None:
-    given = {"drag": "b", "begin": {"x": 40, "y": 0}, "x": 50, "y": 0, "begins": True}
+    given = {"drag": "b", "begin": {"x": 40, "y": 0}, "x": 50, "y": 0, "taken": 0}
     for text, names in ((CRANK, ["Ground.end"]), (CRANK + "x Crank.end 18\n", ["Crank.end"])):
         found = answer(client, "drag", text=text, names=names, **given)
         assert found["fixed"].startswith("nothing is free here")
@@ -393,7 +409,7 @@ def test_of_what_isnt_tied_to_the_datum_the_shape_alone_is_fixed(client, tie, st
         assert f"only the whole may still be {still}, until it is tied" in judgement["still"]
     else:
         assert judgement["still"] == "nothing is free here: its constraints fix it"
-    found = answer(client, "drag", text=text, drag="c", names=["A.end"], begins=True, x=0, y=0,
+    found = answer(client, "drag", text=text, drag="c", names=["A.end"], taken=0, x=0, y=0,
                    begin={"x": 40, "y": 0})
     assert found == {"fixed": judgement["still"]}
 

@@ -104,7 +104,7 @@ def test_answers_are_of_their_types(path: Path, program: Program) -> None:
     given: dict[str, dict[str, object]] = {
         "judge": {}, "edit": {"edit": edit, "knows": True},
         "drag": {"drag": "a", "names": [name], "begin": {"x": 0, "y": 0}, "x": 1, "y": 1,
-                 "begins": True, "turns": False}, "offers": {"names": [name]},
+                 "taken": 0, "turns": False}, "offers": {"names": [name]},
         "weigh": {}, "complete": {}, "fit": {}, "range": {"name": "Nothing"}, "plan": {},
         "flips": {"steps": [1]}, "redraw": {"steps": []}, "verify": {},
         "svg": {"name": path.stem}, "program-dxf": {}}

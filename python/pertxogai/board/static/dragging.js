@@ -17,12 +17,12 @@ import { Work } from './work.js';
 
 /**
  * A drag that goes on: its name for the server, the text and the answer that it began with, what is
- * held and where the hand took hold, where the hand is and where it was at the last frame, and the
- * places and marks of that frame, how far what is held came in it, and how often arcs went past
- * their own ends.
+ * held and where the hand took hold, where the hand is and where it was at the last frame, how many
+ * frames were taken, and the places and marks of the last, how far what is held came in it, and how
+ * often arcs went past their own ends.
  * @typedef {{ drag: string, text: string, answer: Judged, names: string[], begin: Place,
- *   wish: Place, done: Place | null, waits: boolean, places: Found['places'], marks: Mark[],
- *   reach: Reach, passed: Record<string, number> }} Held
+ *   wish: Place, done: Place | null, waits: boolean, taken: number, places: Found['places'],
+ *   marks: Mark[], reach: Reach, passed: Record<string, number> }} Held
  */
 
 /** The most frames that follow once a hand has let go. */
@@ -86,7 +86,7 @@ export class Dragging extends Work {
     const begin = this.beginOf(name, from);
     const text = answer.text ?? paper.text;
     this.held = { drag: `${this.page} ${this.count}`, text, answer, names, begin, wish: begin,
-      done: null, waits: false, places: judgement.found.places,
+      done: null, waits: false, taken: 0, places: judgement.found.places,
       marks: answer.drawing?.marks ?? [], reach: 'there', passed: {} };
     return true;
   }
@@ -322,9 +322,8 @@ export class Dragging extends Work {
    * @param {Place} wish
    * @param {boolean} turns
    */
-  async asked({ drag, text, names, begin: [u, v], done, places, passed }, [x, y], turns) {
-    const begins = done === null;
-    const given = { text, drag, names, begin: { x: u, y: v }, x, y, begins, turns };
+  async asked({ drag, text, names, begin: [u, v], taken, places, passed }, [x, y], turns) {
+    const given = { text, drag, names, begin: { x: u, y: v }, x, y, taken, turns };
     let found = await this.paper.about('drag', given);
     if (found.lost) found = await this.paper.about('drag', { ...given, places, passed });
     const why = found.fixed ?? (found.trouble ?? found.refused)?.message;
@@ -339,7 +338,7 @@ export class Dragging extends Work {
    */
   take(held, { points, radii, marks = [], reach = 'there', passed = {} }) {
     const { places } = held;
-    Object.assign(held, { reach, passed });
+    Object.assign(held, { reach, passed, taken: held.taken + 1 });
     held.places = { part: null, points: { ...places.points, ...points },
       radii: { ...places.radii, ...radii } };
     const told = new Set(marks.map(({ number }) => number));
