@@ -164,12 +164,13 @@ export class Offers {
    * @param {number} number
    */
   async demand(number) {
+    const text = this.paper.answer?.text;
     const mark = this.reference(number);
     if (!mark?.words || mark.value === undefined) return;
     const { words } = mark;
     const value = await typed(words.join(' '), mark.value, this.place(number));
     if (value !== null) {
-      await this.paper.edit({ do: 'ask', words, value, reference: -number });
+      await this.paper.edit({ do: 'ask', words, value, reference: -number }, text);
     }
   }
 

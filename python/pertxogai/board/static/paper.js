@@ -250,14 +250,16 @@ export class Paper extends EventTarget {
   }
 
   /**
-   * Shows what an edit would make, while a hand moves; of several that wait, the last counts.
+   * Shows what an edit would make, while a hand moves; of several that wait, the last counts. By
+   * the number of a constraint that is so only in the text in which it was seen.
    * @param {Edit} edit
    */
   preview(edit) {
+    const { text: seen } = this;
     this.live = edit;
     return this.queue(async () => {
-      if (this.live !== edit) return;
       const { text } = this;
+      if (this.live !== edit || (isNumbered(edit) && text !== seen)) return;
       const answer = await this.edited(text, edit);
       this.seen = { edit, text, answer };
       if (this.live && this.text === text && answer.drawing) this.tell('answer', answer);
@@ -380,11 +382,12 @@ export class Paper extends EventTarget {
 }
 
 /**
- * Whether an edit speaks of constraints by their numbers.
+ * Whether an edit speaks of constraints, or of dimensions that are only measured, by their numbers.
  * @param {Edit} edit
  */
 function isNumbered(edit) {
-  return 'number' in edit || ('constraints' in edit && Boolean(edit.constraints?.length));
+  if ('number' in edit || 'reference' in edit) return true;
+  return edit.do === 'erase' && Boolean(edit.constraints?.length || edit.references?.length);
 }
 
 /**
