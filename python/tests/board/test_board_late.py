@@ -2,7 +2,13 @@
 that has given up, or not at all."""
 from __future__ import annotations
 
-from boards import wait_for
+from pathlib import Path
+
+import pytest
+
+pytest.importorskip("scipy", reason="what is dragged is reckoned by Debian's python3-scipy")
+
+from boards import Served, wait_for
 from browsing import Page
 from selenium.webdriver.common.by import By
 from selenium.webdriver.common.keys import Keys
@@ -16,6 +22,15 @@ segment C 0 40 40 40
 # reference length B
 # reference length C
 """
+CRANK = """segment Ground 0 0 40 0
+segment Crank Ground.start 18 24
+coincident Ground.start Origin
+horizontal Ground
+length Ground 40
+length Crank 30
+"""
+
+
 def mark(page: Page, number: int) -> tuple[float, float]:
     """Where the text of a dimension stands, in pixels of the board."""
     x, y = page.driver.execute_script(
@@ -98,3 +113,65 @@ def test_nothing_is_previewed_by_the_number_that_a_dimension_had(page: Page) -> 
     hold(page, "mouseReleased", (x + width * 0.6, y), 0)
     page.settled()
     assert "length A Long\nlength B 30\n" in page.text()
+
+
+# A drag.
+
+def test_what_a_hand_has_given_up_isnt_told(page: Page) -> None:
+    page.begin(CRANK, "open")
+    page.wait("what is free", "return document.querySelector('#pieces')")
+    x, y = page.at("Ground.end")
+    with page.held("drag"):
+        page.press(x, y, to=(x, y + 40), lets_go=False)
+        page.wait("a frame is asked for", "return window.isHeld")
+        page.keys(Keys.ESCAPE)
+    page.settled()
+    page.settled()
+    assert "nothing is free" not in page.told("hint")
+    page.let_go()
+    page.press(x, y, to=(x, y + 40), lets_go=False)
+    wait_for("told", lambda: "nothing is free" in page.told("hint"))
+    page.let_go()
+
+
+def test_a_server_that_stops_in_a_drag_leaves_nothing_held(page: Page, board: Served) -> None:
+    """What completes the drawing is looked for while nothing is held."""
+    page.begin(CRANK, "open")
+    page.wait("what completes it", "return document.querySelector('#proposals button')")
+    x, y = page.at("Crank.end")
+    page.press(x, y, to=(x - 40, y), lets_go=False)
+    page.wait("a frame", "return document.getElementById('board').dataset.frames > 0")
+    before = page.text()
+    board.stop()
+    page.hover(x - 60, y)
+    page.wait("told", "return document.body.dataset.server === 'stopped'")
+    page.let_go()
+    page.settled()
+    board.start_again()
+    page.wait("there again", "return document.body.dataset.server === 'there'")
+    page.wait("what completes it", "return document.querySelector('#proposals button')")
+    assert page.text() == before and page.at("Crank.end") == pytest.approx((x, y), abs=1)
+
+
+# Another drawing.
+
+def test_a_label_that_is_held_stands_elsewhere_in_another_drawing(
+        page: Page, tmp_path: Path) -> None:
+    """Not where the hand held that of the same number in the drawing before."""
+    text = "drawing 1\nsegment A 0 0 40 0\nlength A 40\n"
+    page.begin(text, "well")
+    page.settled()
+    place = mark(page, 1)
+    file = tmp_path / "other.drawing"
+    file.write_text(text, encoding="utf-8")
+    with page.held("open"):
+        page.driver.find_element(By.ID, "file").send_keys(str(file))
+        page.wait("it is read", "return window.isHeld")
+        page.press(*place, to=(place[0] + 60, place[1] - 90), lets_go=False)
+    wait_for("it is opened", lambda: page.driver.execute_script(
+        "return document.getElementById('name').value") == "other")
+    page.settled()
+    assert mark(page, 1) == pytest.approx(place, abs=1)
+    page.let_go()
+    page.settled()
+    assert page.text() == text

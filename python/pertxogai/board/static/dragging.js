@@ -18,11 +18,11 @@ import { Work } from './work.js';
 /**
  * A drag that goes on: its name for the server, the text and the answer that it began with, what is
  * held and where the hand took hold, where the hand is and where it was at the last frame, how many
- * frames were taken, and the places and marks of the last, how far what is held came in it, and how
- * often arcs went past their own ends.
+ * frames were taken, whether the hand gave up, and the places and marks of the last frame, how far
+ * what is held came in it, and how often arcs went past their own ends.
  * @typedef {{ drag: string, text: string, answer: Judged, names: string[], begin: Place,
- *   wish: Place, done: Place | null, waits: boolean, taken: number, places: Found['places'],
- *   marks: Mark[], reach: Reach, passed: Record<string, number> }} Held
+ *   wish: Place, done: Place | null, waits: boolean, taken: number, isGivenUp: boolean,
+ *   places: Found['places'], marks: Mark[], reach: Reach, passed: Record<string, number> }} Held
  */
 
 /** The most frames that follow once a hand has let go. */
@@ -86,7 +86,7 @@ export class Dragging extends Work {
     const begin = this.beginOf(name, from);
     const text = answer.text ?? paper.text;
     this.held = { drag: `${this.page} ${this.count}`, text, answer, names, begin, wish: begin,
-      done: null, waits: false, taken: 0, places: judgement.found.places,
+      done: null, waits: false, taken: 0, isGivenUp: false, places: judgement.found.places,
       marks: answer.drawing?.marks ?? [], reach: 'there', passed: {} };
     return true;
   }
@@ -208,8 +208,11 @@ export class Dragging extends Work {
   async landed(text, held, guesses) {
     const { paper } = this;
     const isThere = this.stands(held);
-    if (isThere) await this.last(held);
-    if (!this.held) paper.live = null;
+    try {
+      if (isThere) await this.last(held);
+    } finally {
+      if (!this.held) paper.live = null;
+    }
     if (!isThere) return { trouble: paper.changed() };
     return held.done ? paper.guessed(text, { ...this.drawn(held), asks: guesses }, []) : {};
   }
@@ -274,8 +277,14 @@ export class Dragging extends Work {
   /** The hand gives up: what stood before is shown again. */
   drop() {
     if (!this.held) return;
-    this.held = null;
+    this.giveUp();
     this.paper.drop();
+  }
+
+  /** The hand gives up, and nothing that is still told of its drag is shown. */
+  giveUp() {
+    if (this.held) this.held.isGivenUp = true;
+    this.held = null;
   }
 
   /**
@@ -322,12 +331,13 @@ export class Dragging extends Work {
    * @param {Place} wish
    * @param {boolean} turns
    */
-  async asked({ drag, text, names, begin: [u, v], taken, places, passed }, [x, y], turns) {
+  async asked(held, [x, y], turns) {
+    const { drag, text, names, begin: [u, v], taken, places, passed } = held;
     const given = { text, drag, names, begin: { x: u, y: v }, x, y, taken, turns };
     let found = await this.paper.about('drag', given);
     if (found.lost) found = await this.paper.about('drag', { ...given, places, passed });
     const why = found.fixed ?? (found.trouble ?? found.refused)?.message;
-    if (why) this.tell(why, 'trouble');
+    if (why && !held.isGivenUp) this.tell(why, 'trouble');
     return why ? null : found;
   }
 

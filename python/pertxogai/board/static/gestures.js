@@ -257,6 +257,14 @@ export class Gestures extends Work {
     });
   }
 
+  /** Another drawing begins: nothing of the last is held, and no click on it counts. */
+  leave() {
+    this.pressed = null;
+    this.labels.drop();
+    this.dragging.giveUp();
+    this.sequence.forget();
+  }
+
   /** The browser takes the pointer away: what was dragged stays where it was. */
   cancel() {
     this.pressed = null;

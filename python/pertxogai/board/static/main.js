@@ -176,9 +176,7 @@ export class Page {
 
   /** Another drawing begins: nothing of the last is shown, held or selected. */
   leave() {
-    this.gestures.pressed = null;
-    this.gestures.dragging.held = null;
-    this.gestures.sequence.forget();
+    this.gestures.leave();
     this.board.show(NOTHING);
     this.selection.set([]);
     this.take(this.hand.tool);
