@@ -8,7 +8,7 @@ import pytest
 
 pytest.importorskip("scipy", reason="what is dragged is reckoned by Debian's python3-scipy")
 
-from boards import Served, wait_for
+from boards import Served, drawing, wait_for
 from browsing import Page
 from selenium.webdriver.common.by import By
 from selenium.webdriver.common.keys import Keys
@@ -154,6 +154,21 @@ def test_a_server_that_stops_in_a_drag_leaves_nothing_held(page: Page, board: Se
 
 
 # Another drawing.
+
+def test_of_a_file_and_a_drawing_that_was_begun_later_the_later_stands(
+        page: Page, tmp_path: Path) -> None:
+    file = tmp_path / "plate.drawing"
+    file.write_text(drawing("plate-with-hole"), encoding="utf-8")
+    with page.held("open"):
+        page.driver.find_element(By.ID, "file").send_keys(str(file))
+        page.wait("it is read", "return window.isHeld")
+        page.click("#new")
+        page.keys("p")
+        page.press(600, 200)
+    wait_for("a point", lambda: "point" in page.text())
+    page.settled()
+    assert page.text().count("\n") == 2 and page.count(".edges [data-name]") == 1
+
 
 def test_a_label_that_is_held_stands_elsewhere_in_another_drawing(
         page: Page, tmp_path: Path) -> None:

@@ -19,6 +19,8 @@ const RELEASE = 'R2010';
 /** What goes in and out of the page. */
 export class Files {
   input = nodeOf('file', HTMLInputElement);
+  /** How many drawings were begun, or files opened: of several that are opened the last counts. */
+  turn = 0;
 
   /**
    * `shown`: what is done once another drawing is shown.
@@ -53,6 +55,7 @@ export class Files {
    * @param {string[]} [leftOut]
    */
   async begin(text, name, leftOut = []) {
+    this.turn += 1;
     this.paper.settle();
     this.keeping.put(this.paper);
     nodeOf('name', HTMLInputElement).value = name;
@@ -67,6 +70,7 @@ export class Files {
   async open(file) {
     this.input.value = '';
     if (!file) return;
+    const turn = this.turn += 1;
     const data = file.size > MOST_BYTES ? null : await base64(file);
     if (typeof data !== 'string') {
       const large = 'has over 750 KB: judge it by pertxogai judge';
@@ -75,6 +79,7 @@ export class Files {
       return;
     }
     const found = await this.paper.ask('open', { name: file.name, data });
+    if (turn !== this.turn) return;
     if (found?.sketches) {
       const { sketches } = found;
       const sketch = sketches.length === 1 ? sketches[0] : await chosen(file.name, sketches);
