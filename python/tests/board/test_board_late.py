@@ -115,6 +115,23 @@ def test_nothing_is_previewed_by_the_number_that_a_dimension_had(page: Page) -> 
     assert "length A Long\nlength B 30\n" in page.text()
 
 
+# What is selected once the clicks before are through.
+
+def test_delete_waits_for_the_click_before_it(page: Page) -> None:
+    page.begin("point P 0 0\npoint Q 60 0\n", "open")
+    (x, y), (u, v) = page.at("P"), page.at("Q")
+    page.select("P")
+    page.keys("s")
+    with page.held("edit"):
+        page.press(x, y - 150)
+        page.press(u, v - 150)
+        page.keys(Keys.ESCAPE, Keys.ESCAPE)
+        page.press(u, v)
+        page.keys(Keys.DELETE)
+    wait_for("Q is gone", lambda: "point Q" not in page.text())
+    assert "point P" in page.text() and page.text().count("segment") == 1
+
+
 # A drag.
 
 def test_what_a_hand_has_given_up_isnt_told(page: Page) -> None:

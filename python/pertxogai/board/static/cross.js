@@ -63,15 +63,26 @@ export class Cross extends Work {
   }
 
   /**
-   * What is selected is drawn half a step of the grid further.
+   * What is selected is drawn half a step of the grid further, in its turn.
    * @param {number} dx
    * @param {number} dy
    */
   shift(dx, dy) {
     const step = this.board.plane.step() / 2;
-    const { points, shapes } = this.gestures.moving.movable();
-    if (points.length + shapes.length === 0) return;
-    this.paper.edit({ do: 'shift', points, shapes, dx: dx * step, dy: dy * step });
+    this.gestures.sequence.do(() => {
+      const { points, shapes } = this.gestures.moving.movable();
+      if (points.length + shapes.length === 0) return;
+      this.paper.edit({ do: 'shift', points, shapes, dx: dx * step, dy: dy * step });
+    });
+  }
+
+  /**
+   * Selects the point or shape that comes next (1), or before (-1), in its turn.
+   * @param {-1 | 1} step
+   * @param {boolean} more
+   */
+  next(step, more) {
+    this.gestures.sequence.do(() => this.selectNext(step, more));
   }
 
   /**
@@ -79,7 +90,7 @@ export class Cross extends Work {
    * @param {-1 | 1} step
    * @param {boolean} more
    */
-  next(step, more) {
+  selectNext(step, more) {
     const names = namesOf(this.board.answer.drawing.shapes);
     const last = [...this.selection.names].at(-1);
     const place = last ? names.indexOf(last) : Math.min(0, -step);

@@ -35,9 +35,9 @@ export class Keys {
     const { key, shiftKey: shift } = event;
     const chord = (event.ctrlKey || event.metaKey) && !BRACKETS[key];
     if (chord && key === 'c' && getSelection()?.toString()) return false;
-    if (isTyping(event)) return chord && savesOrOpens(key) && pressed(`Control+${key}`);
+    if (isTyping(event)) return chord && savesOrOpens(key) && this.press(`Control+${key}`);
     if (ARROWS[key]) return this.arrow(event, chord);
-    if (chord) return pressed(`Control+${shift ? 'Shift+' : ''}${key}`);
+    if (chord) return this.press(`Control+${shift ? 'Shift+' : ''}${key}`);
     return this.plain(event);
   }
 
@@ -51,12 +51,25 @@ export class Keys {
     if (proposed && key === 'Enter') this.page.proposals.change(proposed);
     else if (proposed && key === ' ') this.page.proposals.take(proposed);
     else if (BRACKETS[key]) this.page.cross.next(BRACKETS[key], shift || '{}'.includes(key));
-    else if (event.altKey) return pressed(`Alt+${key}`);
+    else if (event.altKey) return this.press(`Alt+${key}`);
     else if (ZOOMS[key]) this.page.board.zoomBy(ZOOMS[key]);
     else if (key === 'Escape') this.page.escape();
     else if (onBoard(event) && this.onBoard(key, shift)) return true;
-    else return pressed(key);
+    else return this.press(key);
     return true;
+  }
+
+  /**
+   * Presses the button that has a key; false where none has it now. While what was clicked before
+   * waits, it is the button that has it then.
+   * @param {string} key
+   */
+  press(key) {
+    const { sequence } = this.page.gestures;
+    const selector = `[aria-keyshortcuts~="${CSS.escape(key)}" i]`;
+    if (!sequence.isBusy) return pressed(selector);
+    sequence.do(() => { pressed(selector); });
+    return document.querySelector(selector) !== null;
   }
 
   /**
@@ -93,10 +106,12 @@ export class Keys {
    * @param {boolean} shift
    */
   enter(shift) {
-    const { cross, hand, offers, selection: { numbers } } = this.page;
-    const [number] = numbers;
-    if (number && !hand.draws) offers.change(number);
-    else cross.enter(shift);
+    const { cross, hand, offers, selection, gestures: { sequence } } = this.page;
+    sequence.do(() => {
+      const [number] = selection.numbers;
+      if (number && !hand.draws) offers.change(number);
+      else cross.enter(shift);
+    });
   }
 }
 
@@ -128,12 +143,11 @@ function savesOrOpens(key) {
 }
 
 /**
- * Presses the button that has a key; false where none has it now.
- * @param {string} key
+ * Presses the first button of those that isn't hidden; false where all are.
+ * @param {string} selector
  */
-function pressed(key) {
-  const selector = `[aria-keyshortcuts~="${CSS.escape(key)}" i]:not([hidden])`;
-  const button = document.querySelector(selector);
+function pressed(selector) {
+  const button = document.querySelector(`${selector}:not([hidden])`);
   if (!(button instanceof HTMLElement)) return false;
   button.click();
   return true;

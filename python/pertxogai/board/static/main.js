@@ -84,6 +84,7 @@ export class Page {
    */
   buttons() {
     const { paper, board, files, offers, steps, proposals, gestures: { sequence } } = this;
+    const inTurn = (/** @type {() => unknown} */ act) => () => sequence.do(() => { act(); });
     return {
       new: () => files.begin('', 'drawing'),
       gallery: () => files.gallery(),
@@ -101,12 +102,13 @@ export class Page {
       complete: () => proposals.takeAll(),
       'redraw-all': () => paper.redraw([]),
       revalue: () => this.keys.enter(false),
-      construct: () => offers.construct(),
-      rename: () => offers.rename(),
-      erase: () => offers.erase(),
-      copy: () => this.gestures.drafting.copies.copy(),
-      alike: () => this.selection.alike(this.board.answer.drawing),
-      all: () => this.selection.set(this.board.answer.drawing.shapes.map((each) => each.name)),
+      construct: inTurn(() => offers.construct()),
+      rename: inTurn(() => offers.rename()),
+      erase: inTurn(() => offers.erase()),
+      copy: inTurn(() => this.gestures.drafting.copies.copy()),
+      alike: inTurn(() => this.selection.alike(this.board.answer.drawing)),
+      all: inTurn(() => this.selection.set(
+        this.board.answer.drawing.shapes.map((each) => each.name))),
       back: () => steps.go(-1),
       on: () => steps.go(1),
       play: () => steps.play(),
