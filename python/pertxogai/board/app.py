@@ -19,6 +19,7 @@ GALLERY = Path(__file__).resolve().parents[2] / "tests" / "drawings"
 MOST_BYTES = 1 << 20
 MOST_PASSED_OVER = 16 << 20
 TOO_MUCH = f"the request has more than {MOST_BYTES} bytes: send less"
+BUSY = "the board answers as many calls at once as it may: wait, try again"
 HEADERS = {
     "Content-Security-Policy": "default-src 'none'; script-src 'self'; style-src 'self'; "
                                "img-src 'self' data: blob:; connect-src 'self'; base-uri 'none'; "
@@ -113,7 +114,7 @@ def _caller(answers: Answers) -> Callable[[str, str], Response]:
         try:
             return Response(answers.text(name, given), mimetype="application/json")
         except Busy:
-            return _json(trouble("busy", "four calls are being answered: wait, try again"), 503)
+            return _json(trouble("busy", BUSY), 503)
 
     return call
 

@@ -11,13 +11,17 @@ import sys
 from contextlib import suppress
 from dataclasses import dataclass, field
 from pathlib import Path
-from threading import Lock
+from threading import Lock, Semaphore
 from time import monotonic
 from typing import IO
 
 from pertxogai.board.calls import too_long, trouble
 
 MOST_AT_ONCE = 4
+BESIDE = frozenset({"weigh", "complete", "fit", "range"})
+"""Calls that a page makes beside all else, and which may take long."""
+MOST_BESIDE = MOST_AT_ONCE - 1
+"""How many of them are answered at once: so what a hand does finds a worker."""
 GRACE = 2.0
 """Seconds beyond the program's own limit that a worker has for a call."""
 ONE_THREAD = {"OMP_NUM_THREADS": "1", "OPENBLAS_NUM_THREADS": "1"}
@@ -34,7 +38,7 @@ class Bounds:
 
 
 class Busy(Exception):
-    """Four calls are being answered."""
+    """Four calls are being answered, or three of those that a page makes beside all else."""
 
 
 class WorkerLost(Exception):
@@ -115,10 +119,21 @@ class Workers:
         self._program, self.bounds = program, bounds
         self._free: list[Worker] = []
         self._busy = 0
+        self._beside = Semaphore(MOST_BESIDE)
         self._lock = Lock()
 
     def text(self, call: str, given: object) -> str:
         """What a free worker answers, as JSON. Raises Busy."""
+        if call not in BESIDE:
+            return self._told(call, given)
+        if not self._beside.acquire(blocking=False):
+            raise Busy
+        try:
+            return self._told(call, given)
+        finally:
+            self._beside.release()
+
+    def _told(self, call: str, given: object) -> str:
         drag = _drag_of(given)
         try:
             worker = self._taken(drag)

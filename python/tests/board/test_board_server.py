@@ -185,6 +185,23 @@ def test_of_ten_calls_at_once_four_are_answered(tmp_path, workers) -> None:
     assert post(client(), "judge", {"text": ""}).status_code == 200
 
 
+@pytest.mark.parametrize("beside", ["weigh", "complete", "fit", "range"])
+def test_of_ten_calls_beside_what_a_hand_does_three_are_answered(beside, tmp_path, workers) -> None:
+    go = tmp_path / "go"
+    waits = f"until [ -e {go} ]; do sleep 0.05; done; exit 1\n"
+    slow = workers(script(tmp_path / "slow", waits), Bounds(SECONDS, 0))
+    client = board(GUARD, slow).test_client
+    given = {**SEGMENT, "number": 1}
+    with ThreadPoolExecutor(10) as pool:
+        calls = [pool.submit(lambda: post(client(), beside, given).status_code) for _ in range(10)]
+        wait_for("seven answers", lambda: sum(call.done() for call in calls) >= 7)
+        assert post(client(), "offers", {"text": "", "names": []}).status_code == 200
+        go.touch()
+        found = [call.result() for call in calls]
+    assert sorted(found) == [200] * 3 + [503] * 7
+    assert post(client(), beside, {"text": "", "number": 1}).status_code == 200
+
+
 def test_what_was_asked_in_a_call_is_not_asked_again(tmp_path) -> None:
     runs = tmp_path / "runs"
     path = script(tmp_path / "counts", f"echo run >> {runs}\ncat > /dev/null\nexit 5\n")

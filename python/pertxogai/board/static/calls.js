@@ -7,8 +7,10 @@ const STOPPED = 'The board’s server is stopped. Your drawing is kept in this b
   + 'start pertxogai page again.';
 const ANEW = 'The board’s server was started anew. Your drawing is kept in this browser: '
   + 'open the address that pertxogai page printed.';
-/** How often a call is made again while four others are being answered. */
-const MOST_TURNS = 40;
+/** How often a call is made again while others are being answered: for some minutes in all. */
+const MOST_TURNS = 200;
+/** The most milliseconds between two times. */
+const MOST_PAUSE = 1000;
 
 /** The server can't be reached, or no longer takes this page. */
 export class Stopped extends Error {}
@@ -36,7 +38,8 @@ export class Server {
     for (let turn = 0; ; turn += 1) {
       const response = await this.reached(`call/${name}`, asked);
       if (response.status !== 503 || turn === MOST_TURNS) return this.read(response);
-      await new Promise((done) => { setTimeout(done, 50 + 10 * turn); });
+      const pause = Math.min(50 + 10 * turn, MOST_PAUSE);
+      await new Promise((done) => { setTimeout(done, pause); });
     }
   }
 
