@@ -3,7 +3,8 @@
 A Jacobian is dense where it is small: then numpy's calls cost less than scipy's sparse ones."""
 from __future__ import annotations
 
-from collections.abc import Iterable
+from collections.abc import Callable, Iterable
+from functools import partial
 from typing import Any, TypeAlias
 
 import numpy as np
@@ -60,19 +61,35 @@ def dense(matrix: Matrix) -> Array:
 def row_squares(matrix: Matrix) -> Array:
     """The sum of squares of each row."""
     if is_sparse(matrix):
-        return np.asarray(matrix.multiply(matrix).sum(axis=1)).ravel()
-    found: Array = np.einsum("ij,ij->i", matrix, matrix)
+        found: Array = np.bincount(_row_numbers(matrix), matrix.data ** 2, matrix.shape[0])
+    else:
+        found = np.einsum("ij,ij->i", matrix, matrix)
     return found
 
 
 def rows_times(matrix: Matrix, factors: Array) -> Matrix:
     """Each row times its factor."""
-    return sparse.diags(factors) @ matrix if is_sparse(matrix) else matrix * factors[:, None]
+    if is_sparse(matrix):
+        return _with_values(matrix, matrix.data * factors[_row_numbers(matrix)])
+    return matrix * factors[:, None]
 
 
 def columns_times(matrix: Matrix, factors: Array) -> Matrix:
     """Each column times its factor."""
-    return matrix @ sparse.diags(factors) if is_sparse(matrix) else matrix * factors
+    if is_sparse(matrix):
+        return _with_values(matrix, matrix.data * factors[matrix.indices])
+    return matrix * factors
+
+
+def _row_numbers(matrix: Matrix) -> Indices:
+    """The row of each entry of a sparse matrix of rows."""
+    found: Indices = np.repeat(np.arange(matrix.shape[0]), np.diff(matrix.indptr))
+    return found
+
+
+def _with_values(matrix: Matrix, values: Array) -> Matrix:
+    """A sparse matrix of rows with other values in the same places."""
+    return sparse.csr_matrix((values, matrix.indices, matrix.indptr), shape=matrix.shape)
 
 
 def row_factors(matrix: Matrix) -> Array:
@@ -94,32 +111,37 @@ def stacked(upper: Matrix, lower: Matrix) -> Matrix:
     return np.vstack([upper, dense(lower)])
 
 
+Steps: TypeAlias = Callable[[Array], Array]
+"""Gives the step that does what is wanted."""
+
+
 def damped_step(jacobian: Matrix, wanted: Array, damping: float) -> Array:
     """J'(JJ' + damping)^-1 wanted: without damping the least step that does what is wanted."""
-    if is_sparse(jacobian):
-        return _damped_sparse_step(jacobian, wanted, damping)
-    square = jacobian @ jacobian.T
-    square[np.diag_indices_from(square)] += damping
+    return damped_steps(jacobian, damping)(wanted)
+
+
+def damped_steps(jacobian: Matrix, damping: float) -> Steps:
+    """The same for whatever is wanted, factorized once."""
     try:
+        if is_sparse(jacobian):
+            return _damped_sparse_steps(jacobian, damping)
+        square = jacobian @ jacobian.T
+        square[np.diag_indices_from(square)] += damping
         factor = linalg.cho_factor(square, overwrite_a=True, check_finite=False)
-        step: Array = jacobian.T @ linalg.cho_solve(factor, wanted, check_finite=False)
-        return step
-    except linalg.LinAlgError:
-        return least_step(jacobian, wanted)
+    except (linalg.LinAlgError, RuntimeError):  # It is singular.
+        return partial(least_step, jacobian)
+    return lambda wanted: jacobian.T @ linalg.cho_solve(factor, wanted, check_finite=False)
 
 
-def _damped_sparse_step(jacobian: Matrix, wanted: Array, damping: float) -> Array:
-    try:
-        if _fills_up(jacobian):
-            return _step_with_multipliers(jacobian, wanted, damping)
-        square = (jacobian @ jacobian.T).tocsc()
-        square = square + damping * sparse.identity(square.shape[0], format="csc")
-        factor = splu(square, permc_spec="MMD_AT_PLUS_A", diag_pivot_thresh=0.0,
-                      options={"SymmetricMode": True})
-    except RuntimeError:  # It is singular.
-        return least_step(jacobian, wanted)
-    step: Array = jacobian.T @ factor.solve(wanted)
-    return step
+def _damped_sparse_steps(jacobian: Matrix, damping: float) -> Steps:
+    """Raises RuntimeError where it is singular."""
+    if _fills_up(jacobian):
+        return _steps_with_multipliers(jacobian, damping)
+    square = (jacobian @ jacobian.T).tocsc()
+    square = square + damping * sparse.identity(square.shape[0], format="csc")
+    factor = splu(square, permc_spec="MMD_AT_PLUS_A", diag_pivot_thresh=0.0,
+                  options={"SymmetricMode": True})
+    return lambda wanted: jacobian.T @ factor.solve(wanted)
 
 
 def _fills_up(jacobian: Matrix) -> bool:
@@ -134,19 +156,37 @@ def least_step(jacobian: Matrix, wanted: Array) -> Array:
     none can be reckoned."""
     try:
         if is_sparse(jacobian):
-            return _step_with_multipliers(jacobian, wanted, REGULAR)
+            return _steps_with_multipliers(jacobian, REGULAR)(wanted)
         step: Array = np.linalg.lstsq(jacobian, wanted, rcond=LEAST_SINGULAR)[0]
         return step
     except (linalg.LinAlgError, RuntimeError):
         return np.zeros(jacobian.shape[1])
 
 
-def _step_with_multipliers(jacobian: Matrix, wanted: Array, damping: float) -> Array:
-    """A damped step by the sparse system of the step and its multipliers, which fills up less where
+def _steps_with_multipliers(jacobian: Matrix, damping: float) -> Steps:
+    """Damped steps by the sparse system of the step and its multipliers, which fills up less where
     many rows speak of one unknown. Raises RuntimeError where it is singular."""
+    columns = jacobian.shape[1]
+    factor = splu(_with_multipliers(jacobian, damping), permc_spec="MMD_AT_PLUS_A")
+
+    def step(wanted: Array) -> Array:
+        solved: Array = factor.solve(np.concatenate([np.zeros(columns), wanted]))
+        return solved[:columns]
+
+    return step
+
+
+def _with_multipliers(jacobian: Matrix, damping: float) -> Matrix:
+    """The matrix of columns [[1, J'], [J, -damping]], put together in a fraction of the time that
+    scipy's own call takes: each column of J behind a 1, each row of J before the damping."""
     rows, columns = jacobian.shape
-    system = sparse.bmat([[sparse.identity(columns), jacobian.T],
-                          [jacobian, -damping * sparse.identity(rows)]], format="csc")
-    factor = splu(system, permc_spec="MMD_AT_PLUS_A")
-    solved: Array = factor.solve(np.concatenate([np.zeros(columns), wanted]))
-    return solved[:columns]
+    lower, upper = jacobian.tocsc(), jacobian
+    begins, ends = lower.indptr, upper.indptr
+    indices = np.concatenate([
+        np.insert(lower.indices + columns, begins[:-1], np.arange(columns)),
+        np.insert(upper.indices, ends[1:], columns + np.arange(rows))])
+    values = np.concatenate([np.insert(lower.data, begins[:-1], 1.0),
+                             np.insert(upper.data, ends[1:], -damping)])
+    starts = np.concatenate([begins + np.arange(columns + 1),
+                             begins[-1] + columns + ends[1:] + np.arange(1, rows + 1)])
+    return sparse.csc_matrix((values, indices, starts), shape=(rows + columns, rows + columns))

@@ -27,6 +27,9 @@ class Pattern:
         self._places, entry = np.unique(np.array(places, dtype=np.int64), return_inverse=True)
         self._constant = np.zeros(len(self._places))
         np.add.at(self._constant, entry[:len(known)], [value for _, _, value in known])
+        rows, columns = np.divmod(self._places, shape[1])
+        self._columns = columns.astype(np.int32)
+        self._ends = np.searchsorted(rows, np.arange(shape[0] + 1)).astype(np.int32)
         self._of_slopes = Sums(
             ((place, slope, factor) for place, (_, _, slope, factor)
              in zip(entry[len(known):].tolist(), added)), len(self._places))
@@ -40,5 +43,4 @@ class Pattern:
             whole = np.zeros(self._shape[0] * self._shape[1])
             whole[self._places] = values
             return whole.reshape(self._shape)
-        rows, columns = np.divmod(self._places, self._shape[1])
-        return sparse.csr_matrix((values, (rows, columns)), shape=self._shape)
+        return sparse.csr_matrix((values, self._columns, self._ends), shape=self._shape)

@@ -14,14 +14,16 @@ from __future__ import annotations
 
 from dataclasses import dataclass
 from enum import Enum
+from functools import cached_property
 from itertools import product
 
 import numpy as np
 
 from pertxogai.search.arrays import (
-    Array, Indices, Matrix, columns_times, damped_step, row_squares)
+    Array, Indices, Matrix, Steps, columns_times, damped_steps, row_squares)
 from pertxogai.search.budget import Budget
 from pertxogai.search.descent import descend
+from pertxogai.search.equations import System
 from pertxogai.search.following import Following
 
 HEAVY, FIRM = 1e-2, 1e-4
@@ -91,11 +93,55 @@ class Pulled:
 
 
 @dataclass(frozen=True)
+class _Here:
+    """Somewhere that all rows are met, and how all may move from there. What is reckoned there is
+    kept: of each step the end is where the next begins. ease: how easily each unknown moves."""
+
+    system: System
+    ease: Array
+    x: Array
+
+    @cached_property
+    def _jacobian(self) -> Matrix:
+        return self.system.tangents(self.x).jacobian
+
+    @cached_property
+    def _mends(self) -> Steps:
+        """By how much less each unknown moves, by its ease, so that all rows change as wanted."""
+        eased = columns_times(self._jacobian, self.ease)
+        return damped_steps(eased, _damping(eased, NOT_FREE))
+
+    @cached_property
+    def _changes(self) -> Steps:
+        """The least step that changes all rows as wanted."""
+        return damped_steps(self._jacobian, _damping(self._jacobian, NEARLY_FREE))
+
+    def towards(self, pull: Array) -> Array:
+        """The tangent step that comes nearest to a pull."""
+        if not self.system.rows:
+            return pull
+        tangent: Array = pull - self.ease * self._mends(self._jacobian @ pull)
+        return tangent
+
+    def along(self, step: Array) -> Array:
+        """The part of a step along which no row changes. Near a change point more ways are free
+        than elsewhere: what changes rows by next to nothing counts as free."""
+        if not self.system.rows:
+            return step
+        tangent: Array = step - self._changes(self._jacobian @ step)
+        return tangent
+
+
+@dataclass(frozen=True)
 class _Step:
     """Where a step ends, and the way that it goes on there."""
 
-    x: Array
+    end: _Here
     way: Array
+
+    @property
+    def x(self) -> Array:
+        return self.end.x
 
 
 class Pull:
@@ -105,13 +151,21 @@ class Pull:
     def __init__(self, part: Following, held: Indices, easy: Indices) -> None:
         self._system, self._first_radius = part.system, part.first_radius
         self._held = held
-        self.x = part.system.drawn
-        self._ease = np.ones(len(self.x))
+        self._ease = np.ones(part.system.count)
         self._ease[held] = HEAVY
         self._ease[easy] = EASY
+        self._here = self._at(part.system.drawn)
         self._pulled = self.x[held]
         self._way = np.zeros(len(self.x))
         self._bend, self._part = 1.0, 1.0
+
+    @property
+    def x(self) -> Array:
+        """Where all lies: the unknowns of the part."""
+        return self._here.x
+
+    def _at(self, x: Array) -> _Here:
+        return _Here(self._system, self._ease, x)
 
     def to(self, place: Array) -> Pulled:
         """The hand pulls what is held to a place: the wanted value of each held unknown."""
@@ -136,16 +190,17 @@ class Pull:
             start = self.x + motion * (sign * part * self._system.size_nm)
             start[self._held] = here
             end = descend(self._system, start, budget, ease=ease)
-            other = self._tangent(end.x, motion)
+            there = self._at(end.x)
+            other = there.along(motion)
             if end.is_met() and self._left_nm_at(end.x, here) <= THERE_NM and (
                     motion[self._held] @ other[self._held] < 0):
-                self.x, self._way = end.x, np.zeros(len(self.x))
+                self._here, self._way = there, np.zeros(len(self.x))
                 return True
         return False
 
     def _motion(self) -> Array:
         """How all moves on from here, by 1 what moves most."""
-        motion = self._tangent(self.x, np.random.default_rng(1).uniform(-1, 1, len(self.x)))
+        motion = self._here.along(np.random.default_rng(1).uniform(-1, 1, len(self.x)))
         found: Array = motion / max(float(np.abs(motion).max()), LEAST_MOTION)
         return found
 
@@ -173,7 +228,7 @@ class Pull:
 
     def _taken(self, step: _Step, goal: Array, tangent: Array, length: float) -> Array:
         """Takes a step of that length along a tangent; gives the tangent from there."""
-        self.x, self._way = step.x, step.way
+        self._here, self._way = step.end, step.way
         after = self._towards(goal)
         self._learn(tangent[self._held], after[self._held], length)
         self._part = min(1.0, 2 * self._part)
@@ -195,13 +250,7 @@ class Pull:
         """The tangent step that brings what is held nearest to a goal."""
         pull = np.zeros(len(self.x))
         pull[self._held] = goal - self.x[self._held]
-        if not self._system.rows:
-            return pull
-        _, jacobian = self._system.tangents(self.x)
-        eased = columns_times(jacobian, self._ease)
-        mend = damped_step(eased, jacobian @ pull, _damping(eased, NOT_FREE))
-        tangent: Array = pull - self._ease * mend
-        return tangent
+        return self._here.towards(pull)
 
     def _is_near(self, goal: Array, tangent: Array) -> bool:
         nearer_nm = float(np.linalg.norm(tangent[self._held]))
@@ -230,7 +279,7 @@ class Pull:
         if plain is None or other is None:
             return plain or other
         apart = other.x - plain.x
-        along = self._tangent(plain.x, apart)
+        along = plain.end.along(apart)
         if np.linalg.norm(along) >= ALONG * np.linalg.norm(apart):
             return plain
         return max(plain, other, key=lambda each: _cosine(each.x - self.x, self._way))
@@ -242,8 +291,9 @@ class Pull:
         end = descend(self._system, self.x + start, budget, steps=STEPS, ease=self._ease)
         if not end.is_met() or float(np.linalg.norm(goal - end.x[self._held])) >= before_nm:
             return None
-        way = self._smooth_way(end.x, before_nm)
-        return None if way is None else _Step(end.x, way)
+        there = self._at(end.x)
+        way = self._smooth_way(there, before_nm)
+        return None if way is None else _Step(there, way)
 
     def _led(self, tangent: Array) -> Array | None:
         """A step as the last one leads on, as far as a tangent leads what is held along it."""
@@ -257,27 +307,17 @@ class Pull:
         led[self._held] = tangent[self._held]
         return led
 
-    def _smooth_way(self, x: Array, pulled_nm: float) -> Array | None:
-        """The way that a step to x goes on there; None where the step leaps, or turns."""
-        step = x - self.x
-        if np.abs(step).max() > LEAP * pulled_nm or (x[self._first_radius:] <= NEAR_NM).any():
+    def _smooth_way(self, there: _Here, pulled_nm: float) -> Array | None:
+        """The way that a step goes on where it ends; None where the step leaps, or turns."""
+        step, radii = there.x - self.x, there.x[self._first_radius:]
+        if np.abs(step).max() > LEAP * pulled_nm or (radii <= NEAR_NM).any():
             return None
-        before, after = self._tangent(self.x, step), self._tangent(x, step)
+        before, after = self._here.along(step), there.along(step)
         least = ALONG * float(np.linalg.norm(step))
         is_smooth = min(np.linalg.norm(before), np.linalg.norm(after)) >= least
         is_on = before[self._held] @ after[self._held] >= 0
         is_alive = self._share(after) >= min(LEAST_SHARE, self._share(before))
         return after if is_smooth and is_on and is_alive else None
-
-    def _tangent(self, x: Array, step: Array) -> Array:
-        """The part of a step along which no row changes. Near a change point more ways are free
-        than elsewhere: what changes rows by next to nothing counts as free."""
-        if not self._system.rows:
-            return step
-        _, jacobian = self._system.tangents(x)
-        along: Array = step - damped_step(
-            jacobian, jacobian @ step, _damping(jacobian, NEARLY_FREE))
-        return along
 
     def _share(self, way: Array) -> float:
         """How far what is held moves by a way, against what moves most."""
