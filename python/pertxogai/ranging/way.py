@@ -105,7 +105,7 @@ class Way:
         return self._of_failure(names, trial.solved)
 
     def _checked(self, drawing: Drawing, trial: Trial, solved: Solved) -> Edges | Fault:
-        """The placed edges, or what is wrong with them; then they are placed by finer angles too."""
+        """The placed edges, or what is wrong with them; then also as placed by finer angles."""
         found = self._checked_once(drawing, trial, solved)
         if isinstance(found, Edges):
             return found

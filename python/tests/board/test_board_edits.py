@@ -141,7 +141,8 @@ def test_ask_value_name() -> None:
 
 def test_values_are_refused_with_what_to_do() -> None:
     assert "is no length" in trouble(TRIANGLE, do="value", number=1, value="-3")
-    assert "write a point for the comma" in trouble(TRIANGLE, do="value", number=1, value="3,5")
+    assert "write 3.5, with a point for the comma" in trouble(TRIANGLE, do="value", number=1,
+                                                              value="3,5")
     assert "doesn't stand" in trouble(TRIANGLE, do="value", number=2, value="3")
     assert "isn't one value" in trouble(TRIANGLE, do="value", number=1, value="S2 3")
     level = "segment A 0 0 1 0\nhorizontal A\n"
