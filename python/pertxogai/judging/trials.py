@@ -89,10 +89,11 @@ class CountedTrial(Trial):
 def first_good(question: Question, freeze: bool = False, quick: bool = False,
                spelled: Iterable[Interpretation] | None = None) -> Trial:
     """The first reading and style that is fully constrained and placed; else one that is fully
-    constrained; else one that is over-constrained; else the one with the fewest clusters. freeze:
-    ask about an under-constrained drawing again with lengths and radii as drawn. quick: if
-    something is given twice, take the first style that is over-constrained, since none is fully
-    constrained then. spelled: the interpretations of the drawing, if some are known."""
+    constrained, and of which by rank no constraint is too many; else one that is over-constrained;
+    else one that is fully constrained; else the one with the fewest clusters. freeze: ask about an
+    under-constrained drawing again with lengths and radii as drawn. quick: if something is given
+    twice, take the first style that is over-constrained, since none is fully constrained then.
+    spelled: the interpretations of the drawing, if some are known."""
     best: Trial | None = None
     seen: list[list[Equation]] = []
     for spellings in readings(question.drawing) if spelled is None else spelled:
