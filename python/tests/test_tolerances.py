@@ -3,6 +3,8 @@
 The numbers of the tables are those of the standard: ISO 2768-1:1989, tables 1 to 3."""
 from __future__ import annotations
 
+import re
+from dataclasses import replace
 from fractions import Fraction
 
 import pytest
@@ -10,7 +12,8 @@ import pytest
 from pertxogai.board.line_reader import valued
 from pertxogai.board.removal import without
 from pertxogai.drawing import (
-    DrawingRefusal, asked_of, read_drawing, value_text, words_of, write_drawing)
+    DrawingRefusal, DrawingUnsound, Tolerance, asked_of, checked, read_drawing, value_text,
+    words_of, write_drawing)
 from pertxogai.drawing.tolerances.iso2768 import Table, read_general
 
 EDGE = "segment A 0 0 40 0\nsegment B A.end 40 30\n"
@@ -28,6 +31,17 @@ def test_a_length_has_a_tolerance(line, below, above):
     assert (told.tolerance.below, told.tolerance.above) == (below, above)
     assert drawing.wordings == (line,)
     assert read_drawing(write_drawing(drawing)) == drawing
+
+
+@pytest.mark.parametrize("below, above, text", [
+    (100, 100, "+-0.2"), (-100, 100, "+0.1+0.1"), (-200, 100, "+0.1+0.2"), (100, 100, "about"),
+    (Fraction(1, 2), Fraction(1, 2), "+-0.5deg")])
+def test_a_tolerance_that_is_not_its_text_is_unsound(below, above, text):
+    drawing = read_drawing(EDGE + "length A 40\n")
+    tolerance = Tolerance(Fraction(below), Fraction(above), text)
+    told = replace(drawing.constraints[0], tolerance=tolerance)
+    with pytest.raises(DrawingUnsound, match="constraint 1 .*: " + re.escape(f"'{text}'")):
+        checked(replace(drawing, constraints=(told,)))
 
 
 def test_an_angle_has_one_in_degrees():

@@ -18,6 +18,7 @@ from pertxogai.drawing.numbers import (
     MOST_MM, MOST_RATIO, angle_text, degrees_of, mm_text, um_of)
 from pertxogai.drawing.references import DATUM_NAMES, Pair, PointRef, ShapeRef, Which
 from pertxogai.drawing.refusal import WordFault
+from pertxogai.drawing.tolerances.tolerance import read_tolerance, split_tolerance
 from pertxogai.drawing.values.expression import Expression
 from pertxogai.exact import whole_up
 
@@ -48,6 +49,17 @@ def check_expression(scene: NamedShapes, constraint: Constraint) -> None:
                         "remove the expression, or compute the value from it")
     if isinstance(constraint, (XDistance, YDistance, AngleBetween)):
         _check_sign(constraint.expression, constraint.sense)
+
+
+def check_tolerance(constraint: Constraint) -> None:
+    """Raises WordFault where the tolerance of a constraint isn't what its text says."""
+    if not isinstance(constraint, VALUED) or constraint.tolerance is None:
+        return
+    tolerance = constraint.tolerance
+    _, word = split_tolerance(f"0 {tolerance.text}")
+    if read_tolerance(word, isinstance(constraint, AngleBetween)) != tolerance:
+        raise WordFault(tolerance.text, "isn't the text of the constraint's tolerance: write both "
+                        "alike, such as +0.2-0.1, and the greater deviation first")
 
 
 def _check_sign(expression: Expression, sense: Sense) -> None:

@@ -7,7 +7,8 @@ from collections.abc import Iterator
 from fractions import Fraction
 
 from pertxogai.drawing.checks import MOST_UM, check_point, check_size
-from pertxogai.drawing.constraint_checks import check_constraint, check_expression
+from pertxogai.drawing.constraint_checks import (
+    check_constraint, check_expression, check_tolerance)
 from pertxogai.drawing.drawing import Drawing
 from pertxogai.drawing.geometry import Anchor, Arc, Circle, Segment, Shape
 from pertxogai.drawing.named_shapes import NamedShapes, points_of, shares, spot_of
@@ -72,6 +73,7 @@ def _constraint_faults(drawing: Drawing, sound: Drawing) -> Iterator[DrawingUnso
                 check_name(constraint.name, names)
             if id(constraint) not in known:
                 check_constraint(drawing.scene, constraint)
+                check_tolerance(constraint)
             if id(constraint) not in known or not of_values:
                 check_expression(drawing.scene, constraint)
         except WordFault as fault:
