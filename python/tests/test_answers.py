@@ -318,6 +318,39 @@ def test_an_edge_that_turned_about_is_warned_of(program):
             for each in found.warnings] == [(DepartureKind.TURNED, ("Step",))]
 
 
+@pytest.mark.parametrize(("radius", "gone"), [("7", [(DepartureKind.GONE, ("Flat",))]), ("7.001", [])])
+def test_an_edge_that_came_to_nothing_is_warned_of(program, radius, gone):
+    """The flat of a shaft, 7 away from the centre: at the radius 7 it is a point of the circle."""
+    text = ("segment Flat 7 -7 7 7\narc Round 0 0 Flat.end Flat.start\n"
+            f"radius Round {radius}\ndistance Round Flat 7\n")
+    found = judge(read_drawing(text), program)
+    assert [(each.departure, each.shapes) for each in found.warnings] == gone
+
+
+@pytest.mark.parametrize(("x", "told"), [
+    ("80", []), ("0", []),
+    ("80.001", ["Post.start lies beyond the end of Base, but is drawn between its ends"]),
+    ("-0.001", ["Post.start lies beyond the end of Base, but is drawn between its ends"])])
+@pytest.mark.parametrize("line", ["", "construction ", "outer "])
+def test_a_point_that_leaves_its_edge_is_warned_of(program, line, x, told):
+    text = (f"{line}segment Base 0 0 80 0\nsegment Post 50 0 50 41\non Post.start Base\n"
+            f"vertical Post\nx Post.start {x}\nlength Post 40\n")
+    text += "" if line == "outer " else "fixed Base\n"
+    found = judge(read_drawing(text), program)
+    assert [each.text() for each in found.warnings] == ([] if line else told)
+
+
+def test_a_point_that_is_drawn_beyond_its_edge_may_lie_there(program):
+    text = ("segment Base 0 0 80 0\nsegment Post 90 0 90 41\nfixed Base\non Post.start Base\n"
+            "vertical Post\nx Post.start 100\nlength Post 40\n")
+    assert not judge(read_drawing(text), program).warnings
+
+
+def test_the_shortest_edge_has_a_length(program):
+    text = "segment Up 0 0 16 -8\ncoincident Up.start Origin\nangle Up +4/3\nlength Up 0.001\n"
+    assert not judge(read_drawing(text), program).warnings
+
+
 def test_a_corner_on_the_other_side_is_warned_of(program):
     text = ("segment Base 0 0 40 0\nsegment Up Base.end 41 20\ncoincident Base.start Origin\nhorizontal Base\n"
             "length Base 40\ny Base.end Up.end -20\nvertical Up\n")

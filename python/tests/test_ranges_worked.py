@@ -204,6 +204,35 @@ radius Disc 20
 Size: radius Bore 6
 Off: x Bore 3
 """
+SHAFT = """segment Flat 7 -7 7 7
+arc Round 0 0 Flat.end Flat.start
+Size: radius Round 10
+Off: distance Round Flat 7
+"""
+POST = """segment Base 0 0 80 0
+segment Post 50 0 50 41
+coincident Base.start Origin
+horizontal Base
+Long: length Base 80
+on Post.start Base
+vertical Post
+Place: x Post.start 50
+length Post 40
+"""
+BARS = """rectangle Window 0 0 110 60
+segment Bar1 30 0 30 60
+segment Bar2 50 0 50 60
+coincident WindowBottom.start Origin
+length WindowBottom 100
+length WindowLeft 60
+vertical Bar1 Bar2
+on Bar1.start WindowBottom
+on Bar2.start WindowBottom
+on Bar1.end WindowTop
+on Bar2.end WindowTop
+First: distance Bar1 WindowLeft 30
+Second: distance Bar2 Bar1 20
+"""
 STEM = "value V 45\nsegment S Origin 40 0\nhorizontal S\nlength S "
 ARM = """segment S Origin 40 0
 segment T Origin -20 20
@@ -271,6 +300,13 @@ def range_of(text: str, name: str) -> Range:
     # The bore stays within the disc, whose centre may lie in it or not.
     (ECCENTRIC, "Size", "0.001", "17.001"),
     (ECCENTRIC, "Off", "0", "14.001"),
+    # The post stays on its base, and the bars on the sills of their window.
+    (POST, "Place", "0", "80"),
+    (POST, "Long", "50", "1000000"),
+    (BARS, "First", "0.001", "80"),
+    (BARS, "Second", "0.001", "70"),
+    (SHAFT, "Size", "7.001", "1000000"),
+    (SHAFT, "Off", "0.001", "9.999"),
     # 1000/0.001 is the greatest length, 1000/1000000 the least.
     (STEM + "1000/(V-20)\n", "V", "20.001", "1000020"),
     # sqrt(30*30 - 900) is no length, and sqrt(1000000*1000000 - 900) is less than the greatest.
@@ -299,6 +335,15 @@ def test_ends_of_angles_are_those_by_hand(text: str, name: str, low: str, high: 
     assert found.is_clear
 
 
-def test_an_edge_that_comes_to_nothing_is_named() -> None:
-    found = range_of(ROUNDED, "Size")
-    assert found.high.fault.text == "Right has no length there"
+@pytest.mark.parametrize(("text", "name", "why"), [
+    (ROUNDED, "Size", "Right has no length there"),
+    # At 10 the flat is 10 from the centre, as far as the circle.
+    (SHAFT, "Off", "Flat has no length there")])
+def test_an_edge_that_comes_to_nothing_is_named(text: str, name: str, why: str) -> None:
+    assert range_of(text, name).high.fault.text == why
+
+
+def test_a_point_that_leaves_its_edge_is_named() -> None:
+    found = range_of(POST, "Place")
+    assert found.high.fault.text == (
+        "Post.start lies beyond the end of Base, but is drawn between its ends")

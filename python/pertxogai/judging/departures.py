@@ -1,5 +1,6 @@
-"""Where the placed shape departs from the drawn one: edges turned about, corners on the other
-side, crossings; and, however it is drawn, which edges turn back on each other.
+"""Where the placed shape departs from the drawn one: edges turned about or shrunk to nothing,
+corners on the other side, crossings, points beyond the ends of edges; and, however it is drawn,
+which edges turn back on each other.
 
 All is by whole numbers of nanometres. A drawing that isn't tied to the datum's directions is
 compared as it lies once it has been turned, as a whole, the way that fits best."""
@@ -11,9 +12,11 @@ from enum import Enum
 from functools import cached_property
 
 from pertxogai.drawing import Arc, Circle, Drawing, Segment
-from pertxogai.exact import Vector, cross, dot
+from pertxogai.exact import Vector, cross, dot, square
 from pertxogai.judging.cusps import Corners, Cusp
-from pertxogai.judging.edges import Chord, Edge, Edges, boxes_meet, corners, leaders_of
+from pertxogai.judging.edge_points import edge_points, is_beyond
+from pertxogai.judging.edges import (
+    LEAST_NM, Chord, Edge, Edges, boxes_meet, corners, leaders_of)
 from pertxogai.judging.insides import Loops
 from pertxogai.judging.measure.solution import Solution
 from pertxogai.judging.rims import Rim, Round
@@ -23,9 +26,11 @@ class DepartureKind(Enum):
     """How a placed shape differs from the drawn one."""
 
     TURNED = "runs the other way than it is drawn"
+    GONE = "has no length, but is drawn with one"
     OTHER_SIDE = "turns the other way than it is drawn"
     CROSSES = "cross, but are drawn apart"
     LEAVES = "is drawn on the other side of the outline"
+    BEYOND = "lies beyond the end of"
 
 
 @dataclass(frozen=True)
@@ -41,6 +46,9 @@ class Departure:
             case DepartureKind.LEAVES:
                 thing, edge = self.shapes
                 return f"{thing} {self.departure.value}, at {edge}"
+            case DepartureKind.BEYOND:
+                point, edge = self.shapes
+                return f"{point} {self.departure.value} {edge}, but is drawn between its ends"
             case DepartureKind.OTHER_SIDE:
                 return f"the corner of {' and '.join(self.shapes)} {self.departure.value}"
             case _:
@@ -72,6 +80,7 @@ class Comparison:
         self._outline = [each for each in self._segments if not each.construction]
         self._rims = [each for each in drawing.geometry if isinstance(each, Circle | Arc)
                       and not each.construction and each.name in sized]
+        self._edge_points = [*edge_points(drawing)]
         self._ends = [leaders_of(drawing, each) for each in self._outline]
         self._corners = corners(self._ends)
         self._loops = Loops([*self._ends, *(leaders_of(drawing, each) if isinstance(each, Arc)
@@ -90,10 +99,10 @@ class Comparison:
         """Every departure of such a drawing. Raises MissingPlace."""
         outline = [*map(edges.of, self._outline)]
         rims = [Rim.of(edges.drawing, edges.solution, each) for each in self._rims]
-        return (*_reversals([*map(edges.of, self._segments)], free), *self._turned(outline),
-                *self._crossings(outline), *_cut_rims(outline, rims),
+        return (*_reversals([*map(edges.of, self._segments)], free), *_gone(outline),
+                *self._turned(outline), *self._crossings(outline), *_cut_rims(outline, rims),
                 *(Departure(DepartureKind.LEAVES, each)
-                  for each in self._loops.leavers([*outline, *rims])))
+                  for each in self._loops.leavers([*outline, *rims])), *self._beyond(edges))
 
     def _turned(self, outline: Sequence[Edge]) -> Iterator[Departure]:
         """The corners that turn to the other side than they are drawn."""
@@ -111,6 +120,12 @@ class Comparison:
                 if set(self._ends[first]).isdisjoint(self._ends[second]):
                     yield Departure(DepartureKind.CROSSES, (one.name, other.name))
 
+    def _beyond(self, edges: Edges) -> Iterator[Departure]:
+        """The points that lie beyond the end of an edge that they are drawn on."""
+        for each in self._edge_points:
+            if is_beyond(edges.of(each.edge).placed, edges.spot(each.point)):
+                yield Departure(DepartureKind.BEYOND, (str(each.point), each.edge.name))
+
 
 def _reversals(edges: Sequence[Edge], free: bool) -> Iterator[Departure]:
     """The edges that run against their drawn way, once that is turned by the turn of all."""
@@ -119,6 +134,13 @@ def _reversals(edges: Sequence[Edge], free: bool) -> Iterator[Departure]:
         first, second = edge.drawn.way, edge.placed.way
         if dot(turn, (dot(first, second), cross(first, second))) < 0:
             yield Departure(DepartureKind.TURNED, (edge.name,))
+
+
+def _gone(outline: Sequence[Edge]) -> Iterator[Departure]:
+    """The edges that are placed without a length, and drawn with one."""
+    for edge in outline:
+        if square(edge.placed.way) < LEAST_NM ** 2 <= square(edge.drawn.way):
+            yield Departure(DepartureKind.GONE, (edge.name,))
 
 
 def _turn(edges: Sequence[Edge]) -> Vector:

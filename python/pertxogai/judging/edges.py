@@ -10,6 +10,8 @@ from pertxogai.drawing import Arc, Distance, Drawing, PointRef, Segment, Which
 from pertxogai.exact import Vector, between, cross, whole_near
 from pertxogai.judging.measure.solution import Solution
 
+LEAST_NM = 10
+"""What is shorter may be nothing, since places are rounded."""
 STRAIGHT_NM = 1000
 """A corner in which an end is no further off the line of the other edge is none."""
 
@@ -106,6 +108,11 @@ class Edges:
             known = self._made[name] = self._edge(name, ends_of(side))
         return known
 
+    def spot(self, point: PointRef) -> Vector:
+        """Where a point is placed, in whole nm. Raises MissingPlace."""
+        x, y = self.solution.spot(point)
+        return whole_near(x), whole_near(y)
+
     def leaders(self, edge: Edge) -> Ends:
         """The points that stand for all that are one with its ends."""
         start, end = map(self.drawing.meetings.leader, edge.ends)
@@ -113,8 +120,7 @@ class Edges:
 
     def _edge(self, name: str, ends: Ends) -> Edge:
         start, end = map(self.drawing.scene.drawn_nm, ends)
-        placed = [(whole_near(x), whole_near(y)) for x, y in map(self.solution.spot, ends)]
-        return Edge(name, ends, Chord(start, end), Chord(*placed))
+        return Edge(name, ends, Chord(start, end), Chord(*map(self.spot, ends)))
 
 
 class Boxed(Protocol):

@@ -7,7 +7,7 @@ from enum import Enum
 from typing import assert_never
 
 from pertxogai.judging import Failure, Names
-from pertxogai.judging.departures import Warned
+from pertxogai.judging.departures import Departure, DepartureKind, Warned
 from pertxogai.judging.good import Lack, Reason, mirrored_text
 from pertxogai.judging.measure import Deviation, Unit, amount_text, units_text
 from pertxogai.program.reports import (
@@ -42,12 +42,13 @@ class FaultKind(Enum):
     OFF = "off"
     """A constraint doesn't hold within the limit."""
     NO_LENGTH = "no length"
-    """An edge shrinks to nothing, so that a constraint on its direction doesn't hold."""
+    """An edge shrinks to nothing, so that its direction isn't defined."""
     UNSIZED = "no size"
     """The positions don't give the size of a circle any more."""
     DEPARTURE = "departure"
     """Something is placed in another orientation than drawn: an edge reversed, a corner on the
-    other side, edges or circles that cross; or two edges turn back on each other."""
+    other side, edges or circles that cross, a point beyond the end of its edge; or two edges turn
+    back on each other."""
     NOT_GOOD = "not good"
     """It isn't good for another reason, for example because a dimension is missing by rank."""
 
@@ -61,7 +62,12 @@ class Fault:
 
 
 def of_warnings(warnings: Sequence[Warned]) -> Fault:
-    """That something lies otherwise than it is drawn, or that edges turn back on each other."""
+    """That edges come to nothing; else that something lies otherwise than it is drawn, or that
+    edges turn back on each other."""
+    gone = [name for each in warnings for name in each.shapes
+            if isinstance(each, Departure) and each.departure is DepartureKind.GONE]
+    if gone:
+        return of_gone(gone)
     return Fault(FaultKind.DEPARTURE, _some("; ", [each.text() for each in warnings]))
 
 

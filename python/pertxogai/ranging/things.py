@@ -16,6 +16,7 @@ from pertxogai.drawing import (
     PointRef, Segment, Tangent, Which)
 from pertxogai.exact import between, cross, dot
 from pertxogai.judging.departures import Departure, DepartureKind, Warned
+from pertxogai.judging.edge_points import AT_END_NM, EdgePoint, edge_points, is_beyond
 from pertxogai.judging.edges import Chord, Edge, Edges, leaders_of, name_of
 from pertxogai.judging.rims import Rim, Round
 
@@ -39,8 +40,9 @@ CHORD_TURN = pi / 24
 @dataclass(frozen=True)
 class Placement:
     """One placement. ends: of each piece the two ends, in nm; radius, bulge: as a Piece has them.
-    runs: how far each edge runs its drawn way, in nm, and how far each two straight things that go
-    through one point are from one line."""
+    runs: how far each edge runs its drawn way, in nm; how far each two straight things that go
+    through one point are from one line; and how far each point that lies on an edge is from being
+    beyond either end."""
 
     ends: Array
     radius: Array
@@ -54,7 +56,7 @@ class Things:
     rims: the edges, and the circles and arcs, that may cross. counts: of how many pieces each of
     these is. pairs: the places of two of them that are drawn apart and end nowhere together. runs:
     what runs its drawn way: nothing, where nothing ties it to the datum's directions. meeting: each
-    two straight things that locate one point."""
+    two straight things that locate one point. on_edges: the points that lie on an edge."""
 
     outline: tuple[Segment, ...]
     rims: tuple[Circle | Arc, ...]
@@ -62,6 +64,7 @@ class Things:
     pairs: Indices
     runs: tuple[Segment, ...]
     meeting: tuple[tuple[Straight, Straight], ...]
+    on_edges: tuple[EdgePoint, ...]
 
     @staticmethod
     def of(edges: Edges, known: Collection[Warned], is_free: bool) -> Things:
@@ -77,7 +80,8 @@ class Things:
                  if _may_cross(edges, things[places[0]], things[places[1]], known)]
         return Things(outline, rims, tuple(_count(each.drawn) for each in things),
                       np.array(pairs, np.intp).reshape(-1, 2), () if is_free else segments,
-                      tuple(_meeting(edges.drawing, segments)))
+                      tuple(_meeting(edges.drawing, segments)),
+                      tuple(each for each in edge_points(edges.drawing) if _holds(edges, each)))
 
     def starts(self) -> Indices:
         """The place of the first piece of each thing."""
@@ -90,7 +94,8 @@ class Things:
         pieces = np.array([piece for each, count in zip(things, self.counts)
                            for piece in _pieces(each.placed, count)], float).reshape(-1, 6)
         turns = (_turn(_edge(edges, one), _edge(edges, other)) for one, other in self.meeting)
-        runs = np.array([*(_run(edges.of(each)) for each in self.runs), *turns], float)
+        rooms = (room for each in self.on_edges for room in _rooms(edges, each))
+        runs = np.array([*(_run(edges.of(each)) for each in self.runs), *turns, *rooms], float)
         return Placement(pieces[:, :4].reshape(-1, 2, 2), pieces[:, 4], pieces[:, 5], runs)
 
 
@@ -108,6 +113,19 @@ def _edge(edges: Edges, straight: Straight) -> Edge:
 def _run(edge: Edge) -> float:
     """How far an edge runs its drawn way."""
     return float(dot(edge.drawn.way, edge.placed.way)) / (hypot(*edge.drawn.way) or 1)
+
+
+def _holds(edges: Edges, one: EdgePoint) -> bool:
+    """Whether a point that lies on an edge is placed between its ends."""
+    return not is_beyond(edges.of(one.edge).placed, edges.spot(one.point))
+
+
+def _rooms(edges: Edges, one: EdgePoint) -> tuple[float, float]:
+    """How far a point that lies on an edge may go on until it lies beyond the start, or the end."""
+    edge = edges.of(one.edge).placed
+    long = hypot(*edge.way)
+    along = float(dot(edge.way, between(edge.start, edges.spot(one.point)))) / (long or 1)
+    return along + AT_END_NM, long - along + AT_END_NM
 
 
 def _meeting(drawing: Drawing, segments: Sequence[Segment]) -> Iterator[tuple[Straight, Straight]]:
