@@ -94,6 +94,15 @@ def test_a_triangle_goes_as_far_as_its_sides_reach(program, name, low, high):
         assert {"Base", "First", "Second"} <= set(end.fault.text.replace(",", " ").split())
 
 
+def test_a_reason_names_the_numbers_of_the_drawing(program):
+    plain = TRIANGLE.replace("Base: ", "").replace("First: ", "").replace("Second: ", "")
+    found = range_of(plain, "constraint 3 (x A B 40)", program)
+    for end in (found.low, found.high):
+        assert end.fault.text.endswith(
+            "constraint 3 (x A B 40), constraint 4 (distance A C 30), constraint 5 "
+            "(distance B C 35)")
+
+
 def test_an_angle_is_told_to_a_ten_thousandth_of_a_degree(program):
     text = ("segment Base 0 0 40 0\nsegment Arm Base.start 20 30\ncoincident Base.start Origin\n"
             "horizontal Base\nlength Base 40\nlength Arm 30\nTilt: angle Base Arm 60deg\n")

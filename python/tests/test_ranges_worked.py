@@ -347,3 +347,13 @@ def test_a_point_that_leaves_its_edge_is_named() -> None:
     found = range_of(POST, "Place")
     assert found.high.fault.text == (
         "Post.start lies beyond the end of Base, but is drawn between its ends")
+
+
+def test_what_only_just_reaches_is_told_so() -> None:
+    # The crank's end is 4/5 of its length high: 74 at 92.5, as long as the rod.
+    found = range_of("segment Crank 0 0 19 24\nsegment Rod Crank.end 95 1\n"
+                     "coincident Crank.start Origin\nLong: length Crank 30\nlength Rod 74\n"
+                     "angle Crank 4/3\non Rod.end XAxis\n", "Long")
+    assert found.high.at == Fraction("92.499")
+    assert found.high.fault.text.startswith(
+        "Rod.end can't be placed: the distance only just reaches the line (step 3, reach ")

@@ -4,10 +4,12 @@ from __future__ import annotations
 from collections.abc import Sequence
 from dataclasses import dataclass
 from enum import Enum
+from fractions import Fraction
 from typing import assert_never
 
 from pertxogai.judging import Failure, Names
 from pertxogai.judging.departures import Departure, DepartureKind, Warned
+from pertxogai.judging.faults import Unit as AmountUnit
 from pertxogai.judging.good import Lack, Reason, mirrored_text
 from pertxogai.judging.measure import Deviation, Unit, amount_text, units_text
 from pertxogai.program.reports import (
@@ -25,6 +27,9 @@ _FLAT = {"height": "the triangle is flat", "base": "two points coincide",
          "rise": "a line at these distances from both points only just exists",
          "det": "the lines don't cross", "x": "the lines don't cross", "y": "the lines don't cross"}
 """What it means that a number of this name can't be told from 0."""
+_JUST_MM2 = Fraction(1, 10 ** 6)
+"""Where what is under a root is below 0 by less, the dimensions miss each other by less than a
+micrometre."""
 _TOO_LARGE = "the numbers grow too large to compute with"
 
 
@@ -151,13 +156,20 @@ def _cause(failure: Failure) -> str:
     beneath = f", by {_some(', ', failure.dimensions)}" if failure.dimensions else ""
     match failure.fault:
         case NumberFault(at, cause):
-            words = (_FLAT if cause is Cause.FLAT else _GAPS).get(at.quantity)
+            words = (_FLAT if cause is Cause.FLAT or _is_just(failure) else _GAPS).get(at.quantity)
             said = f"step {at.step}, {at.quantity} {cause.value}"
             return (f"{words} ({said})" if words else said) + beneath
         case RangeFault(at):
             return f"{_TOO_LARGE} (step {at.step}, {at.quantity} range){beneath}"
         case _:
             return f"{_TOO_LARGE}{beneath}"
+
+
+def _is_just(failure: Failure) -> bool:
+    """Whether the dimensions meet but for less than a micrometre."""
+    amount = failure.amount
+    return (amount is not None and amount.unit is AmountUnit.SQUARE_MM
+            and amount.high > -_JUST_MM2)
 
 
 def _some(between: str, texts: Sequence[str]) -> str:

@@ -136,6 +136,7 @@ class Way:
         return of_gone(gone) if gone else of_deviation(off, off.called(self.drawing))
 
     def _of_failure(self, names: Names, fault: ProgramFault) -> Fault:
+        """Why the program can't place it, by the numbers that stand in the drawing."""
         plan = read_plan(written_by(self.program, "plan", names.spelled.sketch.text()))
         return of_failure(names, failure(names, fault, plan))
 
@@ -143,7 +144,8 @@ class Way:
         """By whichever way is well and placed."""
         judged = judge_at_once(drawing, self.program, limit=self.limit)
         if judged.failure is not None:
-            return of_failure(judged.names, judged.failure)
+            return self._of_failure(replace(judged.names, drawing=self.drawing),
+                                    judged.failure.fault)
         if judged.surplus:
             return of_surplus([self.drawing.called(each.number) for each in judged.surplus])
         if judged.solution is None:
