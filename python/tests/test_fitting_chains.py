@@ -321,3 +321,42 @@ def test_what_has_no_places_is_told_and_what_does_not_hang_on_it_too(program) ->
     assert found.answer is Answer.UNSURE and "length A 100 +-0.5" in found.unplaced[0]
     assert ("  some parts within tolerance can't be placed: with constraint 3 (length A 100 +-0.5) "
             "off by 0.5 mm: it can't be placed as drawn" in fit_lines("triangle", found))
+
+
+# -- more than one way to count
+
+LINKS = """segment Floor 0 0 40 0
+coincident Floor.start Origin
+horizontal Floor
+length Floor 40
+segment L1 35 30 35 24
+segment L2 L1.end 35 18
+segment L3 L2.end 35 12
+vertical L1 L2 L3
+x L1.start 35
+y L1.start 30
+length L1 6 +-0.1
+length L2 6 +-0.1
+length L3 6 +-0.1
+segment Bar 5 10 L3.end
+x Bar.start 5
+y Bar.start 10
+"""
+
+
+@pytest.mark.parametrize("high, answer", [("12.3", Answer.FITS), ("12.2", Answer.BEYOND)])
+def test_each_end_of_a_bar_that_tilts_has_a_worst_case_of_its_own(high, answer, program) -> None:
+    # The near end stands 10 high. The further one hangs from 30 by three links of 6 within 0.1:
+    # 12, and 12.3 where all are short.
+    (gap,) = checks(f"check Gap distance Floor Bar .. {high}\n{LINKS}", program)
+    assert worst(gap) == (10, 12.3) and gap.answer is answer
+    assert [round(each.per_unit, 4) for each in gap.shares] == [-1, -1, -1]
+    assert gap.worst.is_one_way and gap.by_squares is None
+
+
+def test_what_a_bar_that_tilts_is_tightened_to_holds_at_both_ends(program) -> None:
+    # Two links of 6.1 leave 0.1 of the 0.3: with the third at 6 within 0.05 it is 12.25.
+    (gap,) = checks(f"check Gap distance Floor Bar .. 12.25\n{LINKS}", program)
+    assert gap.answer is Answer.BEYOND and gap.tightened == 50
+
+

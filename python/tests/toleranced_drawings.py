@@ -112,8 +112,8 @@ class _Search:
         self._dimensions = found.dimensions.toleranced
         self._placer = Placer(found.drawing, program, Limit())
         solution = found.good.solution
-        self._placer.begin(self._dimensions, [
-            Gauge.of(each.check, found.drawing, solution) for each in found.known])
+        gauges = [Gauge.of(each.check, found.drawing, solution) for each in found.known]
+        self._placer.begin(self._dimensions, [gauge for each in gauges for gauge in each])
         self.wrong: dict[str, None] = {}
 
     @property
@@ -153,10 +153,10 @@ class _Search:
             case = self._placer.case(offs)
         except Unplaced:
             return None
-        for each, low, high in zip(self._found.known, case.values, case.highs):
+        for each, value in zip(self._found.known, case.values):
             told = each.placed if each.worst.is_one_way else each.reckoned
-            off = max(told.least - low, high - told.greatest)
+            off = max(told.least - value, value - told.greatest)
             if off > NOISE:
-                self.wrong[f"{each.check.line()}: {low} .. {high} is {off} outside of {told.least} "
-                           f".. {told.greatest}"] = None
+                self.wrong[f"{each.check.line()}: {value} is {off} outside of {told.least} .. "
+                           f"{told.greatest}"] = None
         return case.values

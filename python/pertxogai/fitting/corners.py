@@ -1,5 +1,6 @@
-"""The worst case of a check: the corners of the tolerances at which it is least and greatest, or
-what lies between them where it turns round, each placed by the program and measured there."""
+"""The worst case of what a gauge measures: the corners of the tolerances at which it is least and
+greatest, or what lies between them where it turns round, each placed by the program and measured
+there."""
 from __future__ import annotations
 
 from collections.abc import Iterator, Sequence
@@ -37,7 +38,7 @@ SEED = 2768
 
 @dataclass(frozen=True)
 class Worst:
-    """The least and the greatest of a check that were measured, in millionths, and how far the
+    """The least and the greatest that a gauge measured, in millionths, and how far the
     dimensions lie off there. turning: the dimensions, by their places from 0, in which it isn't
     monotone. below, above: how much less and more it may be than what was measured, as it is
     reckoned; nothing where it is monotone and all constraints are met but for rounding."""
@@ -50,6 +51,17 @@ class Worst:
     below: int = 0
     above: int = 0
 
+    @staticmethod
+    def of(gauges: Sequence[Worst]) -> Worst:
+        """That of a check which several gauges measure: the least and the greatest of all."""
+        low = min(gauges, key=lambda each: each.least)
+        high = max(gauges, key=lambda each: each.greatest)
+        below = low.least - min(each.least - each.below for each in gauges)
+        above = max(each.greatest + each.above for each in gauges) - high.greatest
+        turning = frozenset[int]().union(*(each.turning for each in gauges))
+        return Worst(low.least, high.greatest, low.at_least, high.at_greatest, turning, below,
+                     above)
+
     @property
     def is_one_way(self) -> bool:
         """Whether the check was monotone in each dimension wherever that was tried."""
@@ -57,7 +69,7 @@ class Worst:
 
 
 class Corners:
-    """The corners of one check. number: the check's place, from 0."""
+    """The corners of what one gauge measures. number: the gauge's place, from 0."""
 
     def __init__(self, placer: Placer, effects: Sequence[Effect], number: int) -> None:
         self._placer, self._effects, self._number = placer, effects, number
@@ -72,7 +84,7 @@ class Corners:
         (at_least, low), (at_greatest, high) = (
             self._extreme(starts[side], unsure, side) for side in (-1, 1))
         turning = low | high | self._turning()
-        least, greatest = self._at(at_least, -1), self._at(at_greatest, 1)
+        least, greatest = self._at(at_least), self._at(at_greatest)
         below, above = self._beyond(least, greatest, len(unsure)) if turning else (0, 0)
         loose = self._placer.loose_nm
         return Worst(least, greatest, at_least, at_greatest, turning, below + loose, above + loose)
@@ -86,10 +98,9 @@ class Corners:
         return tuple(off if each.gives() > NOISE else each.base.off
                      for off, each in zip(offs, self._effects))
 
-    def _at(self, offs: Offs, side: int) -> int:
-        """The least that the check measures in a case, or the greatest where the side is 1."""
-        case = self._case(offs)
-        return (case.values if side < 0 else case.highs)[self._number]
+    def _at(self, offs: Offs) -> int:
+        """What is measured in a case."""
+        return self._case(offs).values[self._number]
 
     def _unsure(self, corners: Sequence[Offs]) -> list[int]:
         """The dimensions whose effect may have another sign at a corner than at the base: all in
@@ -111,11 +122,11 @@ class Corners:
     def _move_together(self, corner: Offs, places: Sequence[int]) -> bool:
         """Whether dimensions that don't move the check by themselves do so together: each two of
         them are put to unlike ends in one of a few cases."""
-        value = self._at(corner, 1)
+        value = self._at(corner)
         for bit in range(len(places).bit_length()):
             others = {place: self._other_end(place, corner[place])
                       for index, place in enumerate(places) if index >> bit & 1}
-            if abs(self._at(_with(corner, others), 1) - value) > NOISE:
+            if abs(self._at(_with(corner, others)) - value) > NOISE:
                 return True
         return False
 
@@ -128,22 +139,22 @@ class Corners:
         if self._gain(start, best, side) <= NOISE and not self._turning():
             return start, frozenset()
         best, left = self._worst_known(best, side), MOST_TRIED
-        begins = sorted(self._begins(start, unsure), key=lambda offs: -side * self._at(offs, side))
+        begins = sorted(self._begins(start, unsure), key=lambda offs: -side * self._at(offs))
         for begin in (best, *begins[:MOST_BEGUN]):
             offs, left = self._climbed(begin, unsure, side, left)
-            best = max(best, offs, key=lambda case: side * self._at(case, side))
+            best = max(best, offs, key=lambda case: side * self._at(case))
         best = self._within(best, unsure, side)
         is_worse = self._gain(start, best, side) > NOISE
         return best, self._changed(start, best, side) if is_worse else frozenset()
 
     def _gain(self, start: Offs, other: Offs, side: int) -> int:
         """How much worse another case is."""
-        return side * (self._at(other, side) - self._at(start, side))
+        return side * (self._at(other) - self._at(start))
 
     def _worst_known(self, start: Offs, side: int) -> Offs:
         """The worst case that is known; the start where none is worse."""
         known = (offs for offs, _ in self._placer.within())
-        return max((start, *known), key=lambda offs: side * self._at(offs, side))
+        return max((start, *known), key=lambda offs: side * self._at(offs))
 
     def _begins(self, start: Offs, unsure: Sequence[int]) -> Iterator[Offs]:
         """The corners from which the search goes on."""
@@ -156,19 +167,19 @@ class Corners:
         """A case from which it is no worse to put one of the unsure between its ends: within, and
         where by a parabola the check turns round."""
         for _ in range(MOST_ROUNDS):
-            before = self._at(offs, side)
+            before = self._at(offs)
             for place in unsure:
                 offs = self._best_within(offs, place, side)
-            if abs(self._at(offs, side) - before) <= NOISE:
+            if abs(self._at(offs) - before) <= NOISE:
                 break
         return offs
 
     def _best_within(self, offs: Offs, place: int, side: int) -> Offs:
         """The worst case of those in which one of the unsure lies otherwise."""
         three = [_with(offs, {place: off}) for off in ends_of(self._effects[place].dimension)]
-        where = turning_at([(case[place], self._at(case, side)) for case in three])
+        where = turning_at([(case[place], self._at(case)) for case in three])
         there = [] if where is None else self._around(_with(offs, {place: where}), place)
-        return max([offs, *three, *there], key=lambda case: side * self._at(case, side))
+        return max([offs, *three, *there], key=lambda case: side * self._at(case))
 
     def _around(self, offs: Offs, place: int) -> list[Offs]:
         """A case between the ends of a dimension, or those beside it; none where it can't be placed
@@ -188,12 +199,12 @@ class Corners:
                  left: int) -> tuple[Offs, int]:
         """A corner from which no other end of one of the unsure makes it worse, and how many may
         still be tried of those that are left."""
-        value = side * self._at(offs, side)
+        value = side * self._at(offs)
         for _ in range(MOST_ROUNDS):
             before = value
             for place, state in ((place, it) for place in unsure for it in self._states(place)):
                 other, left = _with(offs, {place: state}), left - 1
-                there = side * self._at(other, side) if left > 0 else value
+                there = side * self._at(other) if left > 0 else value
                 if there > value:
                     offs, value = other, there
             if value <= before + NOISE:
@@ -204,9 +215,9 @@ class Corners:
         """The dimensions that lie otherwise in the worst case than at the start, and move the
         check there; where none does by itself, all of them."""
         other = [place for place, (one, two) in enumerate(zip(start, best)) if one != two]
-        value = self._at(best, side)
+        value = self._at(best)
         moving = [place for place in other
-                  if abs(self._at(_with(best, {place: start[place]}), side) - value) > NOISE]
+                  if abs(self._at(_with(best, {place: start[place]})) - value) > NOISE]
         return frozenset(moving or other)
 
     def _turning(self) -> frozenset[int]:

@@ -12,13 +12,19 @@ from pertxogai.fitting.corners import Corners, Worst
 from pertxogai.fitting.effects import Effect, effects
 from pertxogai.fitting.gauges import Gauge, NoSide
 from pertxogai.fitting.placing import NOISE, Placer, Unplaced
-from pertxogai.fitting.results import CheckedFit, Fit, NoFit, Range, Share, UnknownFit
+from pertxogai.fitting.results import (
+    CheckedFit, Fit, Limits, NoFit, Range, Share, UnknownFit)
 from pertxogai.fitting.tightening import tightened
 from pertxogai.fitting.toleranced import MILLIONTHS, Dimensions, Toleranced
 from pertxogai.judging import GoodJudgement, JudgedDrawing, NotGood, good_of
 from pertxogai.judging.measure import Limit
 from pertxogai.program import Solver
 
+Gauges = tuple[Gauge, ...]
+"""Those of one check."""
+Checks = tuple[CheckedFit | UnknownFit, ...]
+MOST_PASSES = 4
+"""All checks are worked out at most this number of times."""
 LITTLE = Fraction(1, 100)
 """Of the sum of the squares, or of the worst case: what is no more may be passed over."""
 
@@ -35,32 +41,39 @@ def fit_of(drawing: Drawing, program: Solver, limit: Limit) -> Fit | NoFit:
         return NoFit(tuple(f"with nominal dimensions it isn't good: {each.text}"
                            for each in good.reasons))
     dimensions = Dimensions.of(drawing, good.solution)
-    gauges = [_gauge(each, good) for each in said]
-    placer.begin(dimensions.toleranced, [each for each in gauges if isinstance(each, Gauge)])
+    gauges = [_gauges(each, good) for each in said]
+    placer.begin(dimensions.toleranced, [gauge for each in gauges if not
+                                         isinstance(each, UnknownFit) for gauge in each])
     try:
         placer.as_given()
         placer.base()
     except Unplaced as why:
         return NoFit((str(why),))
-    checks = tuple(_checks(placer, dimensions.toleranced, gauges))
-    if _are_exceeded(placer, checks):
-        checks = tuple(_checks(placer, dimensions.toleranced, gauges))
-    checks = _with_gaps(placer, checks)
+    checks = _all_checks(placer, dimensions.toleranced, gauges)
     return Fit(good, dimensions, checks, len(placer.cases), placer.unplaced, placer.between,
                placer.loose_nm)
 
 
-def _are_exceeded(placer: Placer, checks: Sequence[CheckedFit | UnknownFit]) -> bool:
-    """Whether what was placed for one check is worse for another than its worst case."""
+def _all_checks(placer: Placer, dimensions: Sequence[Toleranced],
+                gauges: Sequence[Gauges | UnknownFit]) -> Checks:
+    """What comes of all checks: once more as long as what was placed for one is worse for
+    another."""
+    for _ in range(MOST_PASSES):
+        checks = _with_gaps(placer, tuple(_checks(placer, dimensions, gauges)))
+        if not _are_exceeded(placer, checks):
+            break
+    return checks
+
+
+def _are_exceeded(placer: Placer, checks: Checks) -> bool:
+    """Whether a check is worse in a case that was placed than in its worst case."""
     cases = [case for _, case in placer.within()]
-    return any(isinstance(each, CheckedFit) and any(
-        case.values[each.number] < each.worst.least - NOISE
-        or case.highs[each.number] > each.worst.greatest + NOISE for case in cases)
-        for each in checks)
+    return any(not each.worst.least - NOISE <= case.values[number] <= each.worst.greatest + NOISE
+               for each in checks if isinstance(each, CheckedFit)
+               for number in each.numbers for case in cases)
 
 
-def _with_gaps(placer: Placer, checks: tuple[CheckedFit | UnknownFit, ...],
-               ) -> tuple[CheckedFit | UnknownFit, ...]:
+def _with_gaps(placer: Placer, checks: Checks) -> Checks:
     """The same, each with whether a part that matters to it can't be placed. What is tried to find
     that out may be one more such part."""
     tried = 0
@@ -71,7 +84,7 @@ def _with_gaps(placer: Placer, checks: tuple[CheckedFit | UnknownFit, ...],
     return checks
 
 
-def _gauge(check: Check, good: GoodJudgement) -> Gauge | UnknownFit:
+def _gauges(check: Check, good: GoodJudgement) -> Gauges | UnknownFit:
     try:
         return Gauge.of(check, good.drawing, good.solution)
     except NoSide as why:
@@ -79,37 +92,46 @@ def _gauge(check: Check, good: GoodJudgement) -> Gauge | UnknownFit:
 
 
 def _checks(placer: Placer, dimensions: Sequence[Toleranced],
-            gauges: Sequence[Gauge | UnknownFit]) -> Iterator[CheckedFit | UnknownFit]:
+            gauges: Sequence[Gauges | UnknownFit]) -> Iterator[CheckedFit | UnknownFit]:
     number = 0
     for each in gauges:
         if isinstance(each, UnknownFit):
             yield each
             continue
-        yield _checked(placer, dimensions, number, each)
-        number += 1
+        numbers = tuple(range(number, number + len(each)))
+        yield _checked(placer, dimensions, numbers, each[0])
+        number += len(each)
 
 
-def _checked(placer: Placer, dimensions: Sequence[Toleranced], number: int,
+def _checked(placer: Placer, dimensions: Sequence[Toleranced], numbers: tuple[int, ...],
              gauge: Gauge) -> CheckedFit | UnknownFit:
+    """What comes of one check. numbers: the places of its gauges, from 0; gauge: the first."""
     try:
-        moved = effects(placer, dimensions, number)
-        worst = Corners(placer, moved, number).worst()
+        moved = [effects(placer, dimensions, number) for number in numbers]
+        gauged = tuple(Corners(placer, each, number).worst()
+                       for each, number in zip(moved, numbers))
     except Unplaced as why:
         return UnknownFit(gauge.check, str(why))
+    given, base = placer.as_given().values, placer.base().values
+    squares = (None if placer.tilts(numbers)
+               else _by_squares(base[numbers[0]], moved[0], Worst.of(gauged)))
     low, high = _limits(gauge)
-    nominal = placer.as_given().values[number]
-    base = placer.base().values[number]
-    squares = None if placer.tilts(number) else _by_squares(base, moved, worst)
-    told = CheckedFit(gauge.check, number, low, high, nominal, worst, squares, _shares(moved),
-                      tuple(dimensions))
+    nominal = min(given[number] for number in numbers)
+    told = CheckedFit(gauge.check, numbers, low, high, nominal, gauged, squares,
+                      _shares([_most(each) for each in zip(*moved)]), tuple(dimensions))
     try:
-        return replace(told, tightened=tightened(placer, number, told))
+        return replace(told, tightened=tightened(placer, told))
     except Unplaced:
         return told
 
 
-def _limits(gauge: Gauge) -> tuple[Fraction | None, Fraction | None]:
-    """The limits of a check in millionths."""
+def _most(of_gauges: Sequence[Effect]) -> Effect:
+    """Of what one dimension does to several gauges of a check the most."""
+    return max(of_gauges, key=lambda each: each.gives())
+
+
+def _limits(gauge: Gauge) -> Limits:
+    """The limits of a check as they are written."""
     unit = MILLIONTHS if gauge.check.is_angle else MILLIONTHS // 1000
     low, high = (None if each is None else each * unit
                  for each in gauge.check.limits(gauge.drawing.scene.values))

@@ -2,7 +2,8 @@
 nanometres, angles in millionths of a degree."""
 from __future__ import annotations
 
-from dataclasses import dataclass
+from collections.abc import Sequence
+from dataclasses import dataclass, replace
 from fractions import Fraction
 from math import atan2, degrees
 
@@ -31,53 +32,39 @@ class NoSide(Exception):
 
 @dataclass(frozen=True)
 class Gauge:
-    """Measures one check. sign: what counts as more than 0 without a sign lies where it lies as
-    the drawing is placed: 1 or -1. of_the_rest: whether an angle is what is left to 180 degrees.
-    near: of an angle the turn as the drawing is placed, in millionths: what is measured is within
-    half a turn of it, and so doesn't leap."""
+    """Measures one check; the distance of two segments at one end. sign: what counts as more than 0
+    without a sign lies where it lies as the drawing is placed: 1 or -1. of_the_rest: whether an
+    angle is what is left to 180 degrees. near: of an angle the turn as the drawing is placed, in
+    millionths: what is measured is within half a turn of it, and so doesn't leap. end: of two
+    segments at which end of the second it is measured, 0 or 1."""
 
     check: Check
     drawing: Drawing
     sign: int = 1
     of_the_rest: bool = False
     near: int = 0
+    end: int = 0
 
     @staticmethod
-    def of(check: Check, drawing: Drawing, nominal: Solution) -> Gauge:
-        """The gauge of a check of a drawing that is placed. Raises NoSide."""
-        plain = Gauge(check, drawing)
-        is_signed, there = check.is_signed, plain.measured(nominal)
-        if not is_signed and isinstance(check.asked, SIDED) and abs(there) <= NOTHING:
-            return Gauge(check, drawing, plain._drawn_sign())
-        sign = -1 if there < 0 and not is_signed else 1
+    def of(check: Check, drawing: Drawing, nominal: Solution) -> tuple[Gauge, ...]:
+        """The gauges of a check of a drawing that is placed: one, or of two segments one for each
+        end. Raises NoSide."""
+        ends = range(2) if isinstance(check.asked, ParallelDistance) else range(1)
+        plain = [Gauge(check, drawing, end=end) for end in ends]
+        there = sum(each.measured(nominal) for each in plain)
+        if not check.is_signed and isinstance(check.asked, SIDED) and abs(there) <= NOTHING:
+            return tuple(replace(each, sign=_drawn_sign(plain)) for each in plain)
+        sign = -1 if there < 0 and not check.is_signed else 1
         if not isinstance(check.asked, AngleBetween):
-            return Gauge(check, drawing, sign)
-        rest = not is_signed and plain._is_of_the_rest(check.asked, abs(there))
-        return Gauge(check, drawing, sign, rest, there)
+            return tuple(replace(each, sign=sign) for each in plain)
+        rest = not check.is_signed and plain[0]._is_of_the_rest(check.asked, abs(there))
+        return (Gauge(check, drawing, sign, rest, there),)
 
-    def _drawn_sign(self) -> int:
-        """To which side what is 0 as it is placed lies as it is drawn; to either where the limits
-        are the same to both."""
-        drawing = self.drawing
-        points = {ref: place_nm(drawing.drawn(ref)) for ref in drawing.points()}
-        there = self.measured(Solution(points))
-        if abs(there) <= NOTHING:
-            low, high = self.check.limits(drawing.scene.values)
-            if low is not None and high is not None and low == -high:
-                return 1
-            raise NoSide(f"{self.check.name} is 0 with nominal dimensions and as drawn: draw it on"
-                         " the side where it counts as more than 0")
-        return -1 if there < 0 else 1
-
-    def measured(self, solution: Solution, side: int = -1) -> int:
-        """What it measures there, in millionths; where that is more than one thing the least, or
-        the greatest where the side is 1. Raises MissingPlace."""
+    def measured(self, solution: Solution) -> int:
+        """What it measures there, in millionths. Raises MissingPlace."""
         asked, placed = self.check.asked, Placed(self.drawing, solution)
         if isinstance(asked, AngleBetween):
             return self._angle(asked, placed)
-        if isinstance(asked, ParallelDistance):
-            ends = self._between(placed, asked.first, asked.second)
-            return round(min(ends) if side < 0 else max(ends))
         return round(self.sign * self._length(placed))
 
     def way(self, solution: Solution) -> Way | None:
@@ -103,6 +90,8 @@ class Gauge:
                 return root(square(between(placed.spot(first), placed.spot(second))))
             case PointLineDistance(point, line):
                 return _aside(placed, line, placed.spot(point))
+            case ParallelDistance(first, second):
+                return self._at_end(placed, first, second)
             case XDistance(first, second):
                 return _along(placed, first, second, placed.right())
             case YDistance(first, second):
@@ -114,13 +103,13 @@ class Gauge:
                 return 2 * placed.radius(rim)
         raise AssertionError(self.check)
 
-    def _between(self, placed: Placed, first: ShapeRef, second: ShapeRef) -> list[Number]:
-        """How far both ends of a segment lie from another, on the side where it lies."""
+    def _at_end(self, placed: Placed, first: ShapeRef, second: ShapeRef) -> Number:
+        """How far one end of a segment lies to the left of another."""
         if not placed.line(second).ends:
             first, second = second, first
         line = placed.line(second)
-        ends = line.start, (line.start[0] + line.way[0], line.start[1] + line.way[1])
-        return [self.sign * _aside(placed, first, end) for end in ends]
+        return _aside(placed, first, (line.start[0] + self.end * line.way[0],
+                                      line.start[1] + self.end * line.way[1]))
 
     def _angle(self, asked: AngleBetween, placed: Placed) -> int:
         one, other = placed.line(asked.first).way, placed.line(asked.second).way
@@ -139,6 +128,21 @@ class Gauge:
         wanted = [each * MILLIONTHS for each in limits if each is not None]
         middle = sum(wanted, Fraction(0)) / len(wanted)
         return abs(180 * MILLIONTHS - turned - middle) < abs(turned - middle)
+
+
+def _drawn_sign(gauges: Sequence[Gauge]) -> int:
+    """To which side what is 0 as it is placed lies as it is drawn; to either where the limits are
+    the same to both. Raises NoSide. gauges: those of one check, without a sign."""
+    check, drawing = gauges[0].check, gauges[0].drawing
+    points = {ref: place_nm(drawing.drawn(ref)) for ref in drawing.points()}
+    there = sum(each.measured(Solution(points)) for each in gauges)
+    if abs(there) > NOTHING:
+        return -1 if there < 0 else 1
+    low, high = check.limits(drawing.scene.values)
+    if low is not None and high is not None and low == -high:
+        return 1
+    raise NoSide(f"{check.name} is 0 with nominal dimensions and as drawn: draw it on the side"
+                 " where it counts as more than 0")
 
 
 def place_nm(place: Place) -> PointNm:

@@ -35,13 +35,11 @@ class Unplaced(Exception):
 
 @dataclass(frozen=True)
 class Case:
-    """A drawing as it is placed. values: what each check measures, in millionths of a millimetre or
-    a degree, the lesser end of two segments; highs: the same by the greater end. ways: the way of
-    each check that measures the distance of two points; None of each other. off_nm: how far that
-    constraint is off which is off most."""
+    """A drawing as it is placed. values: what each gauge measures, in millionths of a millimetre or
+    a degree. ways: the way of each that measures the distance of two points; None of each other.
+    off_nm: how far that constraint is off which is off most."""
 
     values: tuple[int, ...]
-    highs: tuple[int, ...]
     ways: tuple[Way | None, ...]
     off_nm: int
 
@@ -164,10 +162,11 @@ class Placer:
             self._between.add(offs)
         return both
 
-    def tilts(self, number: int) -> bool:
-        """Whether a check of two segments measured more at one end than at the other."""
-        return any(case.highs[number] - case.values[number] > NOISE
-                   for case in self._known.values())
+    def tilts(self, numbers: Sequence[int]) -> bool:
+        """Whether of two segments more was measured at one end than at the other. numbers: the
+        places of the gauges of one check, from 0."""
+        return any(max(there) - min(there) > NOISE for there in (
+            [case.values[number] for number in numbers] for case in self._known.values()))
 
     def _placed(self, offs: Offs) -> Case:
         drawing = self._edited.drawing
@@ -182,9 +181,8 @@ class Placer:
             raise Unplaced(f"{self._told(by_number)}: {why}")
         solution = judged.solution
         off_nm = max((each.amount for each in judged.deviations if each.unit is Unit.NM), default=0)
-        values, highs = (tuple(gauge.measured(solution, side) for gauge in self._gauges)
-                         for side in (-1, 1))
-        return Case(values, highs, tuple(gauge.way(solution) for gauge in self._gauges), off_nm)
+        return Case(tuple(gauge.measured(solution) for gauge in self._gauges),
+                    tuple(gauge.way(solution) for gauge in self._gauges), off_nm)
 
     def _told(self, by_number: dict[int, Fraction]) -> str:
         """Which dimensions lie off."""

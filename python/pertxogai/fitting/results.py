@@ -4,6 +4,7 @@ from __future__ import annotations
 from dataclasses import dataclass
 from enum import Enum
 from fractions import Fraction
+from functools import cached_property
 
 from pertxogai.drawing import Drawing
 from pertxogai.drawing.tolerances.check import Check
@@ -11,6 +12,10 @@ from pertxogai.fitting.corners import Worst
 from pertxogai.fitting.placing import NOISE
 from pertxogai.fitting.toleranced import Dimensions, Toleranced
 from pertxogai.judging import GoodJudgement
+
+Limits = tuple[Fraction | None, Fraction | None]
+"""A lower and an upper limit, in millionths of a millimetre or a degree; None where there is
+none."""
 
 
 class Answer(Enum):
@@ -45,17 +50,19 @@ class Range:
     least: int
     greatest: int
 
-    def lies_within(self, low: Fraction | None, high: Fraction | None) -> bool:
-        """Whether all of it lies between two limits, in millionths; what is beyond a limit only by
-        the rounding of positions counts as at the limit."""
+    def lies_within(self, limits: Limits) -> bool:
+        """Whether all of it lies between two limits; what is beyond a limit only by the rounding of
+        positions counts as at the limit."""
+        low, high = limits
         return ((low is None or self.least >= low - NOISE)
                 and (high is None or self.greatest <= high + NOISE))
 
 
 @dataclass(frozen=True)
 class CheckedFit:
-    """What comes of one check. number: its place among those that are measured, from 0. low, high:
-    its limits; nominal: as all is given; all in millionths of a millimetre or a degree. by_squares:
+    """What comes of one check. numbers: the places of its gauges among all, from 0; gauged: the
+    worst case of each. low, high: its limits as they are written; nominal: the least as all is
+    given; all in millionths of a millimetre or a degree. by_squares:
     the root of the sum of squares to both sides of the middle; None where the check isn't monotone
     in what gives a good part of it, or where one of two segments tilts. shares: those that give
     something, the greatest first. dimensions: all of them. tightened: where the first of the shares
@@ -64,16 +71,21 @@ class CheckedFit:
     dimensions that move the check."""
 
     check: Check
-    number: int
+    numbers: tuple[int, ...]
     low: Fraction | None
     high: Fraction | None
     nominal: int
-    worst: Worst
+    gauged: tuple[Worst, ...]
     by_squares: Range | None
     shares: tuple[Share, ...]
     dimensions: tuple[Toleranced, ...]
     tightened: Fraction | None = None
     has_gap: bool = False
+
+    @cached_property
+    def worst(self) -> Worst:
+        """The worst case of all of its gauges."""
+        return Worst.of(self.gauged)
 
     @property
     def moving(self) -> frozenset[int]:
@@ -101,16 +113,16 @@ class CheckedFit:
     @property
     def answer(self) -> Answer:
         """Whether it fits in the worst case."""
-        if not self.placed.lies_within(self.low, self.high):
+        if not self.placed.lies_within((self.low, self.high)):
             return Answer.BEYOND
-        if self.has_gap or not self.reckoned.lies_within(self.low, self.high):
+        if self.has_gap or not self.reckoned.lies_within((self.low, self.high)):
             return Answer.UNSURE
         return Answer.FITS
 
     @property
     def fits_by_squares(self) -> bool:
         """Whether the root of the sum of squares lies within the limits."""
-        return self.by_squares is not None and self.by_squares.lies_within(self.low, self.high)
+        return self.by_squares is not None and self.by_squares.lies_within((self.low, self.high))
 
 
 @dataclass(frozen=True)

@@ -13,40 +13,37 @@ STEP_DEGREES = Fraction(1, 1000)
 """How finely it is told of an angle."""
 
 
-def tightened(placer: Placer, number: int, told: CheckedFit) -> Fraction | None:
+def tightened(placer: Placer, told: CheckedFit) -> Fraction | None:
     """The tolerance to both sides with which it is enough, in micrometres or degrees; None where
-    none is, or where the check isn't monotone. number: the check's place, from 0. Raises Unplaced
-    and ProgramError."""
+    none is, or where the check isn't monotone. Raises Unplaced and ProgramError."""
     first = told.shares[0].dimension if told.shares else None
     if (first is None or told.answer is not Answer.BEYOND or told.worst.turning
             or first.below != first.above):
         return None
     step = STEP_DEGREES if first.is_angle else STEP_UM
-    one = _One(placer, number, told, told.dimensions.index(first))
+    one = _One(placer, told, told.dimensions.index(first))
     steps = _most(one, first.above, step)
     return steps * step if steps else None
 
 
 @dataclass(frozen=True)
 class _One:
-    """One check with one dimension tightened, by their places from 0."""
+    """One check with one dimension tightened, by its place from 0."""
 
     placer: Placer
-    number: int
     told: CheckedFit
     place: int
 
     def worst(self, off: Fraction) -> Range:
         """The worst case with another tolerance. Raises Unplaced."""
-        worst = self.told.worst
-        cases = [self.placer.case(self._with(offs, off))
-                 for offs in (worst.at_least, worst.at_greatest)]
-        return Range(min(case.values[self.number] for case in cases),
-                     max(case.highs[self.number] for case in cases))
+        values = [self.placer.case(self._with(offs, off)).values[number]
+                  for number, worst in zip(self.told.numbers, self.told.gauged)
+                  for offs in (worst.at_least, worst.at_greatest)]
+        return Range(min(values), max(values))
 
     def fits(self, off: Fraction) -> bool:
         """Whether it fits with another tolerance. Raises Unplaced."""
-        return self.worst(off).lies_within(self.told.low, self.told.high)
+        return self.worst(off).lies_within((self.told.low, self.told.high))
 
     def _with(self, offs: Offs, off: Fraction) -> Offs:
         return tuple((off if each > 0 else -off) if at == self.place else each
@@ -73,8 +70,9 @@ def _guess(one: _One, whole: Fraction, step: Fraction) -> int:
     """At how many steps a straight line reaches the first limit."""
     none, all_of_it, told = one.worst(Fraction(0)), one.worst(whole), one.told
     parts = [Fraction(1)]
-    if told.low is not None and all_of_it.least < none.least:
-        parts.append((none.least - told.low) / (none.least - all_of_it.least))
-    if told.high is not None and all_of_it.greatest > none.greatest:
-        parts.append((told.high - none.greatest) / (all_of_it.greatest - none.greatest))
+    low, high = told.low, told.high
+    if low is not None and all_of_it.least < none.least:
+        parts.append((none.least - low) / (none.least - all_of_it.least))
+    if high is not None and all_of_it.greatest > none.greatest:
+        parts.append((high - none.greatest) / (all_of_it.greatest - none.greatest))
     return max(0, int(min(parts) * whole / step))
