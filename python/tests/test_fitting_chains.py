@@ -360,3 +360,12 @@ def test_what_a_bar_that_tilts_is_tightened_to_holds_at_both_ends(program) -> No
     assert gap.answer is Answer.BEYOND and gap.tightened == 50
 
 
+@pytest.mark.parametrize("end, turned", [("70 60", (142.6301, 143.1301)),
+                                         ("70 -60", (-143.1301, -142.6301))])
+def test_more_of_a_ratio_drawn_backward_is_more_of_the_acute_angle(end, turned, program) -> None:
+    # 3 in 4 is 36.8699 degrees, half a degree more 37.3699; the turn is what is left to 180.
+    (turn,) = checks("check Turn angle A B -180deg .. +180deg\nsegment A 0 0 100 0\n"
+                     f"segment B 150 0 {end}\ncoincident A.start Origin\nhorizontal A\n"
+                     "length A 100\nlength B 100\nx B.start 150\non B.start A\n"
+                     "angle A B 3/4 +0.5-0deg\n", program)
+    assert worst(turn) == turned

@@ -156,10 +156,12 @@ def _turned(drawing: Drawing, angle: AngleBetween) -> Fraction:
 def _way(drawing: Drawing, angle: AngleBetween) -> int:
     """1 where more of an angle as it is written turns more to the left, else -1. Of lines that
     cross the drawing tells which of their two angles is meant, which may be the other one for a
-    greater value: so it is looked at a lesser one."""
+    greater value: so it is looked at a lesser one. A ratio always tells the acute one."""
     if angle.sense is Sense.SIGNED:
         return 1
-    if not isinstance(angle.value, Degrees):
-        return -1 if _turned(drawing, angle) < 0 else 1
-    less = replace(angle, value=Degrees(angle.value.value * LESS), expression=None)
-    return 1 if _turned(drawing, less) < _turned(drawing, angle) else -1
+    there, value = turn(drawing, angle), angle.value
+    if isinstance(there, Slope):
+        return 1 if there.p > 0 else -1
+    assert isinstance(value, Degrees)
+    less = replace(angle, value=Degrees(value.value * LESS), expression=None)
+    return 1 if _turned(drawing, less) < there.value else -1
