@@ -174,6 +174,7 @@ def test_an_angle_doesnt_leap_at_half_a_turn(program) -> None:
     corner, turn = checked(text.replace(" .. 180", "deg .. 180deg").replace(
         "-10 .. +10", "-10deg .. +10deg"), program).checks
     assert (mm(corner.worst.least), mm(corner.worst.greatest)) == (177, 181)
+    assert corner.answer is Answer.FITS
     assert (mm(turn.worst.least), mm(turn.worst.greatest)) == (-1, 3)
 
 

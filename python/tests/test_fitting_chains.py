@@ -369,3 +369,39 @@ def test_more_of_a_ratio_drawn_backward_is_more_of_the_acute_angle(end, turned, 
                      "length A 100\nlength B 100\nx B.start 150\non B.start A\n"
                      "angle A B 3/4 +0.5-0deg\n", program)
     assert worst(turn) == turned
+
+
+TWO_AT_30 = """segment A 0 0 86.6 50
+segment B {} {}
+coincident A.start Origin
+length A 100
+length B 100
+angle A +30deg {}
+angle B +30deg {}
+"""
+
+
+@pytest.mark.parametrize("limits, first, second, answer", [
+    (".. 0.5deg", "+1-0deg", "", Answer.BEYOND), (".. 0.5deg", "+0-1deg", "", Answer.BEYOND),
+    (".. 1deg", "+1-0deg", "", Answer.FITS), ("0deg .. 1deg", "+0-1deg", "", Answer.FITS),
+    ("0deg .. 1deg", "+-0.5deg", "+-0.5deg", Answer.FITS),
+    (".. 0.9deg", "+-0.5deg", "+-0.5deg", Answer.BEYOND),
+    ("-1deg .. 0deg", "+1-0deg", "", Answer.FITS), ("0deg .. +1deg", "+1-0deg", "", Answer.BEYOND)])
+def test_two_bars_that_are_parallel_may_turn_either_way(limits, first, second, answer,
+                                                        program) -> None:
+    # Both lie at 30 degrees. On paper the angle between them is 0 to 1, whichever of them turns;
+    # with a sign it is how much B turns to the left of A.
+    text = TWO_AT_30.format("0 20", "86.6 70", first, second)
+    (tilt,) = checks(f"check Tilt angle A B {limits}\n{text}x B.start 0\ny B.start 20\n", program)
+    assert tilt.answer is answer
+
+
+@pytest.mark.parametrize("low, off, answer", [
+    ("179deg", "+0-2deg", Answer.BEYOND), ("179deg", "+2-0deg", Answer.BEYOND),
+    ("178deg", "+-2deg", Answer.FITS), ("178deg", "+0-2deg", Answer.FITS)])
+def test_a_straight_corner_may_bend_either_way(low, off, answer, program) -> None:
+    # It is 180 degrees; 2 to either side it is 178, from one side or from the other.
+    for limits in (f"{low} ..", f"{low} .. 180deg"):
+        text = TWO_AT_30.format("A.end", "173.2 99", "", off)
+        (corner,) = checks(f"check Corner angle A B {limits}\n{text}", program)
+        assert corner.answer is answer

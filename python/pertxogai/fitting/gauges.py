@@ -18,6 +18,9 @@ from pertxogai.judging.measure.placed import Placed
 MILLIONTHS = 1_000_000
 NOTHING = 20
 """In millionths: what is no more is 0 but for rounding."""
+PARALLEL = 1000
+"""In millionths of a degree: lines that turn by no more are parallel but for the rounding of short
+ones."""
 SIDED = (PointLineDistance, ParallelDistance, XDistance, YDistance)
 """What counts less than 0 on the other side."""
 
@@ -54,11 +57,22 @@ class Gauge:
         there = sum(each.measured(nominal) for each in plain)
         if not check.is_signed and isinstance(check.asked, SIDED) and abs(there) <= NOTHING:
             return tuple(replace(each, sign=_drawn_sign(plain)) for each in plain)
+        if isinstance(check.asked, AngleBetween):
+            return (plain[0]._of_turn(check.asked, there),)
         sign = -1 if there < 0 and not check.is_signed else 1
-        if not isinstance(check.asked, AngleBetween):
-            return tuple(replace(each, sign=sign) for each in plain)
-        rest = not check.is_signed and plain[0]._is_of_the_rest(check.asked, abs(there))
-        return (Gauge(check, drawing, sign, rest, there),)
+        return tuple(replace(each, sign=sign) for each in plain)
+
+    def _of_turn(self, asked: AngleBetween, there: int) -> Gauge:
+        """The gauge of an angle that turns by so much as the drawing is placed. Of parallel lines
+        more than 0, and more than half a turn, is to the left."""
+        if self.check.is_signed:
+            return replace(self, near=there)
+        half = 180 * MILLIONTHS
+        if half - abs(there) <= PARALLEL:
+            there = abs(there)
+        sign = -1 if there < -PARALLEL else 1
+        rest = self._is_of_the_rest(asked, abs(there))
+        return replace(self, sign=sign, of_the_rest=rest, near=there)
 
     def measured(self, solution: Solution) -> int:
         """What it measures there, in millionths. Raises MissingPlace."""

@@ -10,7 +10,7 @@ from pertxogai.drawing import Drawing
 from pertxogai.drawing.tolerances.check import Check
 from pertxogai.fitting.corners import Worst
 from pertxogai.fitting.placing import NOISE
-from pertxogai.fitting.toleranced import Dimensions, Toleranced
+from pertxogai.fitting.toleranced import MILLIONTHS, Dimensions, Toleranced
 from pertxogai.judging import GoodJudgement
 
 Limits = tuple[Fraction | None, Fraction | None]
@@ -88,6 +88,18 @@ class CheckedFit:
         return Worst.of(self.gauged)
 
     @property
+    def allowed(self) -> Limits:
+        """The limits that count. An angle without a sign is one of 0 to 180 degrees, whichever way
+        it turns: where it has a limit on one side alone, that holds beyond 0 or 180 too."""
+        low, high = self.low, self.high
+        if not self.check.is_angle or self.check.is_signed:
+            return low, high
+        half = 180 * MILLIONTHS
+        is_below, is_above = low is not None and low > 0, high is not None and high != half
+        return (low if is_below else -high if high is not None and is_above else None,
+                high if is_above else 2 * half - low if low is not None and is_below else None)
+
+    @property
     def moving(self) -> frozenset[int]:
         """The dimensions that move the check, by their places from 0."""
         giving = {share.dimension for share in self.shares if share.gives > NOISE}
@@ -113,16 +125,16 @@ class CheckedFit:
     @property
     def answer(self) -> Answer:
         """Whether it fits in the worst case."""
-        if not self.placed.lies_within((self.low, self.high)):
+        if not self.placed.lies_within(self.allowed):
             return Answer.BEYOND
-        if self.has_gap or not self.reckoned.lies_within((self.low, self.high)):
+        if self.has_gap or not self.reckoned.lies_within(self.allowed):
             return Answer.UNSURE
         return Answer.FITS
 
     @property
     def fits_by_squares(self) -> bool:
         """Whether the root of the sum of squares lies within the limits."""
-        return self.by_squares is not None and self.by_squares.lies_within((self.low, self.high))
+        return self.by_squares is not None and self.by_squares.lies_within(self.allowed)
 
 
 @dataclass(frozen=True)

@@ -43,7 +43,7 @@ class _One:
 
     def fits(self, off: Fraction) -> bool:
         """Whether it fits with another tolerance. Raises Unplaced."""
-        return self.worst(off).lies_within((self.told.low, self.told.high))
+        return self.worst(off).lies_within(self.told.allowed)
 
     def _with(self, offs: Offs, off: Fraction) -> Offs:
         return tuple((off if each > 0 else -off) if at == self.place else each
@@ -70,7 +70,7 @@ def _guess(one: _One, whole: Fraction, step: Fraction) -> int:
     """At how many steps a straight line reaches the first limit."""
     none, all_of_it, told = one.worst(Fraction(0)), one.worst(whole), one.told
     parts = [Fraction(1)]
-    low, high = told.low, told.high
+    low, high = told.allowed
     if low is not None and all_of_it.least < none.least:
         parts.append((none.least - low) / (none.least - all_of_it.least))
     if high is not None and all_of_it.greatest > none.greatest:

@@ -139,10 +139,11 @@ def _to(found: CheckedFit) -> str:
 def _beyond(ranged: Range, of: CheckedFit) -> str:
     """By how much a range lies beyond the limits; nothing where it doesn't."""
     beyond = []
-    if of.low is not None and ranged.least < of.low - NOISE:
-        beyond.append(f"{_amount(of.low - ranged.least, of)} too small")
-    if of.high is not None and ranged.greatest > of.high + NOISE:
-        beyond.append(f"{_amount(ranged.greatest - of.high, of)} too large")
+    low, high = of.allowed
+    if low is not None and ranged.least < low - NOISE:
+        beyond.append(f"{_amount(low - ranged.least, of)} too small")
+    if high is not None and ranged.greatest > high + NOISE:
+        beyond.append(f"{_amount(ranged.greatest - high, of)} too large")
     return " and ".join(beyond)
 
 
