@@ -405,3 +405,17 @@ def test_a_straight_corner_may_bend_either_way(low, off, answer, program) -> Non
         text = TWO_AT_30.format("A.end", "173.2 99", "", off)
         (corner,) = checks(f"check Corner angle A B {limits}\n{text}", program)
         assert corner.answer is answer
+
+
+def test_of_many_dimensions_those_are_tried_that_turn_at_a_corner(program) -> None:
+    # An arm of 1000 at 30 + 58 degrees within 1.1 each, and 22 links of 1 on top within 0.001. Each
+    # angle alone leaves the arm below 90 degrees; together they take it to 90.2, and on the way it
+    # stands upright: 1000 + 22 + 0.022.
+    links = "".join(f"segment T{at} {f'T{at - 1}' if at else 'Arm'}.end 34.9 {1000.4 + at:g}\n"
+                    f"vertical T{at}\nlength T{at} 1 +-0.001\n" for at in range(22))
+    (high,) = checks("check High y T21.end .. 1022.0219\nsegment First 0 0 86.6 50\n"
+                     "coincident First.start Origin\nlength First 100\n"
+                     "angle First +30deg +-1.1deg\nsegment Arm First.start 34.9 999.4\n"
+                     f"length Arm 1000\nangle First Arm +58deg +-1.1deg\n{links}", program)
+    assert worst(high) == rounded(1000 * sin(radians(85.8)) + 21.978, 1022.022)
+    assert high.answer is Answer.BEYOND and high.worst.turning

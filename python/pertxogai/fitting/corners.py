@@ -3,7 +3,7 @@ greatest, or what lies between them where it turns round, each placed by the pro
 there."""
 from __future__ import annotations
 
-from collections.abc import Iterator, Sequence
+from collections.abc import Iterator, Mapping, Sequence
 from dataclasses import dataclass
 from fractions import Fraction
 from itertools import product
@@ -28,9 +28,13 @@ TIMES = 4
 """What moves a check less than this number of times as much as corners are off the sums of the
 effects may change its sign there."""
 MANY = 20
-"""Of more dimensions than this number not all are tried that may change their sign so."""
-MOST_DOUBTFUL = 4
-"""Of many dimensions this number of those is tried, those that move the check least."""
+"""Of more dimensions than this number those that may change their sign so are first tried one by
+one, a little within the worst corners."""
+WITHIN = Fraction(1, 8)
+"""So much of its tolerance a dimension lies within then."""
+PART = 4
+"""A dimension is sure where that makes the check better by no less than this part of what it does
+by itself."""
 SAMPLES = 8
 """This number of corners is placed besides, taken at random: the same in each run."""
 SEED = 2768
@@ -79,8 +83,7 @@ class Corners:
     def worst(self) -> Worst:
         """Raises Unplaced and ProgramError."""
         starts = {side: tuple(each.end(side) for each in self._effects) for side in (-1, 1)}
-        samples = list(_at_random(self._effects, SAMPLES))
-        unsure = self._unsure([*starts.values(), *samples])
+        unsure = self._unsure(starts)
         (at_least, low), (at_greatest, high) = (
             self._extreme(starts[side], unsure, side) for side in (-1, 1))
         turning = low | high | self._turning()
@@ -102,22 +105,40 @@ class Corners:
         """What is measured in a case."""
         return self._case(offs).values[self._number]
 
-    def _unsure(self, corners: Sequence[Offs]) -> list[int]:
+    def _unsure(self, starts: Mapping[int, Offs]) -> list[int]:
         """The dimensions whose effect may have another sign at a corner than at the base: all in
-        which the check turns, and the most doubtful of those that move it less than a few times as
-        much as corners are off the sums of the effects. Those that move it most come first."""
-        rests = (self._sums.rest(offs, self._case(offs)) for offs in corners)
-        bend = max((abs(rest) for rest in rests if rest is not None), default=0)
+        which the check turns, and those that move it less than a few times as much as corners are
+        off the sums of the effects. Those that move it most come first. starts: the corner that is
+        worst by the effects, by its side."""
+        bend = self._bend([*starts.values(), *_at_random(self._effects, SAMPLES)])
         gives = {place: each.gives() for place, each in enumerate(self._effects)
                  if len(each.readings) > 1}
         unsure = [place for place in gives if self._effects[place].turn() is not None]
         if bend > NOISE:
             still = [place for place in gives if gives[place] <= NOISE and place not in unsure]
-            unsure += still if self._move_together(corners[0], still) else []
-            doubtful = [place for place in sorted(gives, key=lambda place: gives[place])
-                        if NOISE < gives[place] <= TIMES * bend and place not in unsure]
-            unsure += doubtful if len(gives) <= MANY else doubtful[:MOST_DOUBTFUL]
+            unsure += still if self._move_together(starts[-1], still) else []
+            unsure += [place for place in gives
+                       if NOISE < gives[place] <= TIMES * bend and place not in unsure
+                       and (len(gives) <= MANY or self._is_doubtful(starts, place))]
         return sorted(unsure, key=lambda place: -gives[place])
+
+    def _bend(self, corners: Sequence[Offs]) -> int:
+        """How far corners are off the sums of the effects at most."""
+        rests = (self._sums.rest(offs, self._case(offs)) for offs in corners)
+        return max((abs(rest) for rest in rests if rest is not None), default=0)
+
+    def _is_doubtful(self, starts: Mapping[int, Offs], place: int) -> bool:
+        """Whether at one of the worst corners a dimension that lies a little within doesn't make
+        the check better as it does by itself, or isn't placed there."""
+        spread = abs(self._effects[place].spread)
+        part = WITHIN if spread * WITHIN > PART * NOISE else Fraction(1)
+        for side, start in starts.items():
+            other = start[place] + (self._other_end(place, start[place]) - start[place]) * part
+            within = _with(start, {place: other})
+            if (not self._placer.is_placed(within)
+                    or -PART * self._gain(start, within, side) < spread * part):
+                return True
+        return False
 
     def _move_together(self, corner: Offs, places: Sequence[int]) -> bool:
         """Whether dimensions that don't move the check by themselves do so together: each two of
