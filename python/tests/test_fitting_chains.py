@@ -419,3 +419,20 @@ def test_of_many_dimensions_those_are_tried_that_turn_at_a_corner(program) -> No
                      f"length Arm 1000\nangle First Arm +58deg +-1.1deg\n{links}", program)
     assert worst(high) == rounded(1000 * sin(radians(85.8)) + 21.978, 1022.022)
     assert high.answer is Answer.BEYOND and high.worst.turning
+
+
+def test_what_is_not_tied_to_the_axes_is_not_measured_from_them(program) -> None:
+    # A bar of 40 that may lie anywhere, and one that is level at a given height.
+    free = "segment A 3 5 43 5\nlength A 40 +-0.1\n"
+    found = fit(read_drawing(f"check X x A.end 42 .. 44\ncheck Run x A.start A.end 39 .. 41\n"
+                             f"check Long length A 39 .. 41\n{free}"), program)
+    aside, run, long = found.checks
+    assert isinstance(aside, UnknownFit) and "moved and turned (by rank)" in aside.why
+    assert isinstance(run, UnknownFit) and found.answer is Answer.UNSURE
+    assert worst(long) == (39.9, 40.1) and long.answer is Answer.FITS
+    found = fit(read_drawing(f"check X x A.end 42 .. 44\ncheck Run x A.start A.end 39 .. 41\n"
+                             f"check Height y A.end 4.8 .. 5.2\n{free}horizontal A\n"
+                             "y A.start 5 +-0.1\n"), program)
+    aside, run, height = found.checks
+    assert isinstance(aside, UnknownFit) and "moved along x (by rank)" in aside.why
+    assert worst(run) == (39.9, 40.1) and worst(height) == (4.9, 5.1)

@@ -10,6 +10,7 @@ from math import sqrt
 from pertxogai.drawing import Check, Drawing
 from pertxogai.fitting.corners import Corners, Worst
 from pertxogai.fitting.effects import Effect, effects
+from pertxogai.fitting.floating import floats
 from pertxogai.fitting.gauges import Gauge, NoSide
 from pertxogai.fitting.placing import NOISE, Placer, Unplaced
 from pertxogai.fitting.results import (
@@ -85,6 +86,10 @@ def _with_gaps(placer: Placer, checks: Checks) -> Checks:
 
 
 def _gauges(check: Check, good: GoodJudgement) -> Gauges | UnknownFit:
+    whole = good.judged.judgement.whole
+    if whole is not None and floats(check, whole):
+        return UnknownFit(check, f"it is measured from the origin or the axes, and the whole can "
+                                 f"still be {whole.text()} (by rank)")
     try:
         return Gauge.of(check, good.drawing, good.solution)
     except NoSide as why:
