@@ -111,6 +111,16 @@ def test_a_turn_beyond_half_of_one(program) -> None:
     assert worst(turn) == (179.6, 180.2) and turn.answer is Answer.FITS
 
 
+@pytest.mark.parametrize("limits, ends", [("+179.5deg .. +180.5deg", (179.8, 180.4)),
+                                          ("-180.5deg .. -179.5deg", (-180.2, -179.6))])
+def test_a_turn_counts_whole_turns_by_its_limits(limits, ends, program) -> None:
+    # 180.1 within 0.3; the same turn to the right is 179.9.
+    (turn,) = checks(f"check Turn angle A B {limits}\nsegment A 0 0 40 0\n"
+                     "segment B A.end 0 -0.07\ncoincident A.start Origin\nhorizontal A\n"
+                     "length A 40\nlength B 40\nangle A B +180.1deg +-0.3deg\n", program)
+    assert worst(turn) == ends and turn.answer is Answer.FITS
+
+
 @pytest.mark.parametrize("tilt", [30, 37.123])
 def test_limits_that_are_just_reached_in_a_slanted_frame(tilt, program) -> None:
     # 60 - 20 = 40 within 0.1, and the limits are 39.9 and 40.1.

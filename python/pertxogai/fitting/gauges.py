@@ -63,11 +63,13 @@ class Gauge:
         return tuple(replace(each, sign=sign) for each in plain)
 
     def _of_turn(self, asked: AngleBetween, there: int) -> Gauge:
-        """The gauge of an angle that turns by so much as the drawing is placed. Of parallel lines
-        more than 0, and more than half a turn, is to the left."""
-        if self.check.is_signed:
-            return replace(self, near=there)
+        """The gauge of an angle that turns by so much as the drawing is placed. With a sign whole
+        turns count so that it is nearest to the limits. Of parallel lines more than 0, and more
+        than half a turn, is to the left."""
         half = 180 * MILLIONTHS
+        if self.check.is_signed:
+            turns = round((self._middle() - there) / (2 * half))
+            return replace(self, near=there + 2 * half * turns)
         if half - abs(there) <= PARALLEL:
             there = abs(there)
         sign = -1 if there < -PARALLEL else 1
@@ -138,10 +140,15 @@ class Gauge:
         corner = self.drawing.meetings.corner(asked.first, asked.second)
         if corner is not None:
             return corner.first.which is not corner.second.which
+        middle = self._middle()
+        return abs(180 * MILLIONTHS - turned - middle) < abs(turned - middle)
+
+    def _middle(self) -> Fraction:
+        """What lies between the limits of an angle, in millionths of a degree; the limit where it
+        has one alone."""
         limits = self.check.limits(self.drawing.scene.values)
         wanted = [each * MILLIONTHS for each in limits if each is not None]
-        middle = sum(wanted, Fraction(0)) / len(wanted)
-        return abs(180 * MILLIONTHS - turned - middle) < abs(turned - middle)
+        return sum(wanted, Fraction(0)) / len(wanted)
 
 
 def _drawn_sign(gauges: Sequence[Gauge]) -> int:
