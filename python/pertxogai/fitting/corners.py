@@ -94,6 +94,9 @@ class Corners:
 
     def _case(self, offs: Offs) -> Case:
         """A case; where it isn't placed, the one in which what doesn't move the check is held."""
+        known = self._placer.cases.get(offs)
+        if known is not None:
+            return known
         return self._placer.case(offs if self._placer.is_placed(offs) else self._held(offs))
 
     def _held(self, offs: Offs) -> Offs:
@@ -174,8 +177,9 @@ class Corners:
 
     def _worst_known(self, start: Offs, side: int) -> Offs:
         """The worst case that is known; the start where none is worse."""
-        known = (offs for offs, _ in self._placer.within())
-        return max((start, *known), key=lambda offs: side * self._at(offs))
+        worst, case = max(self._placer.within.items(),
+                          key=lambda known: side * known[1].values[self._number])
+        return worst if side * case.values[self._number] > side * self._at(start) else start
 
     def _begins(self, start: Offs, unsure: Sequence[int]) -> Iterator[Offs]:
         """The corners from which the search goes on."""
@@ -256,7 +260,7 @@ class Corners:
         given = self._base.ways[self._number]
         if given is None:
             return False
-        return any(_dot(given, way) <= 0 for _, case in self._placer.within()
+        return any(_dot(given, way) <= 0 for case in self._placer.within.values()
                    if (way := case.ways[self._number]) is not None)
 
     def _beyond(self, least: int, greatest: int, unsure: int) -> tuple[int, int]:

@@ -68,10 +68,9 @@ def _all_checks(placer: Placer, dimensions: Sequence[Toleranced],
 
 def _are_exceeded(placer: Placer, checks: Checks) -> bool:
     """Whether a check is worse in a case that was placed than in its worst case."""
-    cases = [case for _, case in placer.within()]
     return any(not each.worst.least - NOISE <= case.values[number] <= each.worst.greatest + NOISE
                for each in checks if isinstance(each, CheckedFit)
-               for number in each.numbers for case in cases)
+               for number in each.numbers for case in placer.within.values())
 
 
 def _with_gaps(placer: Placer, checks: Checks) -> Checks:

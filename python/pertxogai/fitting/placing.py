@@ -1,7 +1,7 @@
 """A drawing placed by the program with dimensions that lie off."""
 from __future__ import annotations
 
-from collections.abc import Collection, Iterator, Mapping, Sequence
+from collections.abc import Collection, Mapping, Sequence
 from dataclasses import dataclass
 from fractions import Fraction
 
@@ -52,14 +52,17 @@ class Placer:
         self._edited, self._program, self._limit = EditedDrawing(drawing), program, limit
         self.nominal: Judgement = judge_edited(self._edited, program, limit=limit)
         self._known: dict[Offs, Case] = {}
+        self._within: dict[Offs, Case] = {}
         self._unplaced: dict[Offs, str] = {}
         self._between: set[Offs] = set()
         self._dimensions: Sequence[Toleranced] = ()
+        self._base: Offs = ()
         self._gauges: Sequence[Gauge] = ()
 
     def begin(self, dimensions: Sequence[Toleranced], gauges: Sequence[Gauge]) -> None:
         """Says which dimensions may lie off, and what is measured."""
         self._dimensions, self._gauges = dimensions, gauges
+        self._base = tuple(each.base for each in dimensions)
 
     @property
     def cases(self) -> Mapping[Offs, Case]:
@@ -71,12 +74,11 @@ class Placer:
         """How many cases were tried."""
         return len(self._known) + len(self._unplaced)
 
-    def within(self) -> Iterator[tuple[Offs, Case]]:
+    @property
+    def within(self) -> Mapping[Offs, Case]:
         """The cases in which each dimension lies within its tolerance. As a drawing is given it
         may not, where both deviations lie on one side."""
-        for offs, case in self._known.items():
-            if all(each.has(off) for each, off in zip(self._dimensions, offs)):
-                yield offs, case
+        return self._within
 
     @property
     def unplaced(self) -> tuple[str, ...]:
@@ -96,8 +98,8 @@ class Placer:
     def has_gap(self, moving: Collection[int]) -> bool:
         """Whether a part within tolerance can't be placed, with all dimensions held at the base but
         for those of some places, from 0. Raises ProgramError."""
-        held = (tuple(off if place in moving else each.base for place, (off, each)
-                      in enumerate(zip(offs, self._dimensions))) for offs in self._gaps())
+        held = (tuple(off if place in moving else base for place, (off, base)
+                      in enumerate(zip(offs, self._base))) for offs in self._gaps())
         return not all(map(self.is_placed, held))
 
     @property
@@ -114,7 +116,7 @@ class Placer:
     def base(self) -> Case:
         """The case next to that in which each dimension lies within its tolerance. Raises Unplaced
         and ProgramError."""
-        return self.case(tuple(each.base for each in self._dimensions))
+        return self.case(self._base)
 
     def alone(self, place: int, off: Fraction) -> Case:
         """The case next to the base in which one dimension is off, by its place from 0. Raises
@@ -123,20 +125,24 @@ class Placer:
 
     def offs_alone(self, place: int, off: Fraction) -> Offs:
         """How far off all are where one dimension is off, and the others are as at the base."""
-        return tuple(off if number == place else each.base
-                     for number, each in enumerate(self._dimensions))
+        return (*self._base[:place], off, *self._base[place + 1:])
 
     def case(self, offs: Offs) -> Case:
         """The case with the dimensions so far off. Raises Unplaced and ProgramError."""
+        return self._known.get(offs) or self._tried(offs)
+
+    def _tried(self, offs: Offs) -> Case:
+        """A case that isn't known yet. Raises Unplaced and ProgramError."""
         if offs in self._unplaced:
             raise Unplaced(self._unplaced[offs])
-        if offs not in self._known:
-            try:
-                self._known[offs] = self._placed(offs)
-            except Unplaced as why:
-                self._unplaced[offs] = str(why)
-                raise
-        return self._known[offs]
+        try:
+            case = self._known[offs] = self._placed(offs)
+        except Unplaced as why:
+            self._unplaced[offs] = str(why)
+            raise
+        if all(each.has(off) for each, off in zip(self._dimensions, offs)):
+            self._within[offs] = case
+        return case
 
     def is_placed(self, offs: Offs) -> bool:
         """Whether a case can be placed. Raises ProgramError."""
