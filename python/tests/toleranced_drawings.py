@@ -1,8 +1,10 @@
 """Drawings with tolerances by chance: such as the hunt makes, and what its points must keep of each
-other; and whether corners by chance lie within the worst case that `fit` tells."""
+other; and whether corners by chance lie within the worst case that `fit` tells. Each corner is
+placed by the program anew; each tenth one is besides written, read and judged as a drawing of its
+own, and measured there by the tests' own formulas."""
 from __future__ import annotations
 
-from collections.abc import Iterator
+from collections.abc import Iterator, Sequence
 from dataclasses import dataclass, replace
 from fractions import Fraction
 from functools import partial
@@ -15,10 +17,22 @@ from pertxogai.drawing import (
 from pertxogai.fitting import Fit, NoFit, fit
 from pertxogai.fitting.gauges import Gauge
 from pertxogai.fitting.placing import NOISE, Offs, Placer, Unplaced
+from pertxogai.fitting.toleranced import Dimensions, Toleranced, moved
+from pertxogai.judging import judge
 from pertxogai.judging.measure import Limit
 from pertxogai.program import Solver
+from plain_gauges import Plain
 
 MOST_BLOCKS = 3
+FIRST_CORNERS = 3
+EACH_ANEW = 10
+"""One in this number of corners is measured in a drawing of its own."""
+GOALS = 2
+"""For this number of the least and the greatest of the checks the search goes on."""
+ROUNDING = 3
+"""In millionths: what two ways to measure may differ by."""
+WHOLE = 360_000_000
+"""A whole turn, in millionths of a degree."""
 
 
 def toleranced(seed: int) -> Drawing | None:
@@ -79,42 +93,66 @@ def _with_tolerance(dimension: Valued, random: Random) -> Valued:
 @dataclass(frozen=True)
 class Tried:
     """What came of one drawing. wrong: what of its checks was told wrongly: those said to be
-    monotone that have a corner outside of their worst case, and those said to fit, or reckoned by
-    numbers, that have one outside of what is reckoned; with how far that is, in millionths."""
+    monotone that have a corner outside of their worst case, those said to fit, or reckoned by
+    numbers, that have one outside of what is reckoned, with how far that is, in millionths; and
+    corners that are measured otherwise by other formulas. anew: how many were measured so."""
 
     is_known: bool
     corners: int = 0
     monotone: int = 0
     checks: int = 0
     wrong: tuple[str, ...] = ()
+    anew: int = 0
 
 
 def tried(seed: int, corners: int, program: Solver) -> Tried | None:
-    """What comes of the drawing of a seed at that number of corners; None where there is none."""
+    """What comes of the drawing of a seed at that number of corners; None where there is none.
+    Nothing is known where most of a few first ones have no places."""
     drawing = toleranced(seed)
     if drawing is None:
         return None
+    random = Random(seed)
+    if not _has_corners(drawing, program, random):
+        return Tried(False)
     found = fit(drawing, program)
     if isinstance(found, NoFit) or not found.known:
         return Tried(False)
-    search = _Search(found, program, Random(seed))
+    search = _Search(found, program, random)
     search.try_corners(corners)
     monotone = sum(each.worst.is_one_way for each in found.known)
-    return Tried(True, search.placed, monotone, len(found.known), tuple(search.wrong))
+    return Tried(True, search.placed, monotone, len(found.known), tuple(search.wrong), search.anew)
+
+
+def _has_corners(drawing: Drawing, program: Solver, random: Random) -> bool:
+    """Whether a drawing is placed as it is given, and at most of a few corners."""
+    placer = Placer(drawing, program, Limit())
+    if placer.nominal.solution is None:
+        return False
+    dimensions = Dimensions.of(drawing, placer.nominal.solution).toleranced
+    placer.begin(dimensions, ())
+    placed = sum(placer.is_placed(_corner(dimensions, random)) for _ in range(FIRST_CORNERS))
+    return 2 * placed > FIRST_CORNERS
+
+
+def _corner(dimensions: Sequence[Toleranced], random: Random) -> Offs:
+    """A corner by chance."""
+    return tuple(random.choice((-each.below, each.above)) for each in dimensions)
 
 
 class _Search:
-    """Corners by chance, and from the worst of them for each check on to worse ones, one dimension
+    """Corners by chance, and from the worst of them for some checks on to worse ones, one dimension
     after the other: as who wants to prove the told worst case wrong."""
 
     def __init__(self, found: Fit, program: Solver, random: Random) -> None:
-        self._found, self._random = found, random
+        self._found, self._program, self._random = found, program, random
         self._dimensions = found.dimensions.toleranced
         self._placer = Placer(found.drawing, program, Limit())
         solution = found.good.solution
         gauges = [Gauge.of(each.check, found.drawing, solution) for each in found.known]
         self._placer.begin(self._dimensions, [gauge for each in gauges for gauge in each])
+        self._plain = _signed(found)
         self.wrong: dict[str, None] = {}
+        self.anew = 0
 
     @property
     def placed(self) -> int:
@@ -122,12 +160,14 @@ class _Search:
         return len(self._placer.cases)
 
     def try_corners(self, count: int) -> None:
-        """That number by chance, and then for the least and the greatest of each check as many as
+        """That number by chance, and then for the least or the greatest of a few checks as many as
         there are dimensions."""
-        chance = [self._corner() for _ in range(count)]
+        chance = [_corner(self._dimensions, self._random) for _ in range(count)]
         known = [offs for offs in chance if self._values(offs) is not None]
+        for offs in known[::EACH_ANEW]:
+            self._try_anew(offs)
         goals = [(number, side) for number in range(len(self._found.known)) for side in (-1, 1)]
-        for number, side in goals if known else ():
+        for number, side in self._random.sample(goals, min(GOALS, len(goals))) if known else ():
             self._climb(known, number, side)
 
     def _climb(self, known: list[Offs], number: int, side: int) -> None:
@@ -144,9 +184,6 @@ class _Search:
             if there is not None and here is not None and there > here:
                 best = other
 
-    def _corner(self) -> Offs:
-        return tuple(self._random.choice((-each.below, each.above)) for each in self._dimensions)
-
     def _values(self, offs: Offs) -> tuple[int, ...] | None:
         """What is measured there, looked at; None where nothing is placed."""
         try:
@@ -160,3 +197,28 @@ class _Search:
                 self.wrong[f"{each.check.line()}: {value} is {off} outside of {told.least} .. "
                            f"{told.greatest}"] = None
         return case.values
+
+    def _try_anew(self, offs: Offs) -> None:
+        """Compares what was measured with what is in a drawing of its own."""
+        self.anew += 1
+        by_number = {each.number: off for each, off in zip(self._dimensions, offs)}
+        drawing = read_drawing(write_drawing(moved(self._found.drawing, by_number)))
+        solution = judge(drawing, self._program).solution
+        values = self._values(offs)
+        assert solution is not None and values is not None, drawing
+        plain = Plain(drawing, solution)
+        for each, value in zip(self._found.known, values):
+            there = plain.measured(each.check) * self._plain[each.check.name]
+            off = abs(there - value)
+            if each.check.is_angle:
+                off = min(off % WHOLE, -off % WHOLE)
+            if off > ROUNDING:
+                self.wrong[f"{each.check.line()}: {value} is {there} anew"] = None
+
+
+def _signed(found: Fit) -> dict[str, int]:
+    """By the name of each check 1, or -1 where it counts as more than 0 what is less by the
+    formulas of the tests."""
+    plain = Plain(found.drawing, found.good.solution)
+    return {each.check.name: -1 if plain.measured(each.check) * each.nominal < 0 else 1
+            for each in found.known}
