@@ -133,6 +133,19 @@ def test_limits_that_are_just_reached_in_a_slanted_frame(tilt, program) -> None:
     assert worst(gap) == (39.9, 40.1) and gap.answer is Answer.FITS
 
 
+@pytest.mark.parametrize("tilt", [20, 37.123, 61.5])
+def test_limits_that_are_just_reached_by_an_angle_of_short_segments(tilt, program) -> None:
+    # Segments of half a millimetre: a nanometre at an end turns them by a ten-thousandth of a
+    # degree.
+    x, y = cos(radians(tilt)), sin(radians(tilt))
+    (turn,) = checks("check Turn angle A B +44.5deg .. +45.5deg\n"
+                     f"segment A 0 0 {x / 2:.4f} {y / 2:.4f}\nsegment B A.end 0.2 1\n"
+                     f"coincident A.start Origin\nangle A +{tilt}deg\nlength A 0.5\n"
+                     "length B 0.5\nangle A B +45deg +-0.5deg\n", program)
+    assert worst(turn) == pytest.approx((44.5, 45.5), abs=0.0002)
+    assert turn.answer is Answer.FITS and turn.worst.is_one_way
+
+
 def test_a_chain_of_radii(program) -> None:
     # Three circles in a row: 20 + 2 * 10 + 5 = 45, within 0.1 + 0.1 + 0.02; the middle one by its
     # diameter.

@@ -16,7 +16,7 @@ from pertxogai.drawing import (
     write_drawing)
 from pertxogai.fitting import Fit, NoFit, fit
 from pertxogai.fitting.gauges import Gauge
-from pertxogai.fitting.placing import NOISE, Offs, Placer, Unplaced
+from pertxogai.fitting.placing import Offs, Placer, Unplaced
 from pertxogai.fitting.toleranced import Dimensions, Toleranced, moved
 from pertxogai.judging import judge
 from pertxogai.judging.measure import Limit
@@ -193,7 +193,7 @@ class _Search:
         for each, value in zip(self._found.known, case.values):
             told = each.placed if each.worst.is_one_way else each.reckoned
             off = max(told.least - value, value - told.greatest)
-            if off > NOISE:
+            if off > each.noise:
                 self.wrong[f"{each.check.line()}: {value} is {off} outside of {told.least} .. "
                            f"{told.greatest}"] = None
         return case.values

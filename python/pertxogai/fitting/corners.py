@@ -11,7 +11,7 @@ from random import Random
 
 from pertxogai.fitting.effects import Effect, ends_of, turning_at
 from pertxogai.fitting.gauges import Way
-from pertxogai.fitting.placing import NOISE, Case, Offs, Placer
+from pertxogai.fitting.placing import Case, Offs, Placer
 from pertxogai.fitting.sums import Sums
 
 MOST_TOGETHER = 3
@@ -77,7 +77,7 @@ class Corners:
 
     def __init__(self, placer: Placer, effects: Sequence[Effect], number: int) -> None:
         self._placer, self._effects, self._number = placer, effects, number
-        self._base = placer.base()
+        self._noise, self._base = placer.noise(number), placer.base()
         self._sums = Sums(number, self._base, effects)
 
     def worst(self) -> Worst:
@@ -101,7 +101,7 @@ class Corners:
 
     def _held(self, offs: Offs) -> Offs:
         """A case with what doesn't move the check as at the base."""
-        return tuple(off if each.gives() > NOISE else each.base.off
+        return tuple(off if each.gives() > self._noise else each.base.off
                      for off, each in zip(offs, self._effects))
 
     def _at(self, offs: Offs) -> int:
@@ -117,11 +117,12 @@ class Corners:
         gives = {place: each.gives() for place, each in enumerate(self._effects)
                  if len(each.readings) > 1}
         unsure = [place for place in gives if self._effects[place].turn() is not None]
-        if bend > NOISE:
-            still = [place for place in gives if gives[place] <= NOISE and place not in unsure]
+        if bend > self._noise:
+            still = [place for place in gives
+                     if gives[place] <= self._noise and place not in unsure]
             unsure += still if self._move_together(starts[-1], still) else []
             unsure += [place for place in gives
-                       if NOISE < gives[place] <= TIMES * bend and place not in unsure
+                       if self._noise < gives[place] <= TIMES * bend and place not in unsure
                        and (len(gives) <= MANY or self._is_doubtful(starts, place))]
         return sorted(unsure, key=lambda place: -gives[place])
 
@@ -134,7 +135,7 @@ class Corners:
         """Whether at one of the worst corners a dimension that lies a little within doesn't make
         the check better as it does by itself, or isn't placed there."""
         spread = abs(self._effects[place].spread)
-        part = WITHIN if spread * WITHIN > PART * NOISE else Fraction(1)
+        part = WITHIN if spread * WITHIN > PART * self._noise else Fraction(1)
         for side, start in starts.items():
             other = start[place] + (self._other_end(place, start[place]) - start[place]) * part
             within = _with(start, {place: other})
@@ -150,7 +151,7 @@ class Corners:
         for bit in range(len(places).bit_length()):
             others = {place: self._other_end(place, corner[place])
                       for index, place in enumerate(places) if index >> bit & 1}
-            if abs(self._at(_with(corner, others)) - value) > NOISE:
+            if abs(self._at(_with(corner, others)) - value) > self._noise:
                 return True
         return False
 
@@ -160,7 +161,7 @@ class Corners:
         changed its sign on the way. Where none of the unsure makes the start worse, and no case is
         worse that is known, that is the start."""
         best = self._within(self._worst_known(start, side), unsure, side)
-        if self._gain(start, best, side) <= NOISE and not self._turning():
+        if self._gain(start, best, side) <= self._noise and not self._turning():
             return start, frozenset()
         best, left = self._worst_known(best, side), MOST_TRIED
         begins = sorted(self._begins(start, unsure), key=lambda offs: -side * self._at(offs))
@@ -168,7 +169,7 @@ class Corners:
             offs, left = self._climbed(begin, unsure, side, left)
             best = max(best, offs, key=lambda case: side * self._at(case))
         best = self._within(best, unsure, side)
-        is_worse = self._gain(start, best, side) > NOISE
+        is_worse = self._gain(start, best, side) > self._noise
         return best, self._changed(start, best, side) if is_worse else frozenset()
 
     def _gain(self, start: Offs, other: Offs, side: int) -> int:
@@ -195,14 +196,14 @@ class Corners:
             before = self._at(offs)
             for place in unsure:
                 offs = self._best_within(offs, place, side)
-            if abs(self._at(offs) - before) <= NOISE:
+            if abs(self._at(offs) - before) <= self._noise:
                 break
         return offs
 
     def _best_within(self, offs: Offs, place: int, side: int) -> Offs:
         """The worst case of those in which one of the unsure lies otherwise."""
         three = [_with(offs, {place: off}) for off in ends_of(self._effects[place].dimension)]
-        where = turning_at([(case[place], self._at(case)) for case in three])
+        where = turning_at([(case[place], self._at(case)) for case in three], self._noise)
         there = [] if where is None else self._around(_with(offs, {place: where}), place)
         return max([offs, *three, *there], key=lambda case: side * self._at(case))
 
@@ -232,7 +233,7 @@ class Corners:
                 there = side * self._at(other) if left > 0 else value
                 if there > value:
                     offs, value = other, there
-            if value <= before + NOISE:
+            if value <= before + self._noise:
                 break
         return offs, left
 
@@ -242,7 +243,7 @@ class Corners:
         other = [place for place, (one, two) in enumerate(zip(start, best)) if one != two]
         value = self._at(best)
         moving = [place for place in other
-                  if abs(self._at(_with(best, {place: start[place]})) - value) > NOISE]
+                  if abs(self._at(_with(best, {place: start[place]})) - value) > self._noise]
         return frozenset(moving or other)
 
     def _turning(self) -> frozenset[int]:
@@ -251,7 +252,7 @@ class Corners:
         turning = {place for place, each in enumerate(self._effects) if each.turn() is not None}
         if self._comes_past():
             turning.update(place for place, each in enumerate(self._effects)
-                           if each.gives() > NOISE)
+                           if each.gives() > self._noise)
         return frozenset(turning)
 
     def _comes_past(self) -> bool:
@@ -270,7 +271,7 @@ class Corners:
         floor = 0.0 if self._base.ways[self._number] is not None and self._comes_past() else None
         low = reach.least if floor is None else floor
         below, above = round(least - low), round(reach.greatest - greatest)
-        return below if below > NOISE else 0, above if above > NOISE else 0
+        return below if below > self._noise else 0, above if above > self._noise else 0
 
     def _states(self, place: int) -> list[Fraction]:
         return [each.off for each in self._effects[place].states()]

@@ -8,7 +8,7 @@ from dataclasses import dataclass
 from fractions import Fraction
 
 from pertxogai.fitting.gauges import Way
-from pertxogai.fitting.placing import NOISE, Case, Placer, Unplaced
+from pertxogai.fitting.placing import Case, Placer, Unplaced
 from pertxogai.fitting.toleranced import MILLIONTHS, Toleranced
 
 NEAR = Fraction(1, 16)
@@ -29,11 +29,12 @@ class Reading:
 class Effect:
     """What one dimension does to one check. readings: from its least to its greatest, the least off
     first; of one that is held, that one alone. base: with all others as they are given, or as
-    nearly as their tolerances allow."""
+    nearly as their tolerances allow. noise: what of a change is rounding, in millionths."""
 
     dimension: Toleranced
     readings: tuple[Reading, ...]
     base: Reading
+    noise: int
 
     @property
     def spread(self) -> int:
@@ -78,7 +79,7 @@ class Effect:
         first, *within, last = self.readings
         low, high = sorted((first.value, last.value))
         most = max(within, key=lambda each: max(low - each.value, each.value - high))
-        return most if most.value < low - NOISE or most.value > high + NOISE else None
+        return most if not low - self.noise <= most.value <= high + self.noise else None
 
     def states(self) -> list[Reading]:
         """Where the check may be worst: both ends, and where it turns."""
@@ -110,6 +111,11 @@ class _One:
     place: int
     number: int
 
+    @property
+    def noise(self) -> int:
+        """What of a change of the check is rounding."""
+        return self.placer.noise(self.number)
+
     def reading(self, off: Fraction) -> Reading:
         """What the check measures with the dimension so far off. Raises Unplaced."""
         return _reading(off, self.placer.alone(self.place, off), self.number)
@@ -129,11 +135,11 @@ def _effect(one: _One, dimension: Toleranced, base: Reading) -> Effect:
         near = (base.off + (off - base.off) * NEAR for off in three)
         if _moves(one, [*three, *near], base):
             raise
-        return Effect(dimension, (base,), base)
-    where = turning_at([(each.off, each.value) for each in readings])
+        return Effect(dimension, (base,), base, one.noise)
+    where = turning_at([(each.off, each.value) for each in readings], one.noise)
     if where is not None:
         readings += one.readings_around(where)
-    return Effect(dimension, tuple(sorted(readings, key=lambda each: each.off)), base)
+    return Effect(dimension, tuple(sorted(readings, key=lambda each: each.off)), base, one.noise)
 
 
 def _moves(one: _One, offs: Iterable[Fraction], base: Reading) -> bool:
@@ -143,7 +149,7 @@ def _moves(one: _One, offs: Iterable[Fraction], base: Reading) -> bool:
         with suppress(Unplaced):
             found.append(one.reading(off))
     others = [each.value for each in found if each.off != base.off]
-    return not others or any(abs(value - base.value) > NOISE for value in others)
+    return not others or any(abs(value - base.value) > one.noise for value in others)
 
 
 def _reading(off: Fraction, case: Case, number: int) -> Reading:
@@ -157,10 +163,10 @@ def ends_of(dimension: Toleranced) -> tuple[Fraction, Fraction, Fraction]:
     return low, (Fraction(0) if low < 0 < high else (low + high) / 2), high
 
 
-def turning_at(readings: Sequence[tuple[Fraction, int]]) -> Fraction | None:
+def turning_at(readings: Sequence[tuple[Fraction, int]], noise: int) -> Fraction | None:
     """Where between the ends a check may turn round, how far off, by a parabola through three
-    readings, each how far off that is and what was measured; None where it goes one way, or turns
-    where it was read."""
+    readings, each how far off that is and what was measured; None where it goes one way, turns
+    where it was read, or no further than rounding."""
     (low, at_low), (inner, within), (high, at_high) = readings
     begin = Fraction(within - at_low) / (inner - low)
     end = Fraction(at_high - within) / (high - inner)
@@ -170,4 +176,4 @@ def turning_at(readings: Sequence[tuple[Fraction, int]]) -> Fraction | None:
         return None
     where = Fraction(round((low - first / (2 * bend)) * 1000), 1000)
     rise = abs(bend) * min(where - low, high - where) ** 2
-    return where if rise > NOISE and where not in (low, inner, high) else None
+    return where if rise > noise and where not in (low, inner, high) else None

@@ -12,7 +12,7 @@ from pertxogai.fitting.corners import Corners, Worst
 from pertxogai.fitting.effects import Effect, effects
 from pertxogai.fitting.floating import floats
 from pertxogai.fitting.gauges import Gauge, NoSide
-from pertxogai.fitting.placing import NOISE, Placer, Unplaced
+from pertxogai.fitting.placing import Placer, Unplaced
 from pertxogai.fitting.results import (
     CheckedFit, Fit, Limits, NoFit, Range, Share, UnknownFit)
 from pertxogai.fitting.tightening import tightened
@@ -68,7 +68,8 @@ def _all_checks(placer: Placer, dimensions: Sequence[Toleranced],
 
 def _are_exceeded(placer: Placer, checks: Checks) -> bool:
     """Whether a check is worse in a case that was placed than in its worst case."""
-    return any(not each.worst.least - NOISE <= case.values[number] <= each.worst.greatest + NOISE
+    return any(not -each.noise <= case.values[number] - each.worst.least
+               or case.values[number] - each.worst.greatest > each.noise
                for each in checks if isinstance(each, CheckedFit)
                for number in each.numbers for case in placer.within.values())
 
@@ -122,7 +123,8 @@ def _checked(placer: Placer, dimensions: Sequence[Toleranced], numbers: tuple[in
     low, high = _limits(gauge)
     nominal = min(given[number] for number in numbers)
     told = CheckedFit(gauge.check, numbers, low, high, nominal, gauged, squares,
-                      _shares([_most(each) for each in zip(*moved)]), tuple(dimensions))
+                      _shares([_most(each) for each in zip(*moved)]), tuple(dimensions),
+                      gauge.noise)
     try:
         return replace(told, tightened=tightened(placer, told))
     except Unplaced:
@@ -149,7 +151,8 @@ def _by_squares(base: int, moved: Sequence[Effect], worst: Worst) -> Range | Non
     squares = sum(each.gives() ** 2 for each in moved)
     reach = sum(2 * each.gives() for each in moved)
     turning = sum(moved[place].gives() ** 2 for place in worst.turning)
-    if turning > squares * LITTLE or (worst.greatest - worst.least) * (1 - LITTLE) > reach + NOISE:
+    most = (worst.greatest - worst.least) * (1 - LITTLE)
+    if turning > squares * LITTLE or most > reach + max((each.noise for each in moved), default=0):
         return None
     middle = base + sum(each.middle() - base for each in moved)
     return Range(round(float(middle) - sqrt(squares)), round(float(middle) + sqrt(squares)))

@@ -12,6 +12,7 @@ from pertxogai.drawing import (
     PointRef, Radius, ShapeRef, XDistance, YDistance)
 from pertxogai.drawing.tolerances.check import Check
 from pertxogai.exact import Number, Vector, between, cross, dot, root, square
+from pertxogai.fitting.rounding import NOISE, noise_of
 from pertxogai.judging.measure import PointNm, Solution
 from pertxogai.judging.measure.placed import Placed
 
@@ -39,7 +40,8 @@ class Gauge:
     without a sign lies where it lies as the drawing is placed: 1 or -1. of_the_rest: whether an
     angle is what is left to 180 degrees. near: of an angle the turn as the drawing is placed, in
     millionths: what is measured is within half a turn of it, and so doesn't leap. end: of two
-    segments at which end of the second it is measured, 0 or 1."""
+    segments at which end of the second it is measured, 0 or 1. noise: what of it is rounding, in
+    millionths."""
 
     check: Check
     drawing: Drawing
@@ -47,13 +49,15 @@ class Gauge:
     of_the_rest: bool = False
     near: int = 0
     end: int = 0
+    noise: int = NOISE
 
     @staticmethod
     def of(check: Check, drawing: Drawing, nominal: Solution) -> tuple[Gauge, ...]:
         """The gauges of a check of a drawing that is placed: one, or of two segments one for each
         end. Raises NoSide."""
+        noise = noise_of(check.asked, Placed(drawing, nominal))
         ends = range(2) if isinstance(check.asked, ParallelDistance) else range(1)
-        plain = [Gauge(check, drawing, end=end) for end in ends]
+        plain = [Gauge(check, drawing, end=end, noise=noise) for end in ends]
         there = sum(each.measured(nominal) for each in plain)
         if not check.is_signed and isinstance(check.asked, SIDED) and abs(there) <= NOTHING:
             return tuple(replace(each, sign=_drawn_sign(plain)) for each in plain)

@@ -7,6 +7,7 @@ from fractions import Fraction
 
 from pertxogai.drawing import Drawing, DrawingUnsound
 from pertxogai.fitting.gauges import Gauge, Way
+from pertxogai.fitting.rounding import NOISE
 from pertxogai.fitting.toleranced import Toleranced, moved
 from pertxogai.judging import DrawingRefused, Judgement
 from pertxogai.judging.edited import EditedDrawing
@@ -16,9 +17,6 @@ from pertxogai.language import NotHeld, Refusal
 from pertxogai.program import Solver
 from pertxogai.program.reports import Verdict
 
-NOISE = 20
-"""Millionths of a millimetre or a degree: what moves a check by no more is the rounding of places
-to whole nanometres, and of angles to ratios."""
 BESIDE = Fraction(1, 1000)
 """Where a case between the ends of a dimension can't be placed, cases are tried this part of its
 tolerance to either side."""
@@ -171,8 +169,13 @@ class Placer:
     def tilts(self, numbers: Sequence[int]) -> bool:
         """Whether of two segments more was measured at one end than at the other. numbers: the
         places of the gauges of one check, from 0."""
-        return any(max(there) - min(there) > NOISE for there in (
+        noise = self.noise(numbers[0])
+        return any(max(there) - min(there) > noise for there in (
             [case.values[number] for number in numbers] for case in self._known.values()))
+
+    def noise(self, number: int) -> int:
+        """The rounding of what the gauge of that place, from 0, measures, in millionths."""
+        return self._gauges[number].noise
 
     def _placed(self, offs: Offs) -> Case:
         drawing = self._edited.drawing

@@ -9,7 +9,6 @@ from functools import cached_property
 from pertxogai.drawing import Drawing
 from pertxogai.drawing.tolerances.check import Check
 from pertxogai.fitting.corners import Worst
-from pertxogai.fitting.placing import NOISE
 from pertxogai.fitting.toleranced import MILLIONTHS, Dimensions, Toleranced
 from pertxogai.judging import GoodJudgement
 
@@ -50,12 +49,12 @@ class Range:
     least: int
     greatest: int
 
-    def lies_within(self, limits: Limits) -> bool:
+    def lies_within(self, limits: Limits, noise: int) -> bool:
         """Whether all of it lies between two limits; what is beyond a limit only by the rounding of
-        positions counts as at the limit."""
+        positions counts as at the limit. noise: that rounding."""
         low, high = limits
-        return ((low is None or self.least >= low - NOISE)
-                and (high is None or self.greatest <= high + NOISE))
+        return ((low is None or self.least >= low - noise)
+                and (high is None or self.greatest <= high + noise))
 
 
 @dataclass(frozen=True)
@@ -65,7 +64,8 @@ class CheckedFit:
     given; all in millionths of a millimetre or a degree. by_squares:
     the root of the sum of squares to both sides of the middle; None where the check isn't monotone
     in what gives a good part of it, or where one of two segments tilts. shares: those that give
-    something, the greatest first. dimensions: all of them. tightened: where the first of the shares
+    something, the greatest first. dimensions: all of them. noise: the rounding of what is measured,
+    in millionths. tightened: where the first of the shares
     has one tolerance to both sides, and to tighten that alone is enough, to how many micrometres or
     degrees, as the program placed it. has_gap: whether a part within tolerance can't be placed, by
     dimensions that move the check."""
@@ -79,6 +79,7 @@ class CheckedFit:
     by_squares: Range | None
     shares: tuple[Share, ...]
     dimensions: tuple[Toleranced, ...]
+    noise: int
     tightened: Fraction | None = None
     has_gap: bool = False
 
@@ -102,7 +103,7 @@ class CheckedFit:
     @property
     def moving(self) -> frozenset[int]:
         """The dimensions that move the check, by their places from 0."""
-        giving = {share.dimension for share in self.shares if share.gives > NOISE}
+        giving = {share.dimension for share in self.shares if share.gives > self.noise}
         return self.worst.turning.union(place for place, each in enumerate(self.dimensions)
                                         if each in giving)
 
@@ -125,16 +126,16 @@ class CheckedFit:
     @property
     def answer(self) -> Answer:
         """Whether it fits in the worst case."""
-        if not self.placed.lies_within(self.allowed):
+        if not self.placed.lies_within(self.allowed, self.noise):
             return Answer.BEYOND
-        if self.has_gap or not self.reckoned.lies_within(self.allowed):
+        if self.has_gap or not self.reckoned.lies_within(self.allowed, self.noise):
             return Answer.UNSURE
         return Answer.FITS
 
     @property
     def fits_by_squares(self) -> bool:
         """Whether the root of the sum of squares lies within the limits."""
-        return self.by_squares is not None and self.by_squares.lies_within(self.allowed)
+        return self.by_squares is not None and self.by_squares.lies_within(self.allowed, self.noise)
 
 
 @dataclass(frozen=True)

@@ -43,7 +43,7 @@ class _One:
 
     def fits(self, off: Fraction) -> bool:
         """Whether it fits with another tolerance. Raises Unplaced."""
-        return self.worst(off).lies_within(self.told.allowed)
+        return self.worst(off).lies_within(self.told.allowed, self.told.noise)
 
     def _with(self, offs: Offs, off: Fraction) -> Offs:
         return tuple((off if each > 0 else -off) if at == self.place else each

@@ -7,7 +7,6 @@ from fractions import Fraction
 
 from pertxogai.drawing import Drawing
 from pertxogai.fitting import Answer, CheckedFit, Fit, NoFit, Range, Share, UnknownFit
-from pertxogai.fitting.placing import NOISE
 from pertxogai.fitting.toleranced import MILLIONTHS, Toleranced
 
 MOST_SHARES = 8
@@ -140,9 +139,9 @@ def _beyond(ranged: Range, of: CheckedFit) -> str:
     """By how much a range lies beyond the limits; nothing where it doesn't."""
     beyond = []
     low, high = of.allowed
-    if low is not None and ranged.least < low - NOISE:
+    if low is not None and ranged.least < low - of.noise:
         beyond.append(f"{_amount(low - ranged.least, of)} too small")
-    if high is not None and ranged.greatest > high + NOISE:
+    if high is not None and ranged.greatest > high + of.noise:
         beyond.append(f"{_amount(ranged.greatest - high, of)} too large")
     return " and ".join(beyond)
 
