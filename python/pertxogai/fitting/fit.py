@@ -68,8 +68,8 @@ def _all_checks(placer: Placer, dimensions: Sequence[Toleranced],
 
 def _are_exceeded(placer: Placer, checks: Checks) -> bool:
     """Whether a check is worse in a case that was placed than in its worst case."""
-    return any(not -each.noise <= case.values[number] - each.worst.least
-               or case.values[number] - each.worst.greatest > each.noise
+    return any(case.values[number] < each.worst.least - each.noise
+               or case.values[number] > each.worst.greatest + each.noise
                for each in checks if isinstance(each, CheckedFit)
                for number in each.numbers for case in placer.within.values())
 
@@ -88,8 +88,8 @@ def _with_gaps(placer: Placer, checks: Checks) -> Checks:
 def _gauges(check: Check, good: GoodJudgement) -> Gauges | UnknownFit:
     whole = good.judged.judgement.whole
     if whole is not None and floats(check, whole):
-        return UnknownFit(check, f"it is measured from the origin or the axes, and the whole can "
-                                 f"still be {whole.text()} (by rank)")
+        return UnknownFit(check, f"it is measured against the origin or the axes, and the whole "
+                                 f"can still be {whole.text()} (by rank)")
     try:
         return Gauge.of(check, good.drawing, good.solution)
     except NoSide as why:
