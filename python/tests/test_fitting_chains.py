@@ -459,3 +459,12 @@ def test_what_is_not_tied_to_the_axes_is_not_measured_from_them(program) -> None
     aside, run, height = found.checks
     assert isinstance(aside, UnknownFit) and "moved along x (by rank)" in aside.why
     assert worst(run) == (39.9, 40.1) and worst(height) == (4.9, 5.1)
+
+
+def test_a_value_that_is_read_off_what_is_placed_is_read_off_each_case(program) -> None:
+    # The middle of a bar: half of 32.342 to 32.458 from its end. The program is told the half as it
+    # comes out where the bar is placed.
+    (half,) = checks("check Half distance P S.start 16.171 .. 16.229\n"
+                     "segment S -0.15 -0.88 1.3 31.77\npoint P 0.53 14.95\nmidpoint P S\n"
+                     "length S 32.4 +-0.058\n", program)
+    assert worst(half) == (16.171, 16.229) and half.answer is Answer.FITS

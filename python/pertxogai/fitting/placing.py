@@ -214,7 +214,7 @@ def _why_not(judged: Judgement, limit: Limit) -> str:
     if judged.solution is None:
         return ("it can't be placed as drawn" if judged.verdict is Verdict.WELL
                 else f"it is {judged.verdict.value}")
-    if judged.left_out or judged.frozen or judged.grown:
+    if judged.left_out or judged.frozen:
         return "not all of it is passed to the program there"
     beyond = next(iter(limit.beyond(judged.deviations)), None)
     return "" if beyond is None else "a constraint isn't met"
