@@ -335,8 +335,9 @@ def test_json_and_the_chart(capsys, program, monkeypatch, tmp_path) -> None:
 
 
 def test_corners_by_chance_lie_within_the_worst_case(program) -> None:
-    # bench/fitting asks of 1,000 drawings, and of 100 corners by chance of each.
-    found = [what for what in (tried(seed, 12, program) for seed in range(8, 26)) if what]
-    assert sum(what.corners for what in found) > 80
+    # bench/fitting asks of 1,000 drawings, and of 100 corners by chance of each. A drawing of three
+    # dimensions has eight corners.
+    found = [what for what in (tried(seed, 12, program) for seed in range(8, 17)) if what]
+    assert sum(what.corners for what in found if what.is_known) > 60
     assert sum(what.anew for what in found) > 5
     assert [line for what in found for line in what.wrong] == []

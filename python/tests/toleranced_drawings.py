@@ -36,10 +36,10 @@ WHOLE = 360_000_000
 
 
 def toleranced(seed: int) -> Drawing | None:
-    """The drawing of a seed, with a tolerance for each dimension and two checks or more; None where
-    none is made, or it has no three points."""
+    """The drawing of a seed, of up to one, two or three blocks in turn, with a tolerance for each
+    dimension and two checks or more; None where none is made, or it has no three points."""
     try:
-        drawing = read_drawing(made(seed, Kind.COMPLETE, MOST_BLOCKS).text)
+        drawing = read_drawing(made(seed, Kind.COMPLETE, 1 + seed % MOST_BLOCKS).text)
     except NotMade:
         return None
     random = Random(seed)
