@@ -7,6 +7,7 @@ from dataclasses import dataclass, replace
 from enum import Enum
 
 from pertxogai.judging import Then, judge_at_once
+from pertxogai.judging.naming import listed
 from pertxogai.judging.surplus import without
 from pertxogai.program.reports import Verdict
 from pertxogai_freecad import changes
@@ -66,7 +67,7 @@ class Candidate:
         """All of it, to read."""
         stays = f"; {self.stays()}" if self.followers else ""
         off = f", off by {self.off}" if self.off else ""
-        with_others = f", with {', '.join(self.others)}" if self.others else ""
+        with_others = f", with {listed(self.others)}" if self.others else ""
         rest = f"; the rest is {self.rest} without it" if self.rest else ""
         return (f"{self.name}: {self.standing.value}{off}{with_others}{rest} "
                 f"({self.by.value}){stays}")

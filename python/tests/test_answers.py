@@ -629,7 +629,7 @@ def test_what_holds_since_the_whole_was_laid_so_is_no_repeat(program, text):
     assert found.verdict is Verdict.WELL and not any(each.amount > 1 for each in found.deviations)
     assert found.repeats == () and found.left_out == () and found.held == ("Mirror",)
     lines = list(drawing_lines(JudgedDrawing("it", read_drawing(text), found)))
-    assert "  not passed to the program, but holds as measured: Mirror" in lines
+    assert "  not passed to the program, but holds as measured: 'Mirror'" in lines
 
 
 def test_points_that_lie_symmetric_to_the_origin_are_laid_about_it(program):
@@ -688,7 +688,7 @@ def test_what_is_well_and_says_too_much_by_rank_says_among_what(program):
     assert (found.held, found.repeats, found.left_out) == (("Mine",), (), ())
     judged = JudgedDrawing("it", read_drawing(BY_A_MIDDLE), found)
     assert drawing_json(judged)["by_rank"]["excess"] == [list(group)]
-    assert ("  one of these is redundant all the same (by rank): Yours, Right, Up, Long, Far, End"
+    assert ("  one of these is redundant all the same (by rank): 'Yours', 'Right', 'Up', 'Long', 'Far', 'End'"
             in drawing_lines(judged))
     fewer = judge(read_drawing(BY_A_MIDDLE.replace("End: x S.end +30\n", "")), program)
     assert fewer.verdict is Verdict.WELL and fewer.too_many == ()

@@ -162,8 +162,8 @@ def test_the_command_tells_it_behind_the_verdict(program: Program, tmp_path, cap
     main(["judge", str(path), "--as-stored", "--program", program.path])
     lines = capsys.readouterr().out.splitlines()
     at = lines.index("  as stored, measured by the program: within 0.1 mm and 0 ppb")
-    assert lines[at + 1] == "    AB: off by 0.1 mm, more than it says"
-    assert "    the first beyond the limit: AB, off by 0.1 mm, more than it says" in lines
+    assert lines[at + 1] == "    'AB': off by 0.1 mm, more than it says"
+    assert "    the first beyond the limit: 'AB', off by 0.1 mm, more than it says" in lines
     main(["judge", str(path), "--as-stored", "--json", "--program", program.path])
     sketch, = json.loads(capsys.readouterr().out)["sketches"]
     first = sketch["as_stored"]["by_program"][0]

@@ -107,8 +107,8 @@ def test_the_group_is_told_below_the_dimension_and_in_json(program: Program) -> 
     drawing = read_drawing(f"{TRIANGLE}Again: distance A C 5.01\n")
     judged = JudgedDrawing("it", drawing, judge(drawing, program))
     lines = list(drawing_lines(judged))
-    place = next(at for at, line in enumerate(lines) if line.startswith("    Again: conflicting, off by"))
-    assert lines[place + 1] == "      conflicts with: First"
+    place = next(at for at, line in enumerate(lines) if line.startswith("    'Again': conflicting, off by"))
+    assert lines[place + 1] == "      conflicts with: 'First'"
     spare = {each["name"]: each["follows_from"] for each in drawing_json(judged)["spare"]}
     assert spare == {"First": ["Again"], "Again": ["First"]}
 
@@ -117,7 +117,7 @@ def test_a_repeat_says_that_it_repeats(program: Program, tmp_path, capsys) -> No
     path = tmp_path / "twice.drawing"
     path.write_text(f"{TRIANGLE}Again: distance A C 5\n")
     assert main(["judge", str(path), "--program", program.path]) == 1
-    assert "      follows from: First" in capsys.readouterr().out.splitlines()
+    assert "      follows from: 'First'" in capsys.readouterr().out.splitlines()
     main(["judge", str(path), "--json", "--program", program.path])
     sketch, = json.loads(capsys.readouterr().out)["sketches"]
     assert [each["follows_from"] for each in sketch["spare"]] == [["Again"], ["First"]]

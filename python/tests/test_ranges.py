@@ -112,7 +112,7 @@ def test_an_angle_is_told_to_a_ten_thousandth_of_a_degree(program):
     assert found.low.at == Fraction(1, 10_000)
     assert found.low.fault.kind is FaultKind.LIMIT
     assert Fraction(146) < found.high.at < Fraction(147)
-    assert found.high.fault.text.startswith(("Tilt is off by", "Arm runs the other way"))
+    assert found.high.fault.text.startswith(("'Tilt' is off by", "Arm runs the other way"))
 
 
 def test_a_value_goes_as_far_as_all_that_follows_from_it(program):
@@ -324,7 +324,7 @@ def test_what_is_over_beside_the_present_number_is_asked_of_the_program(program)
     found = range_of(text, "Rad", program)
     assert found.low.at == found.high.at == 5
     assert {found.low.fault.text, found.high.fault.text} == {
-        "it is over (over-constrained): remove one of Rad, Dia"}
+        "it is over (over-constrained): remove one of 'Rad', 'Dia'"}
     assert found.low.fault.kind is FaultKind.VERDICT
 
 
@@ -407,25 +407,25 @@ def test_each_failure_is_told_in_the_designers_names():
         return NumberFault(StepAt(3, Phase.BUILD, quantity, element), cause, -1, 1, 38)
 
     assert told(stopped("height", Cause.GAP, corner), ("A", "B", "C")) == (
-        "C can't be placed: the distances make no triangle (step 3, height gap), by First")
+        "C can't be placed: the distances make no triangle (step 3, height gap), by 'First'")
     assert told(stopped("rise", Cause.GAP, "Help"), ("A", "B")) == (
         "a construction line at A, B can't be placed: no line lies at these distances from both "
-        "points (step 3, rise gap), by First")
+        "points (step 3, rise gap), by 'First'")
     assert told(stopped("tx", Cause.FLAT, "Help"), dimensions=()) == (
         "a construction line can't be placed: step 3, tx flat")
     assert told(RangeFault(StepAt(1, Phase.BUILD, "height", corner), 38)) == (
         "C can't be placed: the numbers grow too large to compute with (step 1, height range), "
-        "by First")
+        "by 'First'")
     assert told(FrameFault("x", corner, 38), ("C",), ()) == (
         "C can't be placed: the numbers grow too large to compute with")
     # A sketch is so many times larger than its drawing; a millionth of a turn is 0.000057 degrees.
     assert told(ConstraintFault(1, 2_000_000 * spelled.scale, Unit.NM, 1000 * spelled.scale)) == (
-        "First is met only within 2 mm, not 0.001 mm")
+        "'First' is met only within 2 mm, not 0.001 mm")
     assert told(LineFault("Help", 2158, 1000), ("Up",), ()) == (
         "the direction of Up is met only within 0.000124 degrees, not 0.000057 degrees")
     assert told(TurnedFault(ClusterName(True, 1), True, -1), ("A", "B", "C")) == (
         "A, B, C would lie mirrored")
-    assert told(TurnedFault(ClusterName(False, 1), True, -1)) == "First would lie mirrored"
+    assert told(TurnedFault(ClusterName(False, 1), True, -1)) == "'First' would lie mirrored"
 
 
 @pytest.fixture

@@ -98,7 +98,7 @@ def test_a_contradiction_in_what_is_open_is_told(capsys, tmp_path):
         "One: length D 30\nTwo: length E 100\nThree: length F 40\n")
     main(["judge", str(tmp_path / "two.drawing")])
     out = capsys.readouterr().out
-    assert "  can't all be met (by numbers): Three, Two, One" in out.splitlines()
+    assert "  can't all be met (by numbers): 'Three', 'Two', 'One'" in out.splitlines()
 
 
 def test_an_open_drawing_is_searched_once_and_nothing_is_asked_twice(capsys, monkeypatch):

@@ -15,6 +15,7 @@ from pertxogai.judging.finding import Finding, PlacesBy
 from pertxogai.judging.good import Lack, reasons_against
 from pertxogai.judging.judged_drawing import JudgedDrawing
 from pertxogai.judging.measure import Unit, amount_text, units_text
+from pertxogai.judging.naming import listed, quoted
 from pertxogai.judging.states import InPieces, WithFault, WithPlaces, WithSurplus
 from pertxogai.output.fault_text import fault_text
 from pertxogai.output.finding_text import freedoms_text
@@ -104,7 +105,7 @@ def _well(judged: JudgedDrawing, placed: WithPlaces) -> Iterator[Line]:
     off = [each for each in judged.worst() if each.amount]
     for each in off:
         yield Line(f"measured: at most {amount_text(each)} off, "
-                   f"{each.called(judged.drawing)}", "quiet")
+                   f"{quoted(each.called(judged.drawing))}", "quiet")
     if not off:
         yield Line("measured: each constraint holds exactly", "quiet")
 
@@ -179,14 +180,14 @@ def _constructed(finding: Finding) -> Iterator[Line]:
 
 def _too_many(judgement: Judgement) -> Iterator[Line]:
     """What is too many all the same of what isn't over."""
-    yield from (Line(f"One of these is redundant all the same, by rank: {', '.join(each)}.")
+    yield from (Line(f"One of these is redundant all the same, by rank: {listed(each)}.")
                 for each in judgement.too_many)
 
 
 def _unmet(judgement: Judgement) -> Iterator[Line]:
     """That no shape is found, and without what there is one."""
     if isinstance(judgement, WeighedJudgement) and judgement.unmet is not None:
-        without = (f" Without any one of these a shape is found: {', '.join(judgement.unmet)}."
+        without = (f" Without any one of these a shape is found: {listed(judgement.unmet)}."
                    if judgement.unmet else "")
         yield Line("No shape with these values was found near the drawing, by numbers." + without)
 

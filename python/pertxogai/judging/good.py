@@ -20,6 +20,7 @@ from pertxogai.judging.measure.deviation import Deviation, Unit
 from pertxogai.judging.measure.limit import amount_text, units_text
 from pertxogai.judging.measure.measuring import Measurement
 from pertxogai.judging.measure.solution import MissingPlace, Solution
+from pertxogai.judging.naming import quoted
 from pertxogai.judging.settled import settled
 from pertxogai.judging.trials import Trial
 from pertxogai.language import (
@@ -276,7 +277,7 @@ def _constraints_off(judged: JudgedDrawing, solution: Solution) -> Iterator[Reas
         yield Reason(Lack.UNMEASURED, str(missing))
         return
     for each in sorted(judged.limit.beyond(deviations), key=_order):
-        text = f"{each.called(drawing)} is off by {amount_text(each)}"
+        text = f"{quoted(each.called(drawing))} is off by {amount_text(each)}"
         yield Reason(Lack.OFF, text, each.number, each)
 
 

@@ -1,6 +1,7 @@
 """What a line, an element or a constraint of the sketch is called in the designer's words."""
 from __future__ import annotations
 
+import re
 from collections.abc import Iterable
 from dataclasses import dataclass
 from functools import cached_property
@@ -8,6 +9,20 @@ from functools import cached_property
 from pertxogai.drawing import Drawing, PointRef, ShapeRef
 from pertxogai.spelling.facts import Knot, Owner
 from pertxogai.spelling.writing import Spelled
+
+_NOT_GIVEN = re.compile(r"constraint \d+ \(|the ends of |Constraint\d+$")
+"""How names of constraints begin that no designer gave: ours, and those of FreeCAD."""
+
+
+def quoted(name: str) -> str:
+    """The name of a constraint, for people to read: in quotes if a designer gave it, so that none
+    is read as a word of the sentence."""
+    return name if _NOT_GIVEN.match(name) else f"'{name}'"
+
+
+def listed(names: Iterable[str]) -> str:
+    """The names of constraints one after the other, for people to read."""
+    return ", ".join(map(quoted, names))
 
 
 @dataclass(frozen=True)

@@ -8,6 +8,7 @@ from functools import cached_property
 
 from pertxogai.drawing import points_of
 from pertxogai.judging import Judgement
+from pertxogai.judging.naming import listed
 from pertxogai.language.clusters import Choice, ClusterName, Step
 from pertxogai.output.picture.marks import PointMm
 from pertxogai.output.placed_elements import Element, ElementLine, ElementPoint
@@ -101,7 +102,7 @@ class Construction:
         """What a constraint says, by the designer's names; what a step's cluster is called."""
         if name.is_step:
             return f"what step {name.number} made"
-        return ", ".join(self.judgement.names.constraint(name.number)) or "construction lines"
+        return listed(self.judgement.names.constraint(name.number)) or "construction lines"
 
     @cached_property
     def members(self) -> Mapping[ClusterName, frozenset[str]]:

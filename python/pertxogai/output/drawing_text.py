@@ -8,6 +8,7 @@ from pertxogai.judging.good import Lack, reasons_against
 from pertxogai.judging.judged_drawing import CountedDrawing, JudgedDrawing
 from pertxogai.judging.measure import Unit, amount_text
 from pertxogai.judging.measure.limit import units_text
+from pertxogai.judging.naming import listed, quoted
 from pertxogai.judging.states import WithPlaces
 from pertxogai.output.finding_text import finding_lines, freedoms_text
 from pertxogai.output.values_text import values_lines
@@ -54,11 +55,12 @@ def drawing_lines(judged: CountedDrawing) -> Iterator[str]:
     yield from (f"  left out of the file: {what}" for what in judged.not_drawn)
     yield from _left_out_lines(judgement)
     yield from (f"  doesn't constrain the sketch: {what}" for what in judged.aside)
-    yield from (f"  fixed at the drawn value, and measured: {what}" for what in judgement.frozen)
-    yield from (f"  passed to the program with a rounded value: {what}"
+    yield from (f"  fixed at the drawn value, and measured: {quoted(what)}"
+                for what in judgement.frozen)
+    yield from (f"  passed to the program with a rounded value: {quoted(what)}"
                 for what in judgement.rounded)
-    yield from (f"  redundant, and removable: {what}" for what in judgement.repeats)
-    yield from (f"  not passed to the program, but holds as measured: {what}"
+    yield from (f"  redundant, and removable: {quoted(what)}" for what in judgement.repeats)
+    yield from (f"  not passed to the program, but holds as measured: {quoted(what)}"
                 for what in judgement.held)
     yield from (f"  no size given for {what}: drawn radius kept" for what in
                 judgement.undimensioned)
@@ -68,7 +70,7 @@ def drawing_lines(judged: CountedDrawing) -> Iterator[str]:
     yield from _failure_lines(judged)
     yield from _lacks_lines(judgement)
     yield from _whole_lines(judgement)
-    yield from (f"  one of these is redundant all the same (by rank): {', '.join(each)}"
+    yield from (f"  one of these is redundant all the same (by rank): {listed(each)}"
                 for each in judgement.too_many)
     yield from _missing_lines(judged)
     yield from _proposed_lines(judged)
@@ -96,10 +98,10 @@ def _left_out_lines(judgement: Judgement) -> Iterator[str]:
     """What couldn't be spelled, and doesn't hold all the same."""
     for each in judgement.left_out_measured:
         if each.off is None:
-            yield f"  not passed to the program: {each.name}"
+            yield f"  not passed to the program: {quoted(each.name)}"
         elif not each.holds():
-            yield (f"  not passed to the program, and off as measured: {each.name}, by "
-                   f"{amount_text(each.off)}")
+            yield (f"  not passed to the program, and off as measured: {quoted(each.name)}, "
+                   f"by {amount_text(each.off)}")
 
 
 def _placed_lines(judged: JudgedDrawing) -> Iterator[str]:
@@ -111,7 +113,7 @@ def _placed_lines(judged: JudgedDrawing) -> Iterator[str]:
            f"{units_text(placed.angle_ppb, Unit.PPB)}")
     off = [each for each in judged.worst() if each.amount]
     for each in off:
-        yield f"  measured: at most {amount_text(each)} off, {each.called(judged.drawing)}"
+        yield f"  measured: at most {amount_text(each)} off, {quoted(each.called(judged.drawing))}"
     if not off:
         yield "  measured: each constraint holds exactly"
 
@@ -136,7 +138,7 @@ def _failure_lines(judged: CountedDrawing) -> Iterator[str]:
         sketch, judgement.tried, named,
         "no alternative solution of the steps beneath meets all of it"))
     if failure.dimensions and not judgement.unmet:
-        yield f"  what to do: check and correct {', '.join(failure.dimensions)}"
+        yield f"  what to do: check and correct {listed(failure.dimensions)}"
 
 
 def _lacks_lines(judgement: Judgement) -> Iterator[str]:
@@ -208,20 +210,20 @@ def _unmet_lines(judgement: CountedJudgement) -> Iterator[str]:
     if judgement.unmet is not None:
         yield "  no shape with these values was found near the drawing (by numbers)"
     if judgement.unmet:
-        among = ", ".join(judgement.unmet)
-        yield f"  what to do: correct one of {among}; without any one of these a shape is found"
+        yield (f"  what to do: correct one of {listed(judgement.unmet)}; without any one of these "
+               "a shape is found")
 
 
 def _surplus_lines(judgement: CountedJudgement) -> Iterator[str]:
     """What is removable, how far it is off, and what the rest is then."""
-    yield from (f"  over-constrained as measured, which isn't certified: {what} can't be encoded, "
-                "and the rest is enough" for what in judgement.measured_off)
+    yield from (f"  over-constrained as measured, which isn't certified: {quoted(what)} can't be "
+                "encoded, and the rest is enough" for what in judgement.measured_off)
     yield from _advice_on(judgement.surplus)
     for each in judgement.surplus:
         then = "" if each.then is None else f"; without it the rest is {each.then.value}"
-        yield f"    {each.name}{_off_text(each)}{then}"
+        yield f"    {quoted(each.name)}{_off_text(each)}{then}"
         if each.others:
-            yield f"      {FOLLOWS[each.repeats()]}: {', '.join(each.others)}"
+            yield f"      {FOLLOWS[each.repeats()]}: {listed(each.others)}"
     yield from (f"  a dimension is missing all the same (by rank): {what}"
                 for what in judgement.loose)
 

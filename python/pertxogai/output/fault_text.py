@@ -7,6 +7,7 @@ from typing import assert_never
 from pertxogai.judging.faults import Amount, Failure
 from pertxogai.judging.judgement import Judgement
 from pertxogai.judging.measure import Unit, units_text
+from pertxogai.judging.naming import listed
 from pertxogai.program.reports import (
     Cause, ConstraintFault, FrameFault, LineFault, NumberFault, RangeFault, TurnedFault)
 
@@ -67,7 +68,7 @@ def _ends(amount: Amount) -> str:
 
 def _named(failure: Failure) -> str:
     """The dimensions of a fault that is about one."""
-    return ", ".join(failure.dimensions) or "a construction line"
+    return listed(failure.dimensions) or "a construction line"
 
 
 def _told(judgement: Judgement, amount: int, unit: str) -> str:

@@ -8,6 +8,7 @@ from itertools import groupby
 from pertxogai.judging.finding import Finding, Group, PlacesBy, PointMove
 from pertxogai.judging.judged_drawing import JudgedDrawing
 from pertxogai.judging.measure import amount_text
+from pertxogai.judging.naming import listed, quoted
 from pertxogai.program.reports import Verdict
 
 MOST_MOVES = 8
@@ -38,9 +39,9 @@ def finding_lines(judged: JudgedDrawing) -> Iterator[str]:
                "(by numbers)")
     yield from _move_lines(finding)
     yield from (f"  redundant (by numbers): {_group_text(each)}" for each in finding.repeats)
-    yield from (f"  can't all be met (by numbers): {', '.join(each)}"
+    yield from (f"  can't all be met (by numbers): {listed(each)}"
                 for each in finding.contradictions)
-    yield from (f"  in doubt, redundant or conflicting (by numbers): {', '.join(each)}"
+    yield from (f"  in doubt, redundant or conflicting (by numbers): {listed(each)}"
                 for each in finding.in_doubt)
 
 
@@ -92,8 +93,8 @@ def _placed_lines(judged: JudgedDrawing, finding: Finding) -> Iterator[str]:
         yield "  no positions were found that meet all of it (by numbers)"
     if finding.solution is not None:
         off = [each for each in judged.worst() if each.amount]
-        yield from (f"  measured: at most {amount_text(each)} off, {each.called(judged.drawing)}"
-                    for each in off)
+        yield from (f"  measured: at most {amount_text(each)} off, "
+                    f"{quoted(each.called(judged.drawing))}" for each in off)
         if not off:
             yield "  measured: each constraint holds exactly"
 
@@ -122,4 +123,4 @@ def _along_text(moves: list[PointMove]) -> str:
 def _group_text(group: Group) -> str:
     """What is redundant, and from which others it follows."""
     latest, *others = group
-    return f"{latest}, given {', '.join(others)}" if others else latest
+    return f"{quoted(latest)}, given {listed(others)}" if others else quoted(latest)

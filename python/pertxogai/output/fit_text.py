@@ -8,6 +8,7 @@ from fractions import Fraction
 from pertxogai.drawing import Drawing
 from pertxogai.fitting import Answer, CheckedFit, Fit, NoFit, Range, Share, UnknownFit
 from pertxogai.fitting.toleranced import MILLIONTHS, Toleranced
+from pertxogai.judging.naming import listed
 
 MOST_SHARES = 8
 """Of this number of dimensions at most it is told what they give, those that give most."""
@@ -167,7 +168,7 @@ def _named(drawing: Drawing, numbers: Sequence[int]) -> str:
     """Dimensions by their places, or how many where they are many."""
     if len(numbers) > MOST_NAMED:
         return f"{len(numbers)} dimensions"
-    return ", ".join(drawing.called(number) for number in numbers)
+    return listed(map(drawing.called, numbers))
 
 
 def _share_text(drawing: Drawing, share: Share, unit: str) -> str:

@@ -7,6 +7,7 @@ from pertxogai.drawing import Drawing
 from pertxogai.judging.as_stored import StoredOff, StoredOffs
 from pertxogai.judging.measure import Deviation, Unit, amount_text
 from pertxogai.judging.measure.limit import units_text
+from pertxogai.judging.naming import quoted
 
 
 def stored_lines(stored: StoredOffs, drawing: Drawing) -> Iterator[str]:
@@ -18,14 +19,15 @@ def stored_lines(stored: StoredOffs, drawing: Drawing) -> Iterator[str]:
         yield ("  as stored, measured by the program: within "
                f"{units_text(stored.length_nm, Unit.NM)} and "
                f"{units_text(stored.angle_ppb, Unit.PPB)}")
-        yield from _each((" with ".join(each.names), _off_text(each))
+        yield from _each((" with ".join(map(quoted, each.names)), _off_text(each))
                          for each in stored.by_program)
         if stored.first:
-            first = " with ".join(stored.first.names) or "construction lines"
+            first = " with ".join(map(quoted, stored.first.names)) or "construction lines"
             yield f"    the first beyond the limit: {first}, {_off_text(stored.first)}"
     if stored.others:
         yield "  as stored, not passed to the program unchanged, measured by pertxogai:"
-        yield from _each((each.called(drawing), _deviation_text(each)) for each in stored.others)
+        yield from _each((quoted(each.called(drawing)), _deviation_text(each))
+                         for each in stored.others)
 
 
 def _each(told: Iterable[tuple[str, str]]) -> Iterator[str]:

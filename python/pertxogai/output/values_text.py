@@ -6,6 +6,7 @@ from collections.abc import Iterator
 from typing import TypedDict
 
 from pertxogai.drawing import Drawing, ReckonedValue, reckoned_values, rounded_roots
+from pertxogai.judging.naming import quoted
 
 
 class ValueJson(TypedDict):
@@ -39,5 +40,5 @@ def values_lines(drawing: Drawing) -> Iterator[str]:
     values = ", ".join(f"{each.name} = {each.quantity.text()}" for each in reckoned_values(drawing))
     if values:
         yield f"  values: {values}"
-    yield from (f"  a root in it is computed to thirty places: {drawing.called(each)}"
+    yield from (f"  a root in it is computed to thirty places: {quoted(drawing.called(each))}"
                 for each in rounded_roots(drawing))

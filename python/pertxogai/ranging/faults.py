@@ -12,6 +12,7 @@ from pertxogai.judging.departures import Departure, DepartureKind, Warned
 from pertxogai.judging.faults import Unit as AmountUnit
 from pertxogai.judging.good import Lack, Reason, mirrored_text
 from pertxogai.judging.measure import Deviation, Unit, amount_text, units_text
+from pertxogai.judging.naming import quoted
 from pertxogai.program.reports import (
     Cause, ConstraintFault, FrameFault, LineFault, NumberFault, RangeFault, StepAt, TurnedFault,
     Verdict)
@@ -78,7 +79,7 @@ def of_warnings(warnings: Sequence[Warned]) -> Fault:
 
 def of_surplus(names: Sequence[str]) -> Fault:
     """That the program says over, and which constraints may go each by itself."""
-    text = f"{of_verdict(Verdict.OVER).text}: remove one of {_some(', ', names)}"
+    text = f"{of_verdict(Verdict.OVER).text}: remove one of {_constraints(names)}"
     return Fault(FaultKind.VERDICT, text)
 
 
@@ -99,7 +100,7 @@ def of_failure(names: Names, failure: Failure) -> Fault:
 
 def of_deviation(off: Deviation, called: str) -> Fault:
     """That a constraint isn't met."""
-    return Fault(FaultKind.OFF, f"{called} is off by {amount_text(off)}")
+    return Fault(FaultKind.OFF, f"{quoted(called)} is off by {amount_text(off)}")
 
 
 def of_gone(names: Sequence[str]) -> Fault:
@@ -148,12 +149,12 @@ def _where(failure: Failure) -> str:
 
 def _named(failure: Failure) -> str:
     """The constraints of a failure."""
-    return _some(", ", failure.dimensions) or "a constraint of a construction line"
+    return _constraints(failure.dimensions) or "a constraint of a construction line"
 
 
 def _cause(failure: Failure) -> str:
     """Why something can't be placed, with the program's words for it, and by which constraints."""
-    beneath = f", by {_some(', ', failure.dimensions)}" if failure.dimensions else ""
+    beneath = f", by {_constraints(failure.dimensions)}" if failure.dimensions else ""
     match failure.fault:
         case NumberFault(at, cause):
             words = (_FLAT if cause is Cause.FLAT or _is_just(failure) else _GAPS).get(at.quantity)
@@ -170,6 +171,11 @@ def _is_just(failure: Failure) -> bool:
     amount = failure.amount
     return (amount is not None and amount.unit is AmountUnit.SQUARE_MM
             and amount.high > -_JUST_MM2)
+
+
+def _constraints(names: Sequence[str]) -> str:
+    """Constraints by their names, the first of them."""
+    return _some(", ", [*map(quoted, names)])
 
 
 def _some(between: str, texts: Sequence[str]) -> str:
