@@ -7,7 +7,8 @@ import pytest
 
 from pertxogai.drawing import Arc, Circle, Drawing, parameters, read_drawing
 from pertxogai.judging import judge
-from pertxogai.judging.departures import departures, warnings
+from pertxogai.judging.departures import Comparison, warnings
+from pertxogai.judging.edges import Edges
 from pertxogai.judging.good import reasons_against
 from pertxogai.judging.judged_drawing import JudgedDrawing
 from pertxogai.judging.measure import Solution
@@ -158,7 +159,8 @@ def test_what_is_drawn_to_go_on_is_not_asked_for():
 
 def test_they_are_no_departures():
     drawing = read_drawing(INNER.format("arc Fillet 25 25 Shelf.end 20 25", "Fillet.end"))
-    assert departures(drawing, as_drawn(drawing)) == ()
+    there = as_drawn(drawing)
+    assert Comparison(drawing, there.radii).departures(Edges(drawing, there), False) == ()
 
 
 BRACKET = """segment Bottom 0 0 79 0

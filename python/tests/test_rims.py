@@ -1,12 +1,16 @@
 """Rims that cross edges or one another: each case worked out by hand."""
 from __future__ import annotations
 
+import random
+from itertools import permutations
+
 import pytest
 
-from pertxogai.drawing import read_drawing
+from pertxogai.drawing import PointRef, Which, read_drawing
 from pertxogai.judging import judge
-from pertxogai.judging.edges import Chord
-from pertxogai.judging.rims import Round
+from pertxogai.judging.edges import Chord, Edge
+from pertxogai.judging.insides import Loop, Loops
+from pertxogai.judging.rims import Rim, Round
 from shared_drawings import LINK
 
 MM = 1_000_000
@@ -214,3 +218,33 @@ y KeyBottom.start -2
 def test_a_circle_that_goes_round_something_does_not_lie_in_it(program, text, x, told):
     found = judge(read_drawing(text.format(x=x)), program)
     assert [each.text() for each in found.warnings] == told
+
+
+def circle(chance: random.Random) -> Round:
+    return Round((chance.randint(-9, 9) * MM, chance.randint(-9, 9) * MM), chance.randint(1, 9) * MM)
+
+
+def triangle(name: str, chance: random.Random) -> list[Edge]:
+    """Its edges, as they are drawn and as they are placed."""
+    def corners() -> list[tuple[int, int]]:
+        return [(chance.randint(-9, 9) * MM, chance.randint(-9, 9) * MM) for _ in range(3)]
+
+    drawn, placed = corners(), corners()
+    return [Edge(f"{name}{at}", (PointRef(f"{name}{at}", Which.START), PointRef(f"{name}{at}", Which.END)),
+                 Chord(drawn[at - 1], drawn[at]), Chord(placed[at - 1], placed[at])) for at in range(3)]
+
+
+@pytest.mark.parametrize("seed", range(40))
+def test_what_leaves_an_outline_is_found_as_by_trying_each_two(seed):
+    chance = random.Random(seed)
+    rims = [Rim(f"C{number}", circle(chance), circle(chance)) for number in range(6)]
+    edges = [*triangle("S", chance), *triangle("T", chance)]
+    ends = [(PointRef(f"{each.name[0]}{(at - 1) % 3}"), PointRef(f"{each.name[0]}{at % 3}"))
+            for at, each in enumerate(edges)]
+    loops = [*(Loop(each.name, (), (each,)) for each in rims),
+             Loop("S0", tuple(edges[:3]), ()), Loop("T0", tuple(edges[3:]), ())]
+    left = [(one.name, other.name) for one, other in permutations(loops, 2)
+            if one.lies_within(other, False) is not one.lies_within(other, True)
+            and not any(one.is_unsure(other, each) for each in (False, True))]
+    found = Loops([*ends, *(None for _ in rims)]).leavers([*edges, *rims])
+    assert sorted(found) == sorted(left)

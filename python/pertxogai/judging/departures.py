@@ -65,11 +65,6 @@ def warnings(drawing: Drawing, solution: Solution, free: bool = False) -> tuple[
     return Comparison(drawing, solution.radii).warnings(Edges(drawing, solution), free)
 
 
-def departures(drawing: Drawing, solution: Solution) -> tuple[Departure, ...]:
-    """Every departure of a placed drawing that is tied to the datum's directions."""
-    return Comparison(drawing, solution.radii).departures(Edges(drawing, solution), False)
-
-
 class Comparison:
     """What of a drawing may depart from how it is drawn, whatever its dimensions are. sized: the
     circles and arcs of which a radius is placed."""

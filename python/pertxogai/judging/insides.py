@@ -1,9 +1,9 @@
 """What lies within a closed outline, or outside of it: as it is drawn, and as it is placed."""
 from __future__ import annotations
 
-from collections.abc import Iterator, Sequence
+from bisect import bisect_left, bisect_right
+from collections.abc import Iterable, Iterator, Sequence
 from dataclasses import dataclass
-from itertools import permutations
 
 from pertxogai.classes import Classes
 from pertxogai.drawing import PointRef
@@ -39,8 +39,10 @@ class Loop:
     def _goes_round(self, other: Loop, is_placed: bool) -> bool:
         """Whether it is a circle round another, whose centre so may lie within that."""
         mine, its = self._circle(is_placed), other._circle(is_placed)
-        if mine is None or its is not None:
-            return mine is not None and its is not None and its.radius <= mine.radius
+        if mine is None:
+            return False
+        if its is not None:
+            return its.radius <= mine.radius
         return square(between(mine.centre, other._end(is_placed))) < mine.radius ** 2
 
     def _circle(self, is_placed: bool) -> Round | None:
@@ -57,6 +59,12 @@ class Loop:
         ways = [*self._ways(is_placed), *(each.ends for each in rims if each.ends is not None)]
         inside = sum(_is_passed(spot, *way) for way in ways)
         return (inside + sum(_is_bulge(spot, each) for each in rims)) % 2 == 1
+
+    def box(self, is_placed: bool) -> tuple[Vector, Vector]:
+        """From where to where it goes in x, and in y, or further, as it is drawn or placed."""
+        sides = (each.placed if is_placed else each.drawn for each in (*self.edges, *self.rims))
+        across, up = zip(*(each.box() for each in sides))
+        return _span(across), _span(up)
 
     def is_on(self, spot: Vector, is_placed: bool) -> bool:
         """Whether a place lies on it, as near as what touches: on neither side then."""
@@ -79,20 +87,37 @@ class Loops:
         """ends: the leaders of the ends of each edge and arc; None of a circle."""
         self._places = (*((place,) for place, each in enumerate(ends) if each is None),
                         *_outlines(ends))
-        self._drawn: dict[tuple[int, int], bool] = {}
+        self._drawn: frozenset[tuple[int, int]] | None = None
 
     def leavers(self, things: Sequence[Edge | Rim]) -> Iterator[tuple[str, str]]:
         """Each circle or closed outline that lies on the other side of another outline than it is
         drawn, and the name of that one's first edge. What lies on that one is on no side of it.
         things: the edges and rims in their order, as they are drawn and placed."""
         loops = [_loop([things[place] for place in places]) for places in self._places]
-        for one, other in permutations(range(len(loops)), 2):
+        if self._drawn is None:
+            self._drawn = frozenset(_within(loops, False))
+        for one, other in sorted(self._drawn.symmetric_difference(_within(loops, True))):
             thing, loop = loops[one], loops[other]
-            if (one, other) not in self._drawn:
-                self._drawn[one, other] = thing.lies_within(loop, False)
-            if self._drawn[one, other] is not thing.lies_within(loop, True):
-                if not any(thing.is_unsure(loop, each) for each in (False, True)):
-                    yield thing.name, loop.name
+            if not any(thing.is_unsure(loop, each) for each in (False, True)):
+                yield thing.name, loop.name
+
+
+def _within(loops: Sequence[Loop], is_placed: bool) -> Iterator[tuple[int, int]]:
+    """The places of each two of which the first lies within the second, as they are drawn or
+    placed. Only what has its place in the box of another is looked at."""
+    spots = sorted((*each.place(is_placed), one) for one, each in enumerate(loops))
+    lefts = [x for x, _, _ in spots]
+    for other, loop in enumerate(loops):
+        (left, right), (low, high) = loop.box(is_placed)
+        for _, y, one in spots[bisect_left(lefts, left):bisect_right(lefts, right)]:
+            if one != other and low <= y <= high and loops[one].lies_within(loop, is_placed):
+                yield one, other
+
+
+def _span(runs: Iterable[Vector]) -> Vector:
+    """From the least to the greatest of some runs."""
+    lows, highs = zip(*runs)
+    return min(lows), max(highs)
 
 
 def _outlines(ends: Sequence[Ends | None]) -> Iterator[tuple[int, ...]]:

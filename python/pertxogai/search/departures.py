@@ -5,8 +5,9 @@ from __future__ import annotations
 from collections.abc import Iterator
 from math import atan2, pi, tau
 
-from pertxogai.judging.departures import Departure, DepartureKind, departures
 from pertxogai.drawing import Arc, Drawing, PointOn, PointRef, Which
+from pertxogai.judging.departures import Comparison, Departure, DepartureKind
+from pertxogai.judging.edges import Edges
 from pertxogai.judging.measure import Solution
 from pertxogai.search.arrays import Array
 from pertxogai.search.rounding import solution_of
@@ -21,7 +22,9 @@ class Departures:
 
     def __init__(self, unknowns: Unknowns) -> None:
         self._unknowns = unknowns
-        self._drawn = dict(_angles(unknowns.drawing, solution_of(unknowns, unknowns.drawn())))
+        drawn = solution_of(unknowns, unknowns.drawn())
+        self._drawn = dict(_angles(unknowns.drawing, drawn))
+        self._comparison = Comparison(unknowns.drawing, drawn.radii)
         self._touching = set(_touching(unknowns))
 
     def count(self, x: Array) -> int:
@@ -30,7 +33,8 @@ class Departures:
         arcs = sum(abs(angle - self._drawn[name]) > OTHER_ARC
                    for name, angle in _angles(drawing, placed))
         radii = int((x[2 * len(self._unknowns.points):] <= 0).sum())
-        counted = sum(map(self._counts, departures(drawing, placed)))
+        departures = self._comparison.departures(Edges(drawing, placed), False)
+        counted = sum(map(self._counts, departures))
         return counted + arcs + radii
 
     def _counts(self, departure: Departure) -> bool:
