@@ -1,5 +1,5 @@
 """What couldn't be spelled, and isn't so where the program has placed the rest: it contradicts the
-rest, and is told to the program as that. """
+rest, and is told to the program as that."""
 from __future__ import annotations
 
 from collections.abc import Iterator
@@ -16,6 +16,7 @@ from pertxogai.spelling.facts import Middle, Owner
 from pertxogai.spelling.linear import Form, LinearSystem, Number
 from pertxogai.spelling.rails import Rails, Span
 from pertxogai.spelling.writing import Contradiction, Spelled
+
 
 def contradictions(rails: Rails, spelled: Spelled, report: PartsReport,
                    limit: Limit) -> tuple[Contradiction, ...]:
