@@ -12,7 +12,7 @@ from collections.abc import Callable, Collection, Iterator
 from dataclasses import dataclass, field
 
 from pertxogai.drawing import Arc, Drawing, PointRef, Segment, Which
-from pertxogai.exact import Vector, between, cross, dot, square, whole_near
+from pertxogai.exact import Vector, between, cross, dot, square
 from pertxogai.judging.edges import Edges, ends_of
 from pertxogai.judging.rims import TOUCHING_NM
 
@@ -74,11 +74,7 @@ class Corners:
 
     def cusps(self, edges: Edges) -> Iterator[Cusp]:
         """Those of a placed drawing that has these corners. Raises MissingPlace."""
-        def placed(ref: PointRef) -> Vector:
-            x, y = edges.solution.spot(ref)
-            return whole_near(x), whole_near(y)
-
-        back = [each for each in self._met if _is_one_way(*each.ways(placed))]
+        back = [each for each in self._met if _is_one_way(*each.ways(edges.spot))]
         drawn_back = [each for each in back if dot(*each.ways(edges.drawing.scene.drawn_nm)) > 0]
         twice, drawn_twice = _at_both_ends(back), _at_both_ends(drawn_back)
         for each in back:
