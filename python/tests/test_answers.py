@@ -718,17 +718,17 @@ Line: collinear A B
 length B 20
 End: x A.end 40
 """
-"""B goes on from the end of A, so that by rank its line says once too often where it begins; the
-program is told it once. Beside that it is told twice where A ends."""
+"""B goes on from the end of A, and is on its line, which says something of its end alone. Beside
+that it is told twice where A ends."""
 
 
-def test_one_repeat_is_enough_where_the_rank_counts_two(program) -> None:
+def test_a_line_that_goes_on_from_another_is_none_that_may_go(program) -> None:
     """Without the length or the end the rest is the same drawing, told once; without the line it
-    is still told twice where A ends."""
+    would be told twice still where A ends, and B would turn."""
     found = {each.name: each for each in judge(read_drawing(GOES_ON), program).surplus}
     for name in ("Length", "End"):
         assert (found[name].then, found[name].off.amount) == (Then.WELL, 0)
         rest = read_drawing("".join(line for line in GOES_ON.splitlines(True)
                                     if not line.startswith(f"{name}:")))
         assert judge(rest, program).verdict is Verdict.WELL
-    assert found["Line"].then is Then.OVER
+    assert "Line" not in found

@@ -113,6 +113,20 @@ def test_what_is_told_aside_is_left_out_of_what_is_too_many() -> None:
     assert len(without_the_last) == 1 and {5, 6} <= set(without_the_last[0])
 
 
+@pytest.mark.parametrize("text, lacks", [
+    # An edge goes on from the end of another: its line says where its own end lies, and no more.
+    # Three points have 6 coordinates, less that and 3 of the whole.
+    ("segment A 0 0 10 0\nsegment B A.end 20 0.1\ncollinear A B\n", 2),
+    ("segment A 0 0 10 0\nsegment B 10 0 20 0.1\ncoincident A.end B.start\ncollinear A B\n", 2),
+    # An edge along the axis that begins in the origin: its length is missing.
+    ("segment B 0 0 20 0.1\ncoincident B.start Origin\ncollinear B XAxis\n", 1),
+    # Without a corner both ends are told: 8 coordinates less 2 and 3.
+    ("segment A 0 0 10 0\nsegment B 15 0 25 0.1\ncollinear A B\n", 3)])
+def test_a_line_from_a_corner_says_nothing_twice(text, lacks) -> None:
+    found = free_of(text)
+    assert (found.lacks, found.excess) == (lacks, 0)
+
+
 KINDS = """segment A 1 2 40 5
 segment B A.end 38 30
 circle C 12 40 6

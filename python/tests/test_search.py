@@ -246,6 +246,25 @@ def test_what_is_off_within_the_limit_repeats_and_does_not_contradict(
     assert (found.solution is not None) is is_placed
 
 
+def test_a_fixed_arc_repeats_nothing():
+    # Centre, start and end have 6 coordinates, and the radius is the 7th unknown: the arc asks that
+    # both ends lie on it, and that it is fixed leaves it nothing. The edge beside it has 4.
+    text = "arc A 0 0 10 0 0 10\nsegment S 20 0 30 5\nfixed A\n"
+    found = found_of(text)
+    assert (found.freedoms, found.of_the_whole, found.repeats) == (4, 0, ())
+    assert {str(each.point) for each in found.moves} == {"S.start", "S.end"}
+    again = found_of(text + "fixed A.end\n")
+    # The end's x follows from the direction alone, and its y from the radius too.
+    assert again.repeats == (("constraint 2 (fixed A.end)", "constraint 1 (fixed A)"),
+                             ("constraint 2 (fixed A.end)", "constraint 1 (fixed A)", "the ends of A"))
+
+
+def test_a_fixed_arc_of_which_the_end_is_drawn_off_its_circle_has_no_places():
+    # The end is drawn 11 from the centre, and the start 10.
+    found = found_of("arc A 0 0 10 0 0 11\nfixed A\n")
+    assert found.solution is None and found.contradictions == (("constraint 1 (fixed A)",),)
+
+
 def test_a_line_that_goes_on_another_from_their_corner_is_no_repeat():
     # A is 40 long from the origin, level; B goes on from its end, 20 long. Nothing is free.
     text = ("segment A 0 0 40 0\nsegment B A.end 60 1\ncoincident A.start Origin\n"

@@ -106,7 +106,7 @@ class _Rows:
         rows: dict[int, list[Array]] = {}
         for row, slope in zip(equations.rows, slopes):
             number = 0 if row.source.by is By.SHAPE else row.source.number
-            if row.source.by is not By.FAR_END:
+            if row.source.by is not By.MEASURED:
                 rows.setdefault(number, []).append(_unit(slope))
         return _Rows(rows, equations.unknowns.count, [])
 

@@ -5,7 +5,7 @@ The unknowns are the coordinates of each point that isn't shared with an earlier
 of circles."""
 from __future__ import annotations
 
-from collections.abc import Iterator
+from collections.abc import Iterator, Sequence
 from dataclasses import dataclass
 from fractions import Fraction
 from functools import cached_property
@@ -112,7 +112,7 @@ class Plane(Generic[N]):
 
     def ends(self, shape: ShapeRef) -> tuple[Way[N], Way[N]]:
         """Where a segment or an arc starts and ends."""
-        start, end = (self.spot(PointRef(shape.name, each)) for each in (Which.START, Which.END))
+        start, end = map(self.spot, _ends(shape))
         return start, end
 
     def is_line(self, shape: ShapeRef) -> bool:
@@ -246,8 +246,15 @@ class Plane(Generic[N]):
                 return [self._off_turn(one, constraint, other)]
             case Collinear(first, second):
                 first, second = (second, first) if second in (X_AXIS, Y_AXIS) else (first, second)
-                return [self.aside(end, first) for end in self.ends(second)]
+                return [self.aside(self.spot(end), first) for end in self._not_on(first, second)]
         raise AssertionError(constraint)
+
+    def _not_on(self, line: ShapeRef, other: ShapeRef) -> Sequence[PointRef]:
+        """The ends of another line that are no point of a line already; both, where both are."""
+        same = self.drawing.meetings.same
+        own = (ORIGIN,) if line in (X_AXIS, Y_AXIS) else _ends(line)
+        apart = [end for end in _ends(other) if not any(same(end, each) for each in own)]
+        return apart or _ends(other)
 
     def _off_turn(self, first: Way[N], angle: AngleBetween, second: Way[N]) -> Jet[N]:
         """By how much the second way isn't the first, turned."""
@@ -329,6 +336,11 @@ class Plane(Generic[N]):
     def _drawn_way(self, ref: PointRef) -> Way[N]:
         place = self.drawing.drawn(ref)
         return self.mm(place.x_um), self.mm(place.y_um)
+
+
+def _ends(shape: ShapeRef) -> tuple[PointRef, PointRef]:
+    """The start and the end of a segment or an arc."""
+    return PointRef(shape.name, Which.START), PointRef(shape.name, Which.END)
 
 
 def between(first: Way[N], second: Way[N]) -> Way[N]:

@@ -132,8 +132,7 @@ class _Asked:
         line, (start, way) = self._axis_first(constraint.first, constraint.second)
         yield self._aside(line, start, ({}, value_nm), is_sided=True, is_size=True)
         # It is measured at both ends; that the lines are parallel is for others to say.
-        far = _Asked(self._unknowns, Source(By.FAR_END, self._source.number))
-        yield far._aside(line, start + way, ({}, value_nm), is_sided=True)
+        yield self._measured()._aside(line, start + way, ({}, value_nm), is_sided=True)
 
     def _of_points(self, constraint: Equal | Symmetric | Midpoint) -> Iterable[Row]:
         match constraint:
@@ -167,13 +166,34 @@ class _Asked:
     def _fixed(self, what: PointRef | ShapeRef) -> Iterator[Row]:
         shape = self._drawing.shape(what.name) if isinstance(what, ShapeRef) else None
         assert not isinstance(shape, Origin | Axis)
+        if isinstance(shape, Arc):
+            yield from self._fixed_arc(shape)
+            return
         for ref in points_of(shape) if shape else (what,):
             assert isinstance(ref, PointRef)
-            drawn = Combination({}, *nm_of(self._drawing.drawn(ref)))
-            yield from self._same(self._unknowns.point(ref), drawn)
+            yield from self._same(self._unknowns.point(ref), self._drawn(ref))
         if isinstance(shape, Circle):
             drawn_nm = float(shape.radius_um) * NM_PER_UM
             yield self._sum([self._radius(ShapeRef(shape.name))], drawn_nm, is_size=False)
+
+    def _fixed_arc(self, arc: Arc) -> Iterator[Row]:
+        """The centre and the start lie where they are drawn, and the last radius runs as it is
+        drawn. How far the end lies from the centre is measured too, and follows from the start."""
+        centre, start, end = (PointRef(arc.name, each)
+                              for each in (Which.CENTRE, Which.START, Which.END))
+        for ref in (centre, start):
+            yield from self._same(self._unknowns.point(ref), self._drawn(ref))
+        line = self._drawn(centre), self._drawn(end) - self._drawn(centre)
+        yield self._aside(line, self._unknowns.point(end))
+        yield self._measured()._along(line, self._unknowns.point(end) - self._drawn(end))
+
+    def _drawn(self, ref: PointRef) -> Combination:
+        """Where a point is drawn."""
+        return Combination({}, *nm_of(self._drawing.drawn(ref)))
+
+    def _measured(self) -> _Asked:
+        """What writes the rows that the constraint is measured by, and that say nothing more."""
+        return _Asked(self._unknowns, Source(By.MEASURED, self._source.number))
 
     # -- touching
 

@@ -33,8 +33,8 @@ class Dependency:
 
 def dependencies(rows: Sequence[Row], off: Array, dependent: Dependent) -> Iterator[Dependency]:
     """The dependencies among rows, of which `off` is how far each is off 0. What the shapes
-    themselves ask for is the latest nowhere, and the far end of a distance of lines wherever it
-    may be: that it follows is what is asked for."""
+    themselves ask for is the latest nowhere, and what is only measured wherever it may be: that it
+    follows is what is asked for."""
     sources = [rows[number].source for number in dependent.rows]
     places = sorted(range(len(sources)), key=lambda place: _lateness(sources[place]), reverse=True)
     for place, factors in _reduced(dependent.factors, places):
@@ -46,7 +46,7 @@ def dependencies(rows: Sequence[Row], off: Array, dependent: Dependent) -> Itera
 
 
 def _lateness(source: Source) -> tuple[int, int]:
-    return (By.SHAPE, By.CONSTRAINT, By.FAR_END).index(source.by), source.number
+    return (By.SHAPE, By.CONSTRAINT, By.MEASURED).index(source.by), source.number
 
 
 def _reduced(factors: Array, order: Sequence[int]) -> Iterator[tuple[int, Array]]:

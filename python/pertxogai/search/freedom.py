@@ -53,7 +53,7 @@ def freedom(equations: Equations, x: Array) -> Freedom:
              for each in dependencies(equations.rows, off * factors, dependent)]
     crooked, whole = _crooked(equations, found), of_the_whole(unknowns, x, jacobian)
     if crooked:
-        jacobian = _without_far_ends(equations, jacobian)
+        jacobian = _without_measured(equations, jacobian)
         rank = rank_of(jacobian, len(unknowns.points))
     return Freedom(unknowns.count - rank.rank, motions(unknowns, x, jacobian, rank.free),
                    tuple(each for each in found if each.sources[0].by is By.CONSTRAINT),
@@ -62,14 +62,14 @@ def freedom(equations: Equations, x: Array) -> Freedom:
 
 def _crooked(equations: Equations, found: list[Dependency]) -> frozenset[int]:
     """The distances of lines of which the far end follows from nothing."""
-    ends = {row.source.number for row in equations.rows if row.source.by is By.FAR_END}
+    ends = {row.source.number for row in equations.rows if row.source.by is By.MEASURED}
     return frozenset(ends - {each.sources[0].number for each in found
-                             if each.sources[0].by is By.FAR_END})
+                             if each.sources[0].by is By.MEASURED})
 
 
-def _without_far_ends(equations: Equations, jacobian: Matrix) -> Matrix:
-    """A Jacobian without the far ends of distances of lines. Where one follows from what else is
-    asked, nothing is lost; and from another far end none may follow."""
+def _without_measured(equations: Equations, jacobian: Matrix) -> Matrix:
+    """A Jacobian without what is only measured, as the far ends of distances of lines. Where one
+    follows from what else is asked, nothing is lost; and from another far end none may follow."""
     kept = [place for place, row in enumerate(equations.rows)
-            if row.source.by is not By.FAR_END]
+            if row.source.by is not By.MEASURED]
     return jacobian[np.array(kept, dtype=int)]

@@ -29,8 +29,9 @@ class By(Enum):
     """A constraint of the drawing."""
     SHAPE = "shape"
     """A shape: an arc's ends lie on its circle, and a shared point is one point."""
-    FAR_END = "far end"
-    """A distance of lines, at the end of the second that it isn't told at."""
+    MEASURED = "measured"
+    """A constraint that is measured by more than it says: a distance of lines, at the end of the
+    second that it isn't told at, and a fixed arc, by how far its end is from its centre."""
 
 
 @dataclass(frozen=True)
