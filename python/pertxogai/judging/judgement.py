@@ -263,11 +263,11 @@ class CountedJudgement(WeighedJudgement):
 
 def judge(drawing: Drawing, program: Solver, freeze: bool = False,
           limit: Limit = Limit()) -> CountedJudgement:
-    """Judges a drawing: the program's verdict, with the counts also of a fully constrained drawing,
-    and the deviation of each removable dimension. If a constraint isn't met within the limit, other
-    choices of steps that meet it are tried; if the limit is wider than the language's own, the
-    drawing is placed by them too. freeze: lengths and radii without a dimension may be kept as
-    drawn. Raises the exceptions of `judge_at_once`."""
+    """Judges a sound drawing, one that was read or `checked`: the program's verdict, with the
+    counts also of a fully constrained drawing, and the deviation of each removable dimension. If a
+    constraint isn't met within the limit, other choices of steps that meet it are tried; if the
+    limit is wider than the language's own, the drawing is placed by them too. freeze: lengths and
+    radii without a dimension may be kept as drawn. Raises the exceptions of `judge_at_once`."""
     asks = Remembering(Wider(program, limit))
     judged = weighed(judge_at_once(drawing, asks, freeze, limit), asks)
     return with_counts(with_choices(judged, asks), asks)
