@@ -132,6 +132,17 @@ def test_delete_waits_for_the_click_before_it(page: Page) -> None:
     assert "point P" in page.text() and page.text().count("segment") == 1
 
 
+def test_enter_counts_where_the_cross_was(page: Page) -> None:
+    page.keys("p", Keys.ARROW_RIGHT)
+    first = page.told("hint").removeprefix("cross at ").removesuffix(" mm")
+    with page.held("edit"):
+        page.keys(Keys.ENTER, *[Keys.ARROW_UP] * 5)
+        second = page.told("hint").removeprefix("cross at ").removesuffix(" mm")
+        page.keys(Keys.ENTER, *[Keys.ARROW_LEFT] * 5)
+    wait_for("both", lambda: page.text().count("point") == 2)
+    assert page.text() == f"drawing 1\npoint P1 {first}\npoint P2 {second}\n" and first != second
+
+
 # A drag.
 
 def test_what_a_hand_has_given_up_isnt_told(page: Page) -> None:

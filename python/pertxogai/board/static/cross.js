@@ -49,12 +49,12 @@ export class Cross extends Work {
   }
 
   /**
-   * A click at the cross, in its turn.
+   * A click at a place where the cross was, in its turn.
+   * @param {Place} cross
    * @param {boolean} more
    */
-  enter(more) {
-    const { board: { cross, plane }, gestures } = this;
-    if (!cross) return;
+  enter(cross, more) {
+    const { board: { plane }, gestures } = this;
     gestures.sequence.do(() => {
       const pixels = plane.toScreen(cross);
       if (this.hand.draws) return gestures.drafting.act(pixels, NONE_HELD);

@@ -106,11 +106,11 @@ export class Keys {
    * @param {boolean} shift
    */
   enter(shift) {
-    const { cross, hand, offers, selection, gestures: { sequence } } = this.page;
-    sequence.do(() => {
+    const { board: { cross: at }, cross, hand, offers, selection } = this.page;
+    this.page.gestures.sequence.do(() => {
       const [number] = selection.numbers;
       if (number && !hand.draws) offers.change(number);
-      else cross.enter(shift);
+      else if (at) cross.enter(at, shift);
     });
   }
 }
