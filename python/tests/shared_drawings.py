@@ -45,18 +45,13 @@ length Left 50
 """
 """A bracket with legs of 15, rounded within, by a radius that nothing gives."""
 
-SHRUNKEN_CHAIN = """segment L1 18 0 9 15
-segment L2 9 15 -9 15
-segment L3 9 15 -9 15
-segment L4 9 15 -9 15
-segment L5 9 15 -9 15
-segment L6 9 15 -9 15
-segment L7 9 15 -9 15
-equal L1 L2 L3 L4 L5 L6
-horizontal L2
-""" + "".join(f"coincident L{number}.end L{number % 6 + 1}.start\non L{number}.end L7\n"
-              for number in range(1, 7))
-"""A closed chain of six equal edges with all corners on one line. They may run there and back three
-times, but the search finds them all of no length, nearer to the drawing. In a damaged file that had
-this chain and twenty loose edges, constructions and proposals were tried for many seconds, and none
-could be good."""
+SHRUNKEN_TRIANGLE = """segment A 0 0 10 0
+segment B A.end 5 8
+segment C B.end A.start
+equal A B C
+on B.end A
+segment D 30 0 40 5
+"""
+"""A triangle of three equal sides that has a corner on the line of the side across, so that its
+corners are one point; and an edge that is loose. In a damaged file the search found six edges so,
+and constructions and proposals were tried for many seconds."""

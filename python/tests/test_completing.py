@@ -27,7 +27,7 @@ from pertxogai.judging import DrawingRefused, Question, first_good
 from pertxogai.judging.measure import Limit
 from pertxogai.program import Answer, Solver
 from pertxogai.search.searched import Searched
-from shared_drawings import SHRUNKEN_CHAIN
+from shared_drawings import SHRUNKEN_TRIANGLE
 
 TESTS = Path(__file__).parent
 GALLERY = sorted((TESTS / "drawings").glob("*.drawing"))
@@ -174,9 +174,7 @@ def test_a_third_of_the_dimensions_taken_away_comes_back_to_well(path, program):
     (PLATE + "length PlateBottom 80\nlength PlateTop 80\n", WhyNot.OVER),
     ("segment A 0 0 10 0\nsegment B A.end 15 8\nsegment C B.end A.start\n"
      "length A 10\nlength B 10\nlength C 30\n", WhyNot.NO_PLACES),
-    # Of three equal sides each has a corner in the middle of another at no length alone.
-    ("segment A 0 0 10 0\nsegment B A.end 5 8\nsegment C B.end A.start\n"
-     "equal A B C\non B.end A\n", WhyNot.VANISHED),
+    (SHRUNKEN_TRIANGLE, WhyNot.VANISHED),
     # 400 loose circles have 1,200 freedoms, which are met as they are drawn.
     ("".join(f"circle C{n} {n % 20 * 9} {n // 20 * 9} 2\n" for n in range(400)),
      WhyNot.TOO_MUCH)])
@@ -237,7 +235,7 @@ def test_how_many_questions_are_asked(text, lines, questions, program):
 
 
 def test_where_edges_have_come_to_nothing_no_proposal_is_tried(program):
-    drawing = read_drawing(SHRUNKEN_CHAIN)
+    drawing = read_drawing(SHRUNKEN_TRIANGLE)
     texts = Texts(program)
     found = complete(drawing, texts)
     assert isinstance(found, NoProposal) and found.why is WhyNot.VANISHED

@@ -11,7 +11,7 @@ from pertxogai import search
 from pertxogai.commands import main
 from pertxogai.program import Program
 from pertxogai.search.searched import Searched
-from shared_drawings import SHRUNKEN_CHAIN
+from shared_drawings import SHRUNKEN_TRIANGLE
 
 TESTS = Path(__file__).parent
 KEYS = {"freedoms", "moves", "chosen", "only_measured", "repeats", "contradictions", "places_by"}
@@ -123,8 +123,8 @@ def test_an_open_drawing_is_searched_once_and_nothing_is_asked_twice(capsys, mon
 
 def test_where_edges_have_come_to_nothing_the_search_asks_the_program_nothing(
         capsys, monkeypatch, tmp_path):
-    path, asked, ask = tmp_path / "chain.drawing", [], Program.ask
-    path.write_text(SHRUNKEN_CHAIN)
+    path, asked, ask = tmp_path / "triangle.drawing", [], Program.ask
+    path.write_text(SHRUNKEN_TRIANGLE)
 
     def asking(self, words, text):
         asked.append((tuple(words), text))

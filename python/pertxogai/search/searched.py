@@ -106,7 +106,7 @@ class Searched:
         finding = self.finding(judgement.limit)
         if judgement.verdict is not Verdict.OPEN or finding.solution is None:
             return finding
-        if self.has_vanished():  # What has no length has no direction to construct it by.
+        if self.has_vanished():  # From there many constructions would be tried, and most fail.
             return finding
         construction = construct(self.drawing, self.equations, self.found.x, self.freedom, program)
         if construction is None or not construction.is_good():
