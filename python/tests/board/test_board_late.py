@@ -143,6 +143,19 @@ def test_enter_counts_where_the_cross_was(page: Page) -> None:
     assert page.text() == f"drawing 1\npoint P1 {first}\npoint P2 {second}\n" and first != second
 
 
+def test_undo_says_at_once_whether_there_is_more(page: Page) -> None:
+    """Before the text that stands then is judged."""
+    page.keys("p")
+    page.press(300, 300)
+    wait_for("a point", lambda: "point" in page.text())
+    page.wait("undo", "return document.getElementById('undo').ariaDisabled === 'false'")
+    with page.held("judge"):
+        page.keys(Keys.CONTROL + "z")
+        page.wait("redo", "return document.getElementById('redo').ariaDisabled === 'false'")
+        assert page.count("#undo[aria-disabled=true]") == 1
+    page.verdict("empty")
+
+
 # A drag.
 
 def test_what_a_hand_has_given_up_isnt_told(page: Page) -> None:

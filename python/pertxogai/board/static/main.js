@@ -122,6 +122,7 @@ export class Page {
   begin() {
     const { paper, keeping } = this;
     paper.when('begin', () => this.leave());
+    paper.when('text', () => this.turn());
     paper.when('answer', (answer) => this.show(answer));
     paper.when('trouble', (text) => hint(text, 'trouble'));
     document.addEventListener('click', ({ target }) => {
@@ -262,6 +263,13 @@ export class Page {
     board.draw();
   }
 
+  /** Another text stands: whether there is something to undo and to redo is told at once. */
+  turn() {
+    const { history } = this.paper;
+    buttonOf('undo').ariaDisabled = String(!history.can(-1));
+    buttonOf('redo').ariaDisabled = String(!history.can(1));
+  }
+
   /**
    * Shows an answer everywhere.
    * @param {Judged} answer
@@ -278,8 +286,6 @@ export class Page {
     this.verdict.show(answer);
     this.speaking.changed();
     this.texts.show(answer);
-    buttonOf('undo').ariaDisabled = String(!paper.history.can(-1));
-    buttonOf('redo').ariaDisabled = String(!paper.history.can(1));
     buttonOf('redraw-all').disabled = !answer.judgement?.placed;
     document.title = `${paper.name}, a drawing board`;
   }
