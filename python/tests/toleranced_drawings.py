@@ -217,8 +217,8 @@ class _Search:
 
 
 def _signed(found: Fit) -> dict[str, int]:
-    """By the name of each check 1, or -1 where it counts as more than 0 what is less by the
-    formulas of the tests."""
+    """By the name of each check 1, or -1 where without a sign it counts as more than 0 what is less
+    by the formulas of the tests."""
     plain = Plain(found.drawing, found.good.solution)
-    return {each.check.name: -1 if plain.measured(each.check) * each.nominal < 0 else 1
-            for each in found.known}
+    return {each.check.name: -1 if not each.check.is_signed
+            and plain.measured(each.check) * each.nominal < 0 else 1 for each in found.known}
