@@ -186,7 +186,7 @@ def test_a_dimension_is_listed_beside_a_value_of_its_name(page: Page) -> None:
                "Width: length S 40\n", "well")
     page.click("#tab-values")
     page.click("#all-ranges")
-    wait_for("both", lambda: page.count("#ranges li [data-selects='4']") == 1)
+    wait_for("both", lambda: page.count("#ranges li [data-selects='3']") == 1)
     assert page.count("#ranges li [data-range=Width]") == 1
 
 
