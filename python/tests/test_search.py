@@ -26,6 +26,7 @@ from pertxogai.search.contradictions import has_shrunk
 from pertxogai.search.equations import Equations
 from pertxogai.search.searched import Searched
 from pertxogai.search.solving import solve
+from shared_drawings import SHRUNKEN_TRIANGLE
 from strips import strip
 
 TESTS = Path(__file__).parent
@@ -452,6 +453,12 @@ def test_flat_triangles_make_the_count_doubtful():
     found = found_of("point A 0 0\npoint B 70 0\npoint C 30 2\ncoincident A Origin\non B XAxis\n"
                      "distance A B 70\ndistance A C 30\ndistance C B 40\n")
     assert found.is_doubtful
+
+
+def test_edges_that_come_to_nothing_make_the_count_doubtful():
+    # Where equal lengths are 0, to the first order nothing keeps them equal.
+    found = found_of(SHRUNKEN_TRIANGLE)
+    assert found.solution is not None and found.is_doubtful
 
 
 def test_two_thousand_points_are_free_or_found():

@@ -64,7 +64,8 @@ class Searched:
             and all(each.repeats() for each in self.freedom.dependencies))
 
     def has_vanished(self) -> bool:
-        """Whether an edge has no length where it was found, or a rim no size."""
+        """Whether an edge has no length where it was found, or a rim no size: there its constraints
+        change with nothing, to the first order, and a count says little."""
         return has_vanished(self.equations, self.found.x)
 
     def loose(self) -> frozenset[int]:
@@ -94,9 +95,10 @@ class Searched:
         if not self.is_met():
             return self._unsolved(limit)
         motions = self.freedom.motions
+        is_doubtful = not self.freedom.is_sure or self.has_vanished()
         solution = solution_of(self.equations.unknowns, self.found.x)
         return Finding(
-            self.freedom.count, motions.of_the_whole, not self.freedom.is_sure,
+            self.freedom.count, motions.of_the_whole, is_doubtful,
             motions.moves, motions.rims, self._repeats(), (), solution,
             measured(solution) if measured else measure(self.drawing, solution), PlacesBy.NUMBERS)
 
