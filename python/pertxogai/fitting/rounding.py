@@ -27,9 +27,9 @@ def noise_of(asked: Valued, placed: Placed) -> int:
         case ParallelDistance(first, second):
             if not placed.line(second).ends:
                 first, second = second, first
-            line = placed.line(second)
-            other = line.start[0] + line.way[0], line.start[1] + line.way[1]
-            return max(NOISE, *(ceil(_aside(placed, first, end)) for end in (line.start, other)))
+            told = placed.line(second)
+            other = told.start[0] + told.way[0], told.start[1] + told.way[1]
+            return max(NOISE, *(ceil(_aside(placed, first, end)) for end in (told.start, other)))
         case _:
             return NOISE
 

@@ -62,8 +62,8 @@ class Loop:
 
     def box(self, is_placed: bool) -> tuple[Vector, Vector]:
         """From where to where it goes in x, and in y, or further, as it is drawn or placed."""
-        sides = (each.placed if is_placed else each.drawn for each in (*self.edges, *self.rims))
-        across, up = zip(*(each.box() for each in sides))
+        edges = ((each.placed if is_placed else each.drawn).box() for each in self.edges)
+        across, up = zip(*edges, *(each.box() for each in self._rims(is_placed)))
         return _span(across), _span(up)
 
     def is_on(self, spot: Vector, is_placed: bool) -> bool:

@@ -61,9 +61,9 @@ def dense(matrix: Matrix) -> Array:
 def row_squares(matrix: Matrix) -> Array:
     """The sum of squares of each row."""
     if is_sparse(matrix):
-        found: Array = np.bincount(_row_numbers(matrix), matrix.data ** 2, matrix.shape[0])
-    else:
-        found = np.einsum("ij,ij->i", matrix, matrix)
+        squares = np.bincount(_row_numbers(matrix), matrix.data ** 2, matrix.shape[0])
+        return squares.astype(float, copy=False)
+    found: Array = np.einsum("ij,ij->i", matrix, matrix)
     return found
 
 
@@ -130,7 +130,12 @@ def damped_steps(jacobian: Matrix, damping: float) -> Steps:
         factor = linalg.cho_factor(square, overwrite_a=True, check_finite=False)
     except (linalg.LinAlgError, RuntimeError):  # It is singular.
         return partial(least_step, jacobian)
-    return lambda wanted: jacobian.T @ linalg.cho_solve(factor, wanted, check_finite=False)
+
+    def step(wanted: Array) -> Array:
+        found: Array = jacobian.T @ linalg.cho_solve(factor, wanted, check_finite=False)
+        return found
+
+    return step
 
 
 def _damped_sparse_steps(jacobian: Matrix, damping: float) -> Steps:
@@ -141,7 +146,12 @@ def _damped_sparse_steps(jacobian: Matrix, damping: float) -> Steps:
     square = square + damping * sparse.identity(square.shape[0], format="csc")
     factor = splu(square, permc_spec="MMD_AT_PLUS_A", diag_pivot_thresh=0.0,
                   options={"SymmetricMode": True})
-    return lambda wanted: jacobian.T @ factor.solve(wanted)
+
+    def step(wanted: Array) -> Array:
+        found: Array = jacobian.T @ factor.solve(wanted)
+        return found
+
+    return step
 
 
 def _fills_up(jacobian: Matrix) -> bool:
