@@ -17,5 +17,8 @@ for number in numbers:
     except DrawingUnsound as unsound:
         print(number, "-", unsound)
         continue
-    good = good_of(CountedDrawing(path, resized, judge(resized, program)))
+    judged = CountedDrawing(path, resized, judge(resized, program))
+    good = good_of(judged)
     print(number, "-", "good" if isinstance(good, GoodJudgement) else good.reasons[0].text)
+    for warning in judged.warnings():
+        print("  check:", warning.text())
