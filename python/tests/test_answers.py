@@ -9,6 +9,7 @@ from pathlib import Path
 
 import pytest
 
+from conftest import TOP
 from pertxogai.drawing import PointRef, Which, read_drawing
 from pertxogai.judging import DepartureKind, DrawingRefused, Then, Tie, judge
 from pertxogai.judging.as_drawn import frozen_choices
@@ -344,6 +345,14 @@ def test_a_point_that_is_drawn_beyond_its_edge_may_lie_there(program):
     text = ("segment Base 0 0 80 0\nsegment Post 90 0 90 41\nfixed Base\non Post.start Base\n"
             "vertical Post\nx Post.start 100\nlength Post 40\n")
     assert not judge(read_drawing(text), program).warnings
+
+
+@pytest.mark.parametrize("long", ["2300", "2301", "2000", "1500.001"])
+def test_an_edge_that_ends_on_another_does_not_cross_it(program, long):
+    """A strut ends on a slanted rafter: by the rounding its end lies some nanometres beyond it."""
+    text = (TOP / "python" / "tests" / "drawings" / "roof-truss.drawing").read_text()
+    found = judge(read_drawing(text.replace("distance West SW 2300", f"distance West SW {long}")), program)
+    assert found.solution is not None and not found.warnings
 
 
 def test_the_shortest_edge_has_a_length(program):

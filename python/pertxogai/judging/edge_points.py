@@ -6,7 +6,7 @@ from dataclasses import dataclass
 
 from pertxogai.drawing import Drawing, PointOn, PointRef, Segment
 from pertxogai.exact import Vector, between, dot, square
-from pertxogai.judging.edges import Chord, ends_of
+from pertxogai.judging.edges import Chord, ends_of, leaders_of
 
 AT_END_NM = 500
 """What lies no further beyond an end lies there: in whole micrometres it is 0."""
@@ -30,6 +30,19 @@ def edge_points(drawing: Drawing) -> Iterator[EdgePoint]:
             found = EdgePoint(each.point, edges[each.curve.name])
             if not is_beyond(_drawn(drawing, found.edge), drawing.scene.drawn_nm(found.point)):
                 yield found
+
+
+def touching(drawing: Drawing) -> frozenset[frozenset[str]]:
+    """The names of each two segments of which a constraint ends one on the other."""
+    leader, ending = drawing.meetings.leader, dict[PointRef, list[str]]()
+    segments = [each for each in drawing.geometry if isinstance(each, Segment)]
+    for each in segments:
+        for end in leaders_of(drawing, each):
+            ending.setdefault(end, []).append(each.name)
+    names = {each.name for each in segments}
+    return frozenset(frozenset((name, said.curve.name)) for said in drawing.constraints
+                     if isinstance(said, PointOn) and said.curve.name in names
+                     for name in ending.get(leader(said.point), ()))
 
 
 def is_beyond(edge: Chord, spot: Vector) -> bool:

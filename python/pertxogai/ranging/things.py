@@ -16,7 +16,7 @@ from pertxogai.drawing import (
     PointRef, Segment, Tangent, Which)
 from pertxogai.exact import between, cross, dot
 from pertxogai.judging.departures import Departure, DepartureKind, Warned
-from pertxogai.judging.edge_points import AT_END_NM, EdgePoint, edge_points, is_beyond
+from pertxogai.judging.edge_points import AT_END_NM, EdgePoint, edge_points, is_beyond, touching
 from pertxogai.judging.edges import Chord, Edge, Edges, leaders_of, name_of
 from pertxogai.judging.rims import Rim, Round
 
@@ -76,8 +76,10 @@ class Things:
         rims = tuple(each for each in shapes
                      if isinstance(each, Circle | Arc) and not each.construction)
         things = _placed(edges, outline, rims)
-        pairs = [places for places in combinations(range(len(things)), 2)
-                 if _may_cross(edges, things[places[0]], things[places[1]], known)]
+        touch = touching(edges.drawing)
+        pairs = [(one, other) for one, other in combinations(range(len(things)), 2)
+                 if frozenset((things[one].name, things[other].name)) not in touch
+                 and _may_cross(edges, things[one], things[other], known)]
         return Things(outline, rims, tuple(_count(each.drawn) for each in things),
                       np.array(pairs, np.intp).reshape(-1, 2), () if is_free else segments,
                       tuple(_meeting(edges.drawing, segments)),
