@@ -91,7 +91,7 @@ def test_a_triangle_goes_as_far_as_its_sides_reach(program, name, low, high):
     assert (found.low.at, found.high.at) == (low + Fraction(1, 1000), high - Fraction(1, 1000))
     for end in (found.low, found.high):
         assert end.fault.kind is FaultKind.NO_PLACES
-        assert {"Base", "First", "Second"} <= set(end.fault.text.replace(",", " ").split())
+        assert {"'Base'", "'First'", "'Second'"} <= set(end.fault.text.replace(",", " ").split())
 
 
 def test_a_reason_names_the_numbers_of_the_drawing(program):
