@@ -263,7 +263,7 @@ export class Page {
     board.draw();
   }
 
-  /** Another text stands: whether there is something to undo and to redo is told at once. */
+  /** The text has changed: enables or disables Undo and Redo, before the text is judged. */
   turn() {
     const { history } = this.paper;
     buttonOf('undo').ariaDisabled = String(!history.can(-1));
