@@ -23,7 +23,7 @@ from pertxogai.search.rounding import unknowns_of
 from pertxogai.search.unknowns import Unknowns
 
 _DIRECTIONS = Horizontal, Vertical, Parallel, Perpendicular, AngleBetween
-Way = tuple[float, float]
+Direction = tuple[float, float]
 """A direction of length 1."""
 SEEN = 1e-6
 """Of motions of length 1, what moves by less stays."""
@@ -37,7 +37,7 @@ class Loose:
     arcs of which the radius may change, in how many directions the whole may be moved, and whether
     it turns."""
 
-    ways: dict[PointRef, tuple[Way, ...]]
+    ways: dict[PointRef, tuple[Direction, ...]]
     rims: frozenset[str]
     shifts: int
     turns: bool
@@ -45,7 +45,7 @@ class Loose:
     @staticmethod
     def of(drawing: Drawing, unknowns: Unknowns, found: Motions) -> Loose:
         """What of a drawing is loose by its motions."""
-        of_leader: dict[PointRef, list[Way]] = {}
+        of_leader: dict[PointRef, list[Direction]] = {}
         for each in found.moves:
             of_leader.setdefault(each.point, []).append((each.dx, each.dy))
         ways = {ref: tuple(of_leader.get(unknowns.leader(ref), ())) for ref in drawing.points()}
@@ -161,7 +161,7 @@ def _against(constraint: Constraint) -> Iterator[str]:
         yield from named
 
 
-def _but_along(ways: Sequence[Way]) -> str:
+def _but_along(ways: Sequence[Direction]) -> str:
     """What is left to a point that still moves one way."""
     if not ways:
         return ""

@@ -17,7 +17,7 @@ from pertxogai.drawing.geometry import Axis
 from pertxogai.drawing.references import PointRef, ShapeRef, Which
 from pertxogai.exact import cross, dot
 
-Way = tuple[Fraction, Fraction]
+Vector = tuple[Fraction, Fraction]
 """A direction by its two components, of any length."""
 
 
@@ -43,7 +43,7 @@ class Touch(Enum):
     INSIDE = "inside"
 
 
-def way(drawing: Drawing, line: ShapeRef) -> Way:
+def way(drawing: Drawing, line: ShapeRef) -> Vector:
     """The drawn direction of a segment, from start to end, or of an axis."""
     shape = drawing.shape(line.name)
     if isinstance(shape, Axis):

@@ -22,7 +22,7 @@ from pertxogai.judging.jets import Jet, N, Numbers
 from pertxogai.judging.trigonometry import way_of
 from pertxogai.spelling.facts import Owner
 
-Way = tuple[Jet[N], Jet[N]]
+JetVector = tuple[Jet[N], Jet[N]]
 
 
 @dataclass(frozen=True)
@@ -103,14 +103,14 @@ class Plane(Generic[N]):
         """An unknown."""
         return self._unknowns[place]
 
-    def spot(self, ref: PointRef) -> Way[N]:
+    def spot(self, ref: PointRef) -> JetVector[N]:
         """Where a point lies."""
         place = self.unknowns.points.get(ref)
         if place is None:
             return self._nothing, self._nothing
         return self.unknown(place), self.unknown(place + 1)
 
-    def ends(self, shape: ShapeRef) -> tuple[Way[N], Way[N]]:
+    def ends(self, shape: ShapeRef) -> tuple[JetVector[N], JetVector[N]]:
         """Where a segment or an arc starts and ends."""
         start, end = map(self.spot, _ends(shape))
         return start, end
@@ -119,14 +119,14 @@ class Plane(Generic[N]):
         """Whether it is a segment or an axis."""
         return isinstance(self.drawing.shape(shape.name), (Segment, Axis))
 
-    def way(self, line: ShapeRef) -> Way[N]:
+    def way(self, line: ShapeRef) -> JetVector[N]:
         """The direction of a line."""
         if line in (X_AXIS, Y_AXIS):
             one = self.number(Fraction(1))
             return (one, self._nothing) if line == X_AXIS else (self._nothing, one)
         return between(*self.ends(line))
 
-    def centre(self, rim: ShapeRef) -> Way[N]:
+    def centre(self, rim: ShapeRef) -> JetVector[N]:
         """The centre of a rim."""
         return self.spot(PointRef(rim.name, Which.CENTRE))
 
@@ -137,11 +137,11 @@ class Plane(Generic[N]):
             return self.unknown(place)
         return self.size(between(self.centre(rim), self.ends(rim)[0]))
 
-    def size(self, way: Way[N]) -> Jet[N]:
+    def size(self, way: JetVector[N]) -> Jet[N]:
         """The length of a way."""
         return dot(way, way).root(self.numbers)
 
-    def aside(self, point: Way[N], line: ShapeRef) -> Jet[N]:
+    def aside(self, point: JetVector[N], line: ShapeRef) -> Jet[N]:
         """How far a place is to the left of a line."""
         way = self.way(line)
         begin = self.spot(ORIGIN) if line in (X_AXIS, Y_AXIS) else self.ends(line)[0]
@@ -217,7 +217,7 @@ class Plane(Generic[N]):
                         dot(way, between(one, other)) / self.size(way)]
         raise AssertionError(constraint)
 
-    def _middle(self, first: Way[N], second: Way[N]) -> Way[N]:
+    def _middle(self, first: JetVector[N], second: JetVector[N]) -> JetVector[N]:
         half = self.numbers.of(Fraction(1, 2))
         return (first[0] + second[0]).times(half), (first[1] + second[1]).times(half)
 
@@ -256,7 +256,7 @@ class Plane(Generic[N]):
         apart = [end for end in _ends(other) if not any(same(end, each) for each in own)]
         return apart or _ends(other)
 
-    def _off_turn(self, first: Way[N], angle: AngleBetween, second: Way[N]) -> Jet[N]:
+    def _off_turn(self, first: JetVector[N], angle: AngleBetween, second: JetVector[N]) -> Jet[N]:
         """By how much the second way isn't the first, turned."""
         ahead, left = (self.number(each) for each in way_of(turn(self.drawing, angle)))
         wanted = (first[0] * ahead - first[1] * left, first[0] * left + first[1] * ahead)
@@ -280,7 +280,7 @@ class Plane(Generic[N]):
         inside = touch(self.drawing, tangent) is Touch.INSIDE
         return [apart - (abs(reach - other_reach) if inside else reach + other_reach)]
 
-    def _normal(self, shape: ShapeRef, end: PointRef) -> Way[N]:
+    def _normal(self, shape: ShapeRef, end: PointRef) -> JetVector[N]:
         """What is square to a shape at a point of it."""
         if self.is_line(shape):
             x, y = self.way(shape)
@@ -333,7 +333,7 @@ class Plane(Generic[N]):
     def _stays_at(self, ref: PointRef) -> list[Jet[N]]:
         return list(between(self._drawn_way(ref), self.spot(ref)))
 
-    def _drawn_way(self, ref: PointRef) -> Way[N]:
+    def _drawn_way(self, ref: PointRef) -> JetVector[N]:
         place = self.drawing.drawn(ref)
         return self.mm(place.x_um), self.mm(place.y_um)
 
@@ -343,16 +343,16 @@ def _ends(shape: ShapeRef) -> tuple[PointRef, PointRef]:
     return PointRef(shape.name, Which.START), PointRef(shape.name, Which.END)
 
 
-def between(first: Way[N], second: Way[N]) -> Way[N]:
+def between(first: JetVector[N], second: JetVector[N]) -> JetVector[N]:
     """The way from one place to another."""
     return second[0] - first[0], second[1] - first[1]
 
 
-def cross(first: Way[N], second: Way[N]) -> Jet[N]:
+def cross(first: JetVector[N], second: JetVector[N]) -> Jet[N]:
     """Above 0 where the second lies to the left of the first."""
     return first[0] * second[1] - first[1] * second[0]
 
 
-def dot(first: Way[N], second: Way[N]) -> Jet[N]:
+def dot(first: JetVector[N], second: JetVector[N]) -> Jet[N]:
     """Above 0 where the second lies ahead along the first."""
     return first[0] * second[0] + first[1] * second[1]

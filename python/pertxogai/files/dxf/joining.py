@@ -17,14 +17,12 @@ from pertxogai.classes import Classes
 from pertxogai.drawing import (
     X_AXIS, Arc, Coincident, Constraint, Horizontal, Pair, Perpendicular, Place, PointRef, Segment,
     Shape, ShapeRef, Tangent, Vertical, Which)
+from pertxogai.drawing.senses import Vector
 from pertxogai.exact import Number, cross, dot
 from pertxogai.files.contents import FileSketch
 
 MOST_PAIRED = 30
 """The most ends at one place of which each pair is looked at."""
-
-Way = tuple[Fraction, Fraction]
-"""A direction by its components, in micrometres."""
 
 
 @dataclass(frozen=True)
@@ -55,7 +53,7 @@ class End:
 
     ref: PointRef
     place: Place
-    way: Way
+    way: Vector
     is_rim: bool
 
 
@@ -150,11 +148,11 @@ def _meets(first: End, second: End, tolerance_um: Fraction) -> bool:
     return x * x + y * y <= tolerance_um ** 2
 
 
-def _within(product: Number, first: Way, second: Way, tolerance_um: Fraction) -> bool:
+def _within(product: Number, first: Vector, second: Vector, tolerance_um: Fraction) -> bool:
     """Whether the part of the shorter way that a product of both tells is within the tolerance."""
     longer = max(x * x + y * y for x, y in (first, second))
     return product * product <= tolerance_um ** 2 * longer
 
 
-def _across(way: Way) -> Way:
+def _across(way: Vector) -> Vector:
     return -way[1], way[0]
