@@ -41,15 +41,36 @@ FOLLOWS = {True: "follows from", False: "conflicts with",
 
 def drawing_lines(judged: CountedDrawing) -> Iterator[str]:
     """Everything that is reported of it, in lines to read; the first has the verdict."""
-    judgement, check = judged.judgement, judged.judgement.asked.check
-    freedoms = f", {freedoms_text(judged.finding)}" if judged.finding else ""
-    yield (f"{judged.name}: {verdict_text(judgement.verdict)}{freedoms}, "
-           f"encoding {judgement.style.value}, elements {check.elements}, "
-           f"constraints {check.constraints}, rigid clusters {len(check.parts)}")
+    yield _headline(judged)
     if not judged.drawing.geometry:
         yield "  nothing is drawn that could be judged"
     yield from (f"  not good: {reason.text}" for reason in reasons_against(judged)
                 if reason.lack in UNMET)
+    yield from _asked_lines(judged)
+    yield from _places_lines(judged)
+    yield from _open_lines(judged)
+    yield from _unmet_lines(judged.judgement)
+    yield from _surplus_lines(judged.judgement)
+    yield from (f"  check: {warning.text()}" for warning in judged.warnings())
+    yield from _nearly_lines(judged)
+    if judged.stored is not None:
+        from pertxogai.output.stored_text import stored_lines
+
+        yield from stored_lines(judged.stored, judged.drawing)
+
+
+def _headline(judged: CountedDrawing) -> str:
+    """The verdict, and what is counted."""
+    judgement, check = judged.judgement, judged.judgement.asked.check
+    freedoms = f", {freedoms_text(judged.finding)}" if judged.finding else ""
+    return (f"{judged.name}: {verdict_text(judgement.verdict)}{freedoms}, "
+            f"encoding {judgement.style.value}, elements {check.elements}, "
+            f"constraints {check.constraints}, rigid clusters {len(check.parts)}")
+
+
+def _asked_lines(judged: CountedDrawing) -> Iterator[str]:
+    """What the values are, and what of the drawing the program wasn't told as it is said."""
+    judgement = judged.judgement
     yield from values_lines(judged.drawing)
     yield from _tried_lines(judgement)
     yield from (f"  left out of the file: {what}" for what in judged.not_drawn)
@@ -64,24 +85,25 @@ def drawing_lines(judged: CountedDrawing) -> Iterator[str]:
                 for what in judgement.held)
     yield from (f"  no size given for {what}: drawn radius kept" for what in
                 judgement.undimensioned)
+
+
+def _places_lines(judged: CountedDrawing) -> Iterator[str]:
+    """Where it is placed, and why it isn't."""
     yield from _placed_lines(judged)
     yield from _advice_on_lacks(judged)
     yield from finding_lines(judged)
     yield from _failure_lines(judged)
+
+
+def _open_lines(judged: CountedDrawing) -> Iterator[str]:
+    """What is missing, and what would complete it."""
+    judgement = judged.judgement
     yield from _lacks_lines(judgement)
     yield from _whole_lines(judgement)
     yield from (f"  one of these is redundant all the same (by rank): {listed(each)}"
                 for each in judgement.too_many)
     yield from _missing_lines(judged)
     yield from _proposed_lines(judged)
-    yield from _unmet_lines(judgement)
-    yield from _surplus_lines(judgement)
-    yield from (f"  check: {warning.text()}" for warning in judged.warnings())
-    yield from _nearly_lines(judged)
-    if judged.stored is not None:
-        from pertxogai.output.stored_text import stored_lines
-
-        yield from stored_lines(judged.stored, judged.drawing)
 
 
 def _tried_lines(judgement: CountedJudgement) -> Iterator[str]:
