@@ -381,3 +381,22 @@ def test_pieces_that_share_a_line_without_a_name(capsys, tmp_path: Path) -> None
     )
     status, out, _ = judged(capsys, "judge", str(path))
     assert status == 1 and "clusters 1 and 2: they slide along a line: add a distance" in out
+
+
+def test_a_point_in_two_clusters_is_told_with_the_line_of_each(capsys, tmp_path: Path) -> None:
+    """H lies level with K and above L, and nothing else ties these: H is in the cluster of its
+    horizontal line, on which K lies, and in that of its vertical line, on which L lies."""
+    path = tmp_path / "holes.drawing"
+    path.write_text(
+        "rectangle Plate 0 0 80 50\ncoincident PlateBottom.start Origin\nlength PlateBottom 80\n"
+        "length PlateRight 50\ncircle H 8 8 2\ncircle K 72 8 2\ncircle L 8 42 2\ndiameter H 4\n"
+        "equal H K L\nhorizontal H.centre K.centre\nvertical H.centre L.centre\n"
+    )
+    _, out, _ = judged(capsys, "judge", "--no-search", str(path))
+    clusters = [line.partition(": ")[2] for line in out.splitlines() if "  cluster " in line]
+    assert sorted(clusters[1:]) == [
+        "H.centre, with a horizontal line of the encoding",
+        "H.centre, with a vertical line of the encoding",
+        "K.centre, with a horizontal line of the encoding",
+        "L.centre, with a vertical line of the encoding",
+    ]

@@ -134,7 +134,7 @@ def _open(judged: JudgedDrawing, found: Missing) -> Iterator[Line]:
     yield from _too_many(judgement)
     yield from _unmet(judgement)
     for piece in found.pieces[:MOST_PIECES]:
-        yield Line(f"cluster {piece.number}: {' '.join(piece.elements)}", list="pieces",
+        yield Line(f"cluster {piece.number}: {piece.text()}", list="pieces",
                    selects=piece.elements, part=piece.number)
     yield from _more(len(found.pieces) - MOST_PIECES, "pieces")
     for joint in found.joints[:MOST_JOINTS]:

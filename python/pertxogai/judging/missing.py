@@ -38,10 +38,18 @@ MOST_PAIRS = 9
 
 @dataclass(frozen=True)
 class Piece:
-    """A rigid cluster: the points and segments in it that the designer knows."""
+    """A rigid cluster: the points and segments in it that the designer knows. auxiliary: of a
+    single one, what the encoding adds to it, in words. Clusters may share points, so two may have
+    the same one, with other lines of the encoding."""
 
     number: int
     elements: tuple[str, ...]
+    auxiliary: tuple[str, ...] = ()
+
+    def text(self) -> str:
+        """Its elements, and what the encoding adds to a single one."""
+        more = f", with {' and '.join(self.auxiliary)} of the encoding" if self.auxiliary else ""
+        return " ".join(self.elements) + more
 
 
 @dataclass(frozen=True)
@@ -73,13 +81,19 @@ def missing(names: Names, parts: tuple[Part, ...]) -> Missing:
     """What is missing: how much, by the rank of what the drawing says; and between which of the
     program's parts."""
     free = freedoms(names.drawing)
-    pieces = tuple(Piece(part.number, names.elements(part.elements)) for part in parts)
+    pieces = tuple(_piece(names, part) for part in parts)
     shown = [place for place, piece in enumerate(pieces) if piece.elements]
     joints = tuple(_joint(names, parts, pieces, shown, place) for place in shown[1:])
     shown_pieces = tuple(pieces[place] for place in shown)
     if free is None:
         return Missing(0, shown_pieces, tuple(map(_uncounted, joints)))
     return Missing(free.lacks, shown_pieces, _lacking(names, parts, joints, free), free.whole)
+
+
+def _piece(names: Names, part: Part) -> Piece:
+    elements = names.elements(part.elements)
+    added = names.auxiliary(part.elements) if len(elements) == 1 else ()
+    return Piece(part.number, elements, added)
 
 
 def _lacking(names: Names, parts: Sequence[Part], joints: Sequence[Joint],

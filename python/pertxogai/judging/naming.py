@@ -7,8 +7,8 @@ from dataclasses import dataclass
 from functools import cached_property
 
 from pertxogai.drawing import Drawing, PointRef, ShapeRef
-from pertxogai.spelling.facts import Knot, Owner
-from pertxogai.spelling.writing import Spelled
+from pertxogai.spelling.facts import DATUM, Knot, Owner
+from pertxogai.spelling.spelled import Heading, Spelled
 
 _NOT_GIVEN = re.compile(r"constraint \d+ \(|the ends of |Constraint\d+$")
 """How names of constraints begin that no designer gave: ours, and those of FreeCAD."""
@@ -73,3 +73,20 @@ class Names:
         """The elements that a designer drew, without auxiliary ones."""
         found = (self.element(name) for name in names)
         return tuple(each for each in found if each is not None)
+
+    def auxiliary(self, names: Iterable[str]) -> tuple[str, ...]:
+        """What the encoding adds to some elements, in words, each kind of it once."""
+        return tuple(dict.fromkeys(self._auxiliary(name) for name in names
+                                   if self.element(name) is None))
+
+    @cached_property
+    def _headings(self) -> dict[str, Heading]:
+        return {each.name: each for each in self.spelled.headings}
+
+    def _auxiliary(self, name: str) -> str:
+        heading = self._headings.get(name)
+        if heading is None:
+            return "a point"
+        if heading.frame != DATUM or heading.quarters is None:
+            return "a line"
+        return "a vertical line" if heading.quarters % 2 else "a horizontal line"

@@ -192,7 +192,7 @@ def _missing_lines(judged: JudgedDrawing) -> Iterator[str]:
     if lacks is None:
         return
     for piece in lacks.pieces:
-        yield f"  cluster {piece.number}: {' '.join(piece.elements)}"
+        yield f"  cluster {piece.number}: {piece.text()}"
     for joint in lacks.joints[:MOST_ADVICE]:
         shared = f" share {' '.join(joint.shared)};" if joint.shared else ":"
         yield (f"  what to do: clusters {joint.first.number} and {joint.second.number}{shared} "
