@@ -10,8 +10,11 @@ from conftest import TOP
 from pertxogai import search
 from pertxogai.commands import main
 from pertxogai.drawing import read_drawing
+from pertxogai.files.contents import Addition, FileRefusal
+from pertxogai.files.drawing_text import with_lines, write_additions
 from pertxogai.files.freecad import read_freecad
 from pertxogai.files.solvespace import read_solvespace
+from pertxogai.judging.measure import Solution
 
 TESTS = Path(__file__).parent
 PLATE = TESTS / "drawings/open-plate-without-height.drawing"
@@ -82,6 +85,50 @@ def test_the_drawing_with_the_lines_is_well(capsys, tmp_path):
     assert after.wordings == (*before.wordings, "length PlateRight 79")
     assert [note.text for note in after.notes] == [note.text for note in before.notes]
     assert told(capsys, "judge", out)[0] == 0
+
+
+WRITTEN = """# a cover
+value Width 120
+
+rectangle Plate 0 0 118 79
+coincident PlateBottom.start Origin   # its corner
+Wide: length PlateBottom Width
+circle Hole 47 28 5
+  x Hole Width/2 - 15
+diameter Hole 0.5in
+
+# its height is missing"""
+
+
+@pytest.mark.parametrize("end", ["\n", "\r\n"])
+@pytest.mark.parametrize("last", ["", "\n", "\n\n"])
+def test_a_drawing_keeps_every_line_and_the_new_ones_stand_below(end, last, capsys, tmp_path):
+    # Only the height of the plate and y of the hole are missing: drawn 79 and 28.
+    given, out = tmp_path / "given.drawing", tmp_path / "out.drawing"
+    text = (WRITTEN + last).replace("\n", end)
+    given.write_bytes(text.encode())
+    assert told(capsys, "complete", given, "-o", out)[0] == 0
+    below = f"length PlateRight 79{end}y Hole.centre 28{end}"
+    assert out.read_bytes().decode() == text + ("" if last else end) + below
+    assert told(capsys, "judge", out)[0] == 0
+
+
+@pytest.mark.parametrize("text, whole", [
+    (b"circle C 0 0 5", b"circle C 0 0 5\nx C 1\n"),
+    (b"circle C 0 0 5\r", b"circle C 0 0 5\r\nx C 1\r\n"),
+    (b"# \xff\ncircle C 0 0 5\r", b"# \xff\ncircle C 0 0 5\r\nx C 1\n")])
+def test_a_last_line_without_an_end_gets_one(text, whole):
+    assert with_lines(text, ["x C 1"]) == whole
+
+
+def test_a_file_that_was_changed_meanwhile_is_not_copied(tmp_path):
+    given, out = tmp_path / "given.drawing", tmp_path / "out.drawing"
+    given.write_text("circle C 0 0 5\ndiameter C 12\n")
+    completed = read_drawing("circle C 0 0 5\ndiameter C 10\non C XAxis\n")
+    added = Addition(completed, completed.constraints[1:], Solution({}))
+    with pytest.raises(FileRefusal, match="was changed meanwhile"):
+        write_additions(given, out, {"": added})
+    assert not out.exists()
 
 
 @pytest.mark.parametrize("name, read", [("plate-without-height.FCStd", read_freecad),

@@ -56,12 +56,12 @@ def _complete(found: DesignerDrawing, program: Solver, options: argparse.Namespa
 
 def _write(path: Path, out: Path, drawings: Sequence[DesignerDrawing],
            found: Sequence[Found]) -> None:
-    """Writes what was completed: as a drawing, or into a copy of the file. Raises CommandError and
+    """Writes what was completed: into a copy of the file, or as a drawing. Raises CommandError and
     FileRefusal."""
     completed = {it.key: each for it, each in zip(drawings, found) if isinstance(each, Completion)}
     if not completed:
         raise CommandError(f"{path}: nothing is proposed, so {out} isn't written")
-    if out.suffix.lower() != ".drawing":
+    if out.suffix.lower() != ".drawing" or path.suffix.lower() == ".drawing":
         _write_into(path, out, completed)
         return
     if len(drawings) > 1:
@@ -73,7 +73,8 @@ def _write(path: Path, out: Path, drawings: Sequence[DesignerDrawing],
 
 
 def _write_into(path: Path, out: Path, completed: Mapping[str, Completion]) -> None:
-    """Copies a file of FreeCAD's or SolveSpace's with what was completed written in."""
+    """Copies a file with what was completed written in: a drawing keeps its lines, notes and
+    order."""
     kind = kind_of(path)
     if kind is None or kind.add is None or out.suffix.lower() != kind.suffix.lower():
         raise CommandError(f"{out}: a completed drawing is written as a .drawing, or into a copy of"

@@ -145,6 +145,12 @@ def _add_solvespace(path: Path, out: Path, additions: Mapping[str, Addition]) ->
     write_additions(path, out, additions)
 
 
+def _add_drawing(path: Path, out: Path, additions: Mapping[str, Addition]) -> None:
+    from pertxogai.files.drawing_text import write_additions
+
+    write_additions(path, out, additions)
+
+
 def _vary_drawing(path: Path, out: Path, good: Mapping[str, GoodJudgement]) -> None:
     (each,) = good.values()
     with written_whole(out, path) as stream:
@@ -165,7 +171,7 @@ def _vary_solvespace(path: Path, out: Path, good: Mapping[str, GoodJudgement]) -
 
 KINDS = (
     Kind(".sketch", "the sketch language", _read_sketch),
-    Kind(".drawing", "a designer's drawing", _read_drawing, vary=_vary_drawing),
+    Kind(".drawing", "a designer's drawing", _read_drawing, add=_add_drawing, vary=_vary_drawing),
     Kind(".FCStd", "FreeCAD", _read_freecad, _write_freecad, _add_freecad, _vary_freecad),
     Kind(".slvs", "SolveSpace", _read_solvespace, _write_solvespace, _add_solvespace,
          _vary_solvespace),
