@@ -20,6 +20,7 @@ from pertxogai.completing.figure import Figure
 from pertxogai.completing.relations import relations
 from pertxogai.completing.slack import Slack
 from pertxogai.completing.values import round_degrees, round_um
+from pertxogai.completing.written import as_drawn
 from pertxogai.drawing import (
     AngleBetween, Coincident, Concentric, Diameter, Distance, Drawing, Length, PointLineDistance,
     Radius, XDistance, YDistance, line_of, read_drawing, words_of)
@@ -136,6 +137,102 @@ def test_what_is_refused_is_told_otherwise():
     taste = TASTES[0].without(read_drawing(PLATE + "length PlateBottom 80\n").constraints[-1])
     assert [words_of(each) for each in choose(slack, taste).own] == [
         "length PlateRight 50", "length PlateTop 80"]
+
+
+# -- the numbers that stand in the drawing
+
+@pytest.mark.parametrize("shapes, line, drawn", [
+    ("circle C 0 0 5\n", "diameter C 10.3", "diameter C 10"),
+    ("arc A 0 0 5 0 0 5\n", "radius A 5.2", "radius A 5"),
+    ("segment S 0 0 3 4\n", "length S 5.1", "length S 5"),
+    ("segment S 0 0 3 4\n", "distance S.start S.end 5.1", "distance S.start S.end 5"),
+    ("segment S 1 1 4 5\n", "x S.end 3.83", "x S.end 4"),
+    ("segment S 1 1 4 5\n", "y S.start S.end 4.17", "y S.start S.end 4"),
+    ("segment S 0 0 10 0\npoint P 4 2\n", "distance P S 2.1", "distance P S 2"),
+    ("segment S 0 0 10 0\nsegment T S.start 6 8\n", "angle S T 53.4deg", "angle S T 53.13deg"),
+    ("segment S 0 0 10 0\nsegment T S.start 0 8\n", "angle S T 88deg", "perpendicular S T"),
+    ("segment T 0 0 6 8\n", "angle T +54deg", "angle T +53.13deg"),
+    ("segment T 0 0 6 0\n", "angle T +2deg", "horizontal T"),
+    # What is drawn on an axis, or above another point, is told so.
+    ("point P 0 10\n", "x P 0.17", "on P YAxis"),
+    ("segment S 5 1 5 9\n", "x S.start S.end 0.17", "vertical S.start S.end"),
+    # Placed on the other side of the origin, and on the same line: no number of the drawing.
+    ("point P 5 10\n", "x P -5", None),
+    ("segment S 0 0 10 0\nsegment T 2 1 5 1\n", "angle S T 3deg", None),
+    ("segment S 0 0 10 0\n", "horizontal S", None)])
+def test_a_dimension_has_the_value_that_is_drawn(shapes, line, drawn):
+    dimension = read_drawing(f"{shapes}{line}\n").constraints[-1]
+    found = as_drawn(dimension, Figure(read_drawing(shapes)))
+    assert (None if found is None else words_of(found)) == drawn
+
+
+SLOT = """
+rectangle Plate 0 0 80 50
+coincident PlateBottom.start Origin
+length PlateBottom 80
+length PlateRight 50
+segment Lower 30 20 51 20
+arc East 50 25 Lower.end 51 30
+segment Upper East.end 30 30
+arc West 30 25 Upper.end Lower.start
+horizontal Lower
+tangent Lower East
+tangent East Upper
+tangent Upper West
+tangent West Lower
+radius East 5
+equal East West
+x West.centre East.centre 20
+y East.centre 25
+"""
+TRIANGLE = """
+segment A 0 0 40 0
+segment B A.end 64 36
+segment C B.end A.start
+coincident A.start Origin
+horizontal A
+length A 30
+length B 40
+"""
+
+
+@pytest.mark.parametrize("text, lines", [
+    # The slot's centre is drawn at x = 50, and the end of its arc a millimetre too far to the
+    # right, so the search moves it.
+    (SLOT, ["x East.centre 50"]),
+    # A plate that is drawn 100 wide and told to be 120: its height and the hole are as drawn.
+    ("rectangle P 0 0 100 60\ncircle H 25 30 6\nlength PBottom 120\ndiameter H 12\n"
+     "distance H PLeft 30\n", ["length PRight 60", "y PBottom.start H.centre 30"]),
+    # Drawn at a tenth of its size: no number of it is that of the part.
+    ("rectangle P 0 0 12 8\ncoincident PBottom.start Origin\nlength PBottom 120\n",
+     ["length PRight 80"])])
+def test_values_are_the_numbers_that_are_drawn(text, lines, program):
+    found = complete(read_drawing(text), program)
+    assert isinstance(found, Completion)
+    assert [each.line() for each in found.proposals] == lines
+
+
+@pytest.mark.parametrize("name, line", [
+    ("bracket", "x H1.centre 44"),  # Drawn at 44, 11.
+    ("slot-without-length", "length Lower 29"),  # Drawn from 0, -8 to 29, -8.
+    ("four-bar", "angle Crank +58.3deg")])  # Drawn to 21, 34: its tangent is 1.61905.
+def test_values_of_the_gallery_are_those_that_are_drawn(name, line, program):
+    text = (TESTS / f"drawings/open-{name}.drawing").read_text()
+    found = complete(read_drawing(text), program)
+    assert isinstance(found, Completion) and line in [each.line() for each in found.proposals]
+
+
+def test_a_drawn_number_that_cannot_be_had_leaves_the_others_as_they_are(program):
+    # C is drawn 73.43 long, from 64, 36 to the origin; beside 30 and 40 it is less than 70. Its
+    # slope changes with that, and x of the hole on it, drawn at 20, can be had all the same.
+    hole = "circle H 20 11.25 3\non H.centre C\n"
+    shapes, constraints = TRIANGLE.split("coincident", 1)
+    found = complete(read_drawing(f"{shapes}{hole}coincident{constraints}"), program)
+    assert isinstance(found, Completion)
+    size, side, run = (each.constraint for each in found.proposals)
+    assert (words_of(size), words_of(run)) == ("diameter H 6", "x H.centre 20")
+    assert isinstance(side, Length) and side.segment.name == "C"
+    assert 10_000 < side.value_um < 70_000
 
 
 # -- what the program says of it

@@ -3,18 +3,19 @@ program has the last word."""
 from __future__ import annotations
 
 from collections.abc import Iterable, Iterator
+from dataclasses import replace
 from functools import cached_property
 
 from pertxogai.completing.trials import Trials, State
 from pertxogai.completing.choosing import (
     SECONDS, TASTES, Choice, Left, Relate, Taste, candidates, choose, choose_places, tied,
     with_more, with_relations)
-from pertxogai.completing.dimensions import as_drawn
 from pertxogai.completing.figure import Figure
 from pertxogai.completing.fixes import proposals
 from pertxogai.completing.proposal import Completion, NoProposal, WhyNot
 from pertxogai.completing.slack import Slack, Remaining
 from pertxogai.completing.from_program import Words
+from pertxogai.completing.written import as_drawn, is_near, room_of, with_drawn_values
 from pertxogai.drawing import Constraint, Drawing
 from pertxogai.judging import Question, first_good, reasons_against
 from pertxogai.judging.limits import check_fits
@@ -126,50 +127,42 @@ def _choices(whole: OpenDrawing) -> Iterator[Choice]:
 
 
 def _by_rank(slack: Slack, taste: Taste, trials: Trials) -> Iterator[Choice]:
-    """What completes it by rank, once the program leaves each of its values some room. A value that
-    has none where the drawing is placed is tried once as it is drawn, and then given up."""
+    """What completes it by rank, with room for each value: the drawn values first, and then those
+    where the drawing is placed. A value that has no room there is tried once as it is drawn, with
+    the others placed beside it, and then given up."""
     first, there = len(slack.drawing.constraints), slack
     for _ in range(ROUNDS):
-        choice = choose(there, taste)
-        told = _placed(there.drawing, choice, trials) if choice else None
-        if choice is None or told is None:
+        chosen = choose(there, taste)
+        if chosen is None:
             return
-        own = (*there.drawing.constraints[first:], *choice.own)
-        tight = trials.without_room(told, range(first, first + len(own)))
-        if tight is None:
-            yield Choice(own, choice.datum)
-        if tight is None or trials.is_over():
+        choice = replace(chosen, own=(*there.drawing.constraints[first:], *chosen.own))
+        yield from with_drawn_values(slack, choice, trials)
+        room = room_of(slack.drawing, choice, trials)
+        if room.is_enough():
+            yield choice
+        if room.tight is None or trials.is_over():
             return
-        drawn = _as_drawn(slack, tight) if there is slack else None
-        there, taste = (drawn, taste) if drawn is not None else (slack, taste.without(tight))
+        drawn = _as_drawn(slack, room.tight) if there is slack else None
+        there, taste = (drawn, taste) if drawn is not None else (slack, taste.without(room.tight))
 
 
 def _as_drawn(slack: Slack, tight: Constraint) -> Slack | None:
     """A drawing with a dimension that has the value as drawn; None where that is near the given
     one, or no places are found."""
     drawn = as_drawn(tight, Figure(slack.drawing))
-    return Slack.of(with_more(slack.drawing, [drawn]), SECONDS) if drawn is not None else None
+    if drawn is None or is_near(tight, drawn):
+        return None
+    return Slack.of(with_more(slack.drawing, [drawn]), SECONDS)
 
 
 def _by_places(slack: Slack, trials: Trials) -> Iterator[Choice]:
     """What completes it by x and y of points, and radii."""
     choice = choose_places(slack)
-    told = _placed(slack.drawing, choice, trials) if choice else None
-    if choice is not None and told is not None:
-        first = len(slack.drawing.constraints)
-        if trials.without_room(told, range(first, first + len(choice.own))) is None:
-            yield choice
-
-
-def _placed(drawing: Drawing, choice: Choice, trials: Trials) -> Drawing | None:
-    """The drawing with a choice, without what ties the whole where it is placed so; None where it
-    isn't placed with that either, as where a part of it is tied already."""
-    for more in (choice.own, (*choice.own, *choice.datum)):
-        told = with_more(drawing, more)
-        state = trials.state(told)
-        if state is not None and state.is_placed:
-            return told
-    return None
+    if choice is None:
+        return
+    yield from with_drawn_values(slack, choice, trials)
+    if room_of(slack.drawing, choice, trials).is_enough():
+        yield choice
 
 
 # -- where that isn't enough
@@ -190,7 +183,9 @@ def _one_by_one(slack: Slack, taste: Taste, whole: OpenDrawing) -> Iterator[Choi
             told, state = with_more(told, [constraint]), better
             chosen.append(constraint)
         if state.is_placed and left.is_nothing():
-            yield Choice(tuple(chosen), tied(related, left.remaining) or ())
+            choice = Choice(tuple(chosen), tied(related, left.remaining) or ())
+            yield from with_drawn_values(slack, choice, trials)
+            yield choice
             return
 
 
@@ -206,7 +201,9 @@ def _told_back(slack: Slack, whole: OpenDrawing) -> Iterator[Choice]:
         there, state = more
         if state.is_placed:
             chosen = there.drawing.constraints[len(slack.drawing.constraints):]
-            yield Choice(tuple(chosen), tied(there, Remaining.all(there)) or ())
+            choice = Choice(tuple(chosen), tied(there, Remaining.all(there)) or ())
+            yield from with_drawn_values(slack, choice, trials)
+            yield choice
             return
 
 

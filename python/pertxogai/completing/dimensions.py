@@ -14,7 +14,7 @@ from pertxogai.completing.values import round_degrees, round_um
 from pertxogai.drawing import (
     ORIGIN, X_AXIS, Y_AXIS, AngleBetween, Circle, Coincident, Constraint, Degrees, Diameter,
     Distance, Horizontal, Length, Pair, Perpendicular, PointLineDistance, PointOn, PointRef, Radius,
-    Segment, Sense, ShapeRef, Vertical, Which, XDistance, YDistance)
+    Segment, Sense, ShapeRef, Vertical, XDistance, YDistance)
 
 LEAST_UM, LEAST_PART = 1.0, 2e-4
 """What is shorter, and shorter than this part of the drawing's size, is nothing."""
@@ -22,8 +22,6 @@ LEAST_DEGREES = 0.5
 """Edges that run nearer to each other make no angle."""
 SLANT = 1e-6
 """An edge is slanted that rises by more than this part of its length."""
-NEAR_PART = 0.01
-"""Values that differ by less than this part are near each other."""
 MOST_EACH = 2000
 """The most dimensions of a kind that are looked at: of a large drawing those of the points and
 edges that are drawn first."""
@@ -183,23 +181,6 @@ def angles_of(figure: Figure, first: Segment, second: Segment) -> Iterator[Const
         lines = ShapeRef(first.name), ShapeRef(second.name)
         rounded = round_degrees(angle)
         yield Perpendicular(*lines) if rounded == 90 else AngleBetween(*lines, Degrees(rounded))
-
-
-def as_drawn(dimension: Constraint, drawn: Figure) -> Constraint | None:
-    """A size, a length or a distance with the value that it has as it is drawn; None where that is
-    within a hundredth of its own, and of others."""
-    match dimension:
-        case Diameter(rim, value_um) | Radius(rim, value_um):
-            there = size_of(drawn, rim.name)
-        case Length(edge, value_um):
-            both = (PointRef(edge.name, which) for which in (Which.START, Which.END))
-            there = Length(edge, round_um(drawn.apart_um(*both)))
-        case Distance(first, second, value_um):
-            there = Distance(first, second, round_um(drawn.apart_um(first, second)))
-        case _:
-            return None
-    assert isinstance(there, Diameter | Radius | Length | Distance)
-    return there if abs(there.value_um - value_um) > NEAR_PART * value_um else None
 
 
 # -- what ties the whole
