@@ -400,3 +400,52 @@ def test_a_point_in_two_clusters_is_told_with_the_line_of_each(capsys, tmp_path:
         "K.centre, with a horizontal line of the encoding",
         "L.centre, with a vertical line of the encoding",
     ]
+
+
+ROUNDED = """segment Bottom 6 0 74 0
+arc SE 74 6 Bottom.end 80 6
+segment Right SE.end 80 44
+arc NE 74 44 Right.end 74 50
+segment Top NE.end 6 50
+arc NW 6 44 Top.end 0 44
+segment Left NW.end 0 6
+arc SW 6 6 Left.end Bottom.start
+tangent Bottom SE
+tangent SE Right
+tangent Right NE
+tangent NE Top
+tangent Top NW
+tangent NW Left
+tangent Left SW
+tangent SW Bottom
+collinear Bottom XAxis
+collinear Left YAxis
+horizontal Top
+vertical Right
+radius SE 6
+equal SE NE NW SW
+y Top.start 50
+Wide: x Right.end 80
+circle Hole 8 8 2.5
+diameter Hole 5
+Along: x Hole 8
+y Hole 8
+Across: distance Hole Right 70
+"""
+
+
+def test_what_opens_a_drawing_stands_below_what_does_not(capsys, tmp_path: Path) -> None:
+    """The hole is 8 from the left and 70 from the right of a plate that is 80 wide: 2 mm too few.
+    Without any of the three the rest is well; without the direction of the right edge it is open,
+    as rounded corners alone don't hold that."""
+    path = tmp_path / "rounded.drawing"
+    path.write_text(ROUNDED)
+    _, out, _ = judged(capsys, "judge", "--no-search", str(path))
+    lines = out.splitlines()
+    first = lines.index("  what to do: remove one of these, and judge again (by rank; each was"
+                        " tried)")
+    assert [line for line in lines[first + 1:first + 4] if line.startswith("    ")] == [
+        f"    '{name}': conflicting, off by 2 mm; without it the rest is well"
+        for name in ("Wide", "Along", "Across")]
+    assert lines[first + 4] == "  removable too, but then a dimension is missing:"
+    assert lines[first + 5] == "    constraint 12 (vertical Right); without it the rest is open"

@@ -70,7 +70,11 @@ def test_two_eyes_and_their_common_tangent(capsys: pytest.CaptureFixture[str]) -
 def test_too_much_is_told_by_name(capsys: pytest.CaptureFixture[str]) -> None:
     status, out, _ = called(capsys, "judge", FILES / "twice.FCStd")
     assert status == 1 and out.startswith("Sketch: over")
-    assert "    'above': redundant, off by 0 nm; without it the rest is well" in out.splitlines()
+    lines = out.splitlines()
+    assert "    'above': redundant, off by 0 nm; without it the rest is well" in lines
+    # What has FreeCAD's own name is told with its words.
+    assert ("    Constraint6 (vertical Line2): redundant, off by 0 nm; without it the rest is well"
+            in lines)
     spare = sketch_of(capsys, FILES / "contradiction.FCStd")["spare"]
     above = next(each for each in spare if each["name"] == "above")
     assert (above["off"], above["unit"], above["repeats"]) == (5 * MM, "nm", False)

@@ -12,12 +12,19 @@ from pertxogai.spelling.spelled import Heading, Spelled
 
 _NOT_GIVEN = re.compile(r"constraint \d+ \(|the ends of |Constraint\d+$")
 """How names of constraints begin that no designer gave: ours, and those of FreeCAD."""
+_FREECAD = re.compile(r"Constraint\d+")
 
 
 def quoted(name: str) -> str:
     """The name of a constraint, for people to read: in quotes if a designer gave it, so that none
     is read as a word of the sentence."""
     return name if _NOT_GIVEN.match(name) else f"'{name}'"
+
+
+def with_words(name: str, words: str) -> str:
+    """The name of a constraint, for people to read, with its words behind a name that FreeCAD gave:
+    `Constraint6` alone says nothing."""
+    return f"{name} ({words})" if _FREECAD.fullmatch(name) else quoted(name)
 
 
 def listed(names: Iterable[str]) -> str:

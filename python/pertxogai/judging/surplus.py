@@ -74,6 +74,10 @@ class Surplus:
             return None
         return self.off.amount <= self.limit.amount
 
+    def opens(self) -> bool:
+        """Whether something is missing without it."""
+        return self.then is Then.OPEN
+
     def may_be_rounding(self) -> bool:
         """Whether rounded values move its deviation past the limit, so that it isn't known whether
         it is redundant."""

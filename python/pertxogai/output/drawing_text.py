@@ -8,7 +8,7 @@ from pertxogai.judging.good import Lack, reasons_against
 from pertxogai.judging.judged_drawing import CountedDrawing, JudgedDrawing
 from pertxogai.judging.measure import Unit, amount_text
 from pertxogai.judging.measure.limit import units_text
-from pertxogai.judging.naming import listed, quoted
+from pertxogai.judging.naming import listed, quoted, with_words
 from pertxogai.judging.states import WithPlaces
 from pertxogai.output.finding_text import finding_lines, freedoms_text
 from pertxogai.output.values_text import values_lines
@@ -16,6 +16,7 @@ from pertxogai.output.verdict_text import verdict_text
 from pertxogai.program.called import COMMAND
 
 if TYPE_CHECKING:  # What isn't well, or isn't met, imports what is told of it alone.
+    from pertxogai.drawing import Drawing
     from pertxogai.judging.judgement import CountedJudgement, Judgement
     from pertxogai.judging.surplus import Surplus
 
@@ -50,7 +51,7 @@ def drawing_lines(judged: CountedDrawing) -> Iterator[str]:
     yield from _places_lines(judged)
     yield from _open_lines(judged)
     yield from _unmet_lines(judged.judgement)
-    yield from _surplus_lines(judged.judgement)
+    yield from _surplus_lines(judged)
     yield from (f"  check: {warning.text()}" for warning in judged.warnings())
     yield from _nearly_lines(judged)
     if judged.stored is not None:
@@ -236,18 +237,32 @@ def _unmet_lines(judgement: CountedJudgement) -> Iterator[str]:
                "a shape is found")
 
 
-def _surplus_lines(judgement: CountedJudgement) -> Iterator[str]:
-    """What is removable, how far it is off, and what the rest is then."""
+def _surplus_lines(judged: CountedDrawing) -> Iterator[str]:
+    """What is removable, how far it is off, and what the rest is then: first what leaves nothing
+    missing."""
+    judgement = judged.judgement
     yield from (f"  over-constrained as measured, which isn't certified: {quoted(what)} can't be "
                 "encoded, and the rest is enough" for what in judgement.measured_off)
     yield from _advice_on(judgement.surplus)
-    for each in judgement.surplus:
-        then = "" if each.then is None else f"; without it the rest is {each.then.value}"
-        yield f"    {quoted(each.name)}{_off_text(each)}{then}"
-        if each.others:
-            yield f"      {FOLLOWS[each.repeats()]}: {listed(each.others)}"
+    opening = [each for each in judgement.surplus if each.opens()]
+    others = [each for each in judgement.surplus if not each.opens()]
+    for each in others or opening:
+        yield from _removable_lines(each, judged.drawing)
+    if others and opening:
+        yield "  removable too, but then a dimension is missing:"
+        for each in opening:
+            yield from _removable_lines(each, judged.drawing)
     yield from (f"  a dimension is missing all the same (by rank): {what}"
                 for what in judgement.loose)
+
+
+def _removable_lines(each: Surplus, drawing: Drawing) -> Iterator[str]:
+    """A removable dimension, and its group."""
+    then = "" if each.then is None else f"; without it the rest is {each.then.value}"
+    name = with_words(each.name, drawing.wordings[each.number - 1])
+    yield f"    {name}{_off_text(each)}{then}"
+    if each.others:
+        yield f"      {FOLLOWS[each.repeats()]}: {listed(each.others)}"
 
 
 def _off_text(each: Surplus) -> str:
