@@ -9,6 +9,7 @@ from fractions import Fraction
 from math import atan2, cos, pi, sin
 
 from pertxogai.exact import Vector, between, root, square
+from pertxogai.judging.mirror_images import with_image_across
 from pertxogai.judging.printed import PrintedPlaces, along
 from pertxogai.program.reports import PartsReport, Solved
 from pertxogai.spelling.axes import Axes, Equation
@@ -43,7 +44,8 @@ def growths(axes: Axes, rails: Rails, spelled: Spelled, report: PartsReport) -> 
             rest = known.reduced(rails.symbols(fact.value) - Form.of(Span(*fact.ends())))
             if len(rest.terms) == 1 and isinstance(next(iter(rest.terms)), Size):
                 equation = Equation(rails.unfold(rest), frozenset({fact.owner}))
-                yield Grown(with_equation(axes, None, equation, fact), equation)
+                across = with_image_across(axes, spelled, report, fact)
+                yield Grown(with_equation(across, None, equation, fact), equation)
 
 
 def _fixes_one(form: Form) -> bool:

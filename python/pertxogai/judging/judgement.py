@@ -297,8 +297,9 @@ def judge_trial(edited: EditedDrawing, asked: Trial, question: Question) -> Judg
     if not any(each.amount > FINE_NM for each in judged.deviations):
         return judged
     fine = finer(question, asked)
-    return judged if fine is asked else min((judged, _judgement(edited, fine, question)),
-                                            key=_greatest)
+    if fine is asked:
+        return judged
+    return min((judged, _judgement(edited, fine, question)), key=_worst_off)
 
 
 def _judgement(edited: EditedDrawing, asked: Trial, question: Question) -> Judgement:
@@ -381,8 +382,10 @@ def _weighed_judgement(judged: Judgement, state: State, loose: tuple[str, ...] =
                             unmet)
 
 
-def _greatest(judged: Judgement) -> int:
-    return max((each.amount for each in judged.deviations if each.unit is Unit.NM), default=0)
+def _worst_off(judged: Judgement) -> tuple[bool, int]:
+    """Whether a constraint isn't met, and the greatest deviation in nanometres."""
+    return (any(judged.limit.beyond(judged.deviations)),
+            max((each.amount for each in judged.deviations if each.unit is Unit.NM), default=0))
 
 
 def weighed(judged: Judgement, program: Solver) -> WeighedJudgement:

@@ -49,10 +49,13 @@ class PrintedPlaces:
 
     def height(self, line: str, point: str) -> Number:
         """How far a point is from a line, in micrometres."""
+        return abs(self.left_of(line, point))
+
+    def left_of(self, line: str, point: str) -> Number:
+        """How far a point is to the left of a line, in micrometres; below 0 to its right."""
         a, b, c = self.lines[line]
         x, y = self.points[point]
-        aside = a * x + b * y - c
-        return max(aside, -aside)
+        return a * x + b * y - c
 
     def foot(self, line: str) -> PointUm:
         """The line's place nearest to 0 0."""

@@ -9,6 +9,7 @@ from dataclasses import dataclass, field, replace
 from enum import Enum
 from functools import partial
 from itertools import islice
+from typing import TYPE_CHECKING
 
 from pertxogai.drawing import Drawing
 from pertxogai.judging.freedoms import freedoms
@@ -21,8 +22,11 @@ from pertxogai.program.reports import (
     read_fault, read_parts)
 from pertxogai.spelling import Axes, Care, Interpretation, Rails, Spelled, Style, readings, written
 from pertxogai.spelling.axes import Equation
-from pertxogai.spelling.facts import Owner
+from pertxogai.spelling.facts import Knot, Owner
 from pertxogai.spelling.writing import Contradiction
+
+if TYPE_CHECKING:  # Few drawings need a plan.
+    from pertxogai.program.reports import Plan
 
 ROUNDS = 80
 """The most values that are read off placed parts."""
@@ -54,9 +58,9 @@ class Question:
 class Trial:
     """The program's answer to one encoding of a drawing. If it is fully constrained: the positions
     or the fault, and the report of `check` only in a `CountedTrial`; otherwise the report of
-    `check`. grown: equations that placed clusters gave. frozen: the constraints that are only
-    measured. off: the constraints that couldn't be encoded and were passed as contradictions, by
-    what was measured."""
+    `check`. grown: equations that placed clusters gave; told: the axes without these. frozen: the
+    constraints that are only measured. off: the constraints that couldn't be encoded and were
+    passed as contradictions, by what was measured."""
 
     spelled: Spelled
     axes: Axes
@@ -67,6 +71,7 @@ class Trial:
     off: tuple[Contradiction, ...] = ()
     place: PlaceBy = PlaceBy.BOXES
     solved: Solved | Fault | None = None
+    told: Axes | None = None
 
     @property
     def verdict(self) -> Verdict:
@@ -160,14 +165,39 @@ def _styles(spellings: Interpretation, styles: Sequence[Style]) -> Iterator[tupl
 
 
 def finer(question: Question, asked: Trial) -> Trial:
-    """The same with angles told as finely as can be, where that is still well and placed."""
+    """The same with angles told as finely as can be, where that is still well and placed: what
+    placed clusters give is read off them anew."""
     if not asked.spelled.near:
         return asked
-    fine = placed(ask(question, asked.axes, asked.spelled.style, Care(fine=True)),
-                  question.program)
-    if _worth(question, fine) < _worth(question, asked):
-        return asked
-    return replace(fine, grown=asked.grown + fine.grown, frozen=asked.frozen)
+    axes = asked.told or asked.axes
+    for care in _fine_cares(question.program, asked):
+        fine = placed(ask(question, axes, asked.spelled.style, care), question.program)
+        if _worth(question, fine) >= _worth(question, asked):
+            return replace(fine, grown=asked.grown + fine.grown, frozen=asked.frozen)
+    return asked
+
+
+def _fine_cares(program: Solver, asked: Trial) -> Iterator[Care]:
+    """How angles are told finely: with a line of help through the first point of each one's second
+    line; then through the point by which the plan joins both lines. What is well stays so by that:
+    a step joins the line of help there, and another the second line."""
+    yield Care(fine=True)
+    if asked.solved is not None:
+        from pertxogai.program.reports import read_plan
+
+        plan = read_plan(written_by(program, "plan", asked.spelled.sketch.text()))
+        yield Care(fine=True, through=dict(_points_between(plan, asked.spelled)))
+
+
+def _points_between(plan: Plan, spelled: Spelled) -> Iterator[tuple[tuple[str, ...], Knot]]:
+    """The two lines of each angle that is told by a near ratio, and the point by which a step joins
+    them: one of the three elements at which it joins three clusters, of which one is the angle."""
+    knots = {name: knot for knot, name in spelled.points.items()}
+    for step in plan.steps:
+        numbers = {each.number for each in step.joins if not each.is_step}
+        for number in numbers.intersection(spelled.near):
+            names = spelled.sketch.constraints[number - 1].names()
+            yield from ((names, knots[each]) for each in step.at if each in knots)
 
 
 def ask(question: Question, axes: Axes, style: Style, care: Care = Care()) -> Trial:
@@ -184,7 +214,7 @@ def _ask(question: Question, rails: Rails, spelled: Spelled, care: Care) -> Tria
         if more is None:
             break
         asked = more
-    return _contradict(question, asked, care)
+    return replace(_contradict(question, asked, care), told=rails.axes)
 
 
 def _grow(asked: Trial, program: Solver, care: Care) -> Trial | None:

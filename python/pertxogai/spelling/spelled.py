@@ -1,7 +1,8 @@
 """What a spelling is: the sketch, and what each of its lines and constraints stands for."""
 from __future__ import annotations
 
-from dataclasses import dataclass
+from collections.abc import Mapping
+from dataclasses import dataclass, field
 from functools import cached_property
 
 from pertxogai import language
@@ -42,11 +43,14 @@ class Contradiction:
 class Care:
     """Further options of an encoding. insist: encode linear constraints twice if they are given
     twice. fine: pass an angle that is no ratio as two angles that add up to it, with an auxiliary
-    line. off: contradictions to encode by points of their own."""
+    line. through: the point through which that line runs, by the names of the two lines of the
+    angle; where they aren't here, the first point of the second line. off: contradictions to encode
+    by points of their own."""
 
     insist: bool = False
     fine: bool = False
     off: tuple[Contradiction, ...] = ()
+    through: Mapping[tuple[str, ...], Knot] = field(default_factory=dict, hash=False)
 
 
 @dataclass(frozen=True)

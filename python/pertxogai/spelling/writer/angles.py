@@ -8,7 +8,7 @@ from math import cos, sin
 from pertxogai.classes import Classes
 from pertxogai.spelling.axes import Coordinate
 from pertxogai.spelling.drafts import Draft, Owners, said_by
-from pertxogai.spelling.facts import Between, Line, Owner
+from pertxogai.spelling.facts import Between, Knot, Line, Owner
 from pertxogai.spelling.lean import Lean
 from pertxogai.spelling.rails import Rail
 from pertxogai.spelling.spelled import Track
@@ -104,7 +104,7 @@ class Angles:
                 Draft(*names, said, ratio=lean.ratio(), is_near=not lean.exact()))
             return
         between = f"H{names[1]}"
-        knot = layout.a_point_of(second)
+        knot = self._point_between(names, second)
         (x, y), (u, v) = layout.sheet.lines[names[1]]
         c, s = Fraction(cos(halves[1].radians())), Fraction(sin(halves[1].radians()))
         a, b = (u - x) * c + (v - y) * s, (v - y) * c - (u - x) * s
@@ -113,6 +113,15 @@ class Angles:
         layout.say(layout.points[knot], between, said)
         layout.sheet.drafts.append(Draft(names[0], between, said, ratio=halves[0].ratio()))
         layout.sheet.drafts.append(Draft(between, names[1], said, ratio=halves[1].ratio()))
+
+    def _point_between(self, names: tuple[str, str], second: Track) -> Knot:
+        """The point through which the line of help between two tracks runs."""
+        layout = self.layout
+        knot = layout.care.through.get(names)
+        if knot is None:
+            return layout.a_point_of(second)
+        layout.points.setdefault(knot, "O")
+        return knot
 
     def _square_help(self, base: Track, track: Track) -> None:
         """A line of help, square to two parallels, through a point of the first that has one."""

@@ -1,0 +1,57 @@
+"""Points that are symmetric to a slanted line: each lies on its own side of it, and angles that no
+ratio is near are met also where much depends on them."""
+from __future__ import annotations
+
+from math import cos, pi, radians, sin, tan
+from pathlib import Path
+
+import pytest
+
+from pertxogai.drawing import PointRef, Which, read_drawing
+from pertxogai.judging import JudgedDrawing, Judgement, judge_at_once, reasons_against
+from pertxogai.program import Solver
+
+DRAWINGS = Path(__file__).parent / "drawings"
+MIRRORED = (DRAWINGS / "mirrored-in-a-slanted-line.drawing").read_text()
+HOUSE = (DRAWINGS / "house.drawing").read_text()
+
+
+def placed(text: str, point: PointRef, program: Solver) -> tuple[float, float]:
+    """Where a point of a good drawing is placed, in nm."""
+    drawing = read_drawing(text)
+    found: Judgement = judge_at_once(drawing, program)
+    assert not reasons_against(JudgedDrawing("", drawing, found))
+    assert found.solution is not None
+    x, y = found.solution.spot(point)
+    return float(x), float(y)
+
+
+@pytest.mark.parametrize("degrees", [0.0001, 0.0056, 20, 88.9, 89.5477, 90, 90.0001, 120, 150, 179])
+def test_an_image_lies_across_the_line_at_each_angle(degrees: float, program: Solver) -> None:
+    text = MIRRORED.replace("angle Mirror 1/1", f"angle Mirror +{degrees}deg")
+    x, y = placed(text, PointRef("Q", Which.AT), program)
+    turn = 2 * degrees * pi / 180  # P lies 50 to the right, on the x axis.
+    assert abs(x - 50e6 * cos(turn)) < 20 and abs(y - 50e6 * sin(turn)) < 20
+
+
+@pytest.mark.parametrize(("first", "second"), [
+    ("51 1", "1 51"), ("51 1", "40 1"),  # As they lie, and both on the side of P.
+    ("20 30", "30 10"), ("20 30", "1 51"),  # P is drawn on the other side, and Q so too, or not.
+    ("51 1", "40 39"),  # Q is drawn on the line.
+])
+def test_an_image_lies_across_the_line_however_it_is_drawn(first: str, second: str,
+                                                           program: Solver) -> None:
+    text = MIRRORED.replace("point P 51 1", f"point P {first}")
+    text = text.replace("point Q 1 51", f"point Q {second}")
+    x, y = placed(text, PointRef("Q", Which.AT), program)
+    assert abs(x) < 5 and abs(y - 50e6) < 5
+
+
+@pytest.mark.parametrize("degrees", [0.0001, 0.0056, 11.3108, 78.6891, 89.9999])
+def test_a_roof_meets_each_angle(degrees: float, program: Solver) -> None:
+    """By 1/5, 0 and 1/0 lies no other ratio. The one rafter rises from 0, 40 at 45 degrees, the
+    other from 60, 40."""
+    text = HOUSE.replace("angle RoofR 45deg", f"angle RoofR {degrees}deg")
+    x, y = placed(text, PointRef("RoofR", Which.START), program)
+    run = 60e6 * tan(radians(degrees)) / (1 + tan(radians(degrees)))
+    assert abs(x - run) < 20 and abs(y - 40e6 - run) < 20
