@@ -355,6 +355,25 @@ def test_an_edge_that_ends_on_another_does_not_cross_it(program, long):
     assert found.solution is not None and not found.warnings
 
 
+@pytest.mark.parametrize("text", [
+    # B lies on A, and is drawn beside it.
+    "segment A 0 0 90 50\nsegment B 20 13 60 35\ncoincident A.start Origin\nlength A 103\n"
+    "angle A +29deg\ncollinear A B\ndistance A.start B.start 25\nlength B 40.{0}\n",
+    # A strut ends in the middle of a slanted rafter.
+    "segment A 0 0 97 41\nsegment B 48 20 60 -30\ncoincident A.start Origin\nlength A 103.{0}\n"
+    "angle A +23deg\nmidpoint B.start A\nlength B 50\nangle B -77deg\n",
+    # A strut ends in the end of C, which lies on A.
+    "segment A 0 0 90 50\nsegment C 20 13 60 35\nsegment B 60 35 70 0\ncoincident A.start Origin\n"
+    "length A 103\nangle A +29deg\ncollinear A C\ndistance A.start C.start 25\nlength C 40.{0}\n"
+    "coincident B.start C.end\nlength B 30\nangle B -71deg\n",
+])
+@pytest.mark.parametrize("digits", [0, 137, 274, 411])
+def test_an_edge_on_the_line_of_another_does_not_cross_it(program, text, digits):
+    found = judge(read_drawing(text.format(digits)), program)
+    assert found.solution is not None
+    assert not [each for each in found.warnings if "cross" in each.text()]
+
+
 def test_the_shortest_edge_has_a_length(program):
     text = "segment Up 0 0 16 -8\ncoincident Up.start Origin\nangle Up +4/3\nlength Up 0.001\n"
     assert not judge(read_drawing(text), program).warnings

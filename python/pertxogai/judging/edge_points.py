@@ -4,7 +4,8 @@ from __future__ import annotations
 from collections.abc import Iterator
 from dataclasses import dataclass
 
-from pertxogai.drawing import Drawing, PointOn, PointRef, Segment
+from pertxogai.classes import Classes
+from pertxogai.drawing import Collinear, Drawing, Midpoint, PointOn, PointRef, Segment
 from pertxogai.exact import Vector, between, dot, square
 from pertxogai.judging.edges import Chord, ends_of, leaders_of
 
@@ -33,16 +34,33 @@ def edge_points(drawing: Drawing) -> Iterator[EdgePoint]:
 
 
 def touching(drawing: Drawing) -> frozenset[frozenset[str]]:
-    """The names of each two segments of which a constraint ends one on the other."""
-    leader, ending = drawing.meetings.leader, dict[PointRef, list[str]]()
+    """The names of each two segments of which the one ends on the line of the other, as the
+    constraints say: they can't cross but in that end."""
     segments = [each for each in drawing.geometry if isinstance(each, Segment)]
+    lines = _lines(drawing)
+    points: dict[str, list[PointRef]] = {}
+    ending: dict[PointRef, list[str]] = {}
     for each in segments:
         for end in leaders_of(drawing, each):
+            points.setdefault(lines.leader(each.name), []).append(end)
             ending.setdefault(end, []).append(each.name)
-    names = {each.name for each in segments}
-    return frozenset(frozenset((name, said.curve.name)) for said in drawing.constraints
-                     if isinstance(said, PointOn) and said.curve.name in names
-                     for name in ending.get(leader(said.point), ()))
+    for said in drawing.constraints:
+        if isinstance(said, PointOn | Midpoint):
+            line = said.curve if isinstance(said, PointOn) else said.segment
+            end = drawing.meetings.leader(said.point)
+            points.setdefault(lines.leader(line.name), []).append(end)
+    return frozenset(frozenset((name, each.name)) for each in segments
+                     for end in points[lines.leader(each.name)] for name in ending.get(end, ())
+                     if name != each.name)
+
+
+def _lines(drawing: Drawing) -> Classes[str]:
+    """The names of segments in classes: those that lie on one line."""
+    lines = Classes[str]()
+    for said in drawing.constraints:
+        if isinstance(said, Collinear):
+            lines.join(said.first.name, said.second.name)
+    return lines
 
 
 def is_beyond(edge: Chord, spot: Vector) -> bool:
