@@ -440,6 +440,14 @@ def test_the_range_of_a_value_without_a_unit_says_so(asked, tmp_path, capsys):
     assert "  Width: from 0.001 to 1000000 (no unit), now 60, " in capsys.readouterr().out
 
 
+def test_a_dimension_with_a_name_goes_by_its_number_too(asked, tmp_path, capsys):
+    path = tmp_path / "edge.drawing"
+    path.write_text("segment Edge 0 0 60 0\nWidth: length Edge 60\n")
+    for name in ("Width", "1", "constraint 1"):
+        assert main(["range", str(path), name]) == 0
+        assert "  Width: from 0.001 to 1000000 mm, now 60, " in capsys.readouterr().out
+
+
 def test_ranges_are_told_in_lines_and_as_json(asked, tmp_path, capsys):
     path = tmp_path / "plate.drawing"
     path.write_text(PLATE)

@@ -8,6 +8,7 @@ from collections.abc import Iterator, Sequence
 from pertxogai.commands.judging import chosen, made_of
 from pertxogai.commands.solvers import solver_of
 from pertxogai.drawing import VALUED, Drawing, Parameter
+from pertxogai.drawing.values.parameters import Dimension
 from pertxogai.exits import CommandError, Exit
 from pertxogai.files.kinds import DesignerDrawing, Input, read_inputs
 from pertxogai.files.printable import printable
@@ -77,9 +78,8 @@ def _asked_for(drawing: Drawing, known: Sequence[Parameter],
 
 
 def _named(drawing: Drawing, known: Sequence[Parameter], name: str) -> Parameter:
-    number = f"constraint {name.removeprefix('constraint ')} ("
     found = [each for each in known
-             if each.called(drawing) == name or each.called(drawing).startswith(number)]
+             if each.called(drawing) == name or _is_number_of(name, each)]
     if len(found) > 1:
         raise CommandError(f"{name!r} is a value and a dimension: give the dimension another name")
     if found:
@@ -93,12 +93,18 @@ def _named(drawing: Drawing, known: Sequence[Parameter], name: str) -> Parameter
                        f"{f'write one of {names}' if names else 'the drawing has none'}")
 
 
+def _is_number_of(name: str, of: Parameter) -> bool:
+    """Whether a name is the number of a dimension, which may have a name of its own too."""
+    return isinstance(of, Dimension) and name.removeprefix("constraint ") == str(of.number)
+
+
 def _told_by(drawing: Drawing, name: str) -> tuple[str, ...]:
     """The values that a value or a dimension of a name is told by; none where it isn't so told."""
     for value in drawing.values:
         if value.name == name:
             return value.expression.names
     for number, each in enumerate(drawing.constraints, start=1):
-        if name in (each.name, str(number), drawing.called(number)) and isinstance(each, VALUED):
+        names = each.name, drawing.called(number), str(number), f"constraint {number}"
+        if name in names and isinstance(each, VALUED):
             return each.expression.names if each.expression is not None else ()
     return ()
