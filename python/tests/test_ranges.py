@@ -20,7 +20,7 @@ from pertxogai.program.reports import (
 from pertxogai.program.reports.faults import Unit
 from pertxogai.ranging import FaultKind, NoRange, Ranging
 from pertxogai.ranging.faults import of_failure
-from pertxogai.ranging.search import MOST_TRIED, Search
+from pertxogai.ranging.search import MOST_TRIED, ROUGH, Search
 from pertxogai.spelling import Style, axes_of, spell
 from shared_drawings import LINK
 
@@ -389,7 +389,56 @@ def test_a_way_that_is_never_clear_is_given_up_and_told_so():
     search = Search(lambda it: None, 40_000, 0, 10 ** 6, lambda it: "beyond", lambda numbers: False,
                     lambda it: "bad")
     border = search.border(True)
-    assert (border.good, border.is_clear, search.asked) == (10 ** 6, False, MOST_TRIED)
+    assert (border.good, border.is_clear, search.asked) == (10 ** 6, False, MOST_TRIED + ROUGH)
+
+
+def rounded(off_by, limit=1_000):
+    """A fault and a rounding, as of a constraint that is off by that at a number."""
+    def fault(number):
+        return "off" if off_by(number) > limit else None
+
+    def rounding(number):
+        return f"off at {number}" if off_by(number) > limit / 2 else None
+
+    return fault, rounding
+
+
+def searched(fault, rounding, low=1, high=10 ** 9):
+    return Search(fault, 60_000, low, high, lambda it: "beyond", lambda numbers: True, fault,
+                  rounding)
+
+
+def test_a_range_ends_before_rounding_breaks_what_is_odd_alone():
+    # As a half of an odd number of micrometres, which no sketch beyond 125 m can hold.
+    border = searched(*rounded(lambda it: 1_001 if it > 125_000_000 and it % 2 else 1)).border(True)
+    assert 125_000_000 * 31 // 32 <= border.good <= 125_000_000
+    assert border.fault.startswith("off at ") and int(border.fault.split()[-1]) % 2
+
+
+def test_a_range_ends_where_the_error_of_rounding_may_pass_the_half_of_the_limit():
+    # An error that grows with the size, and jumps about below that: at 100 m it may be 1,000.
+    def off_by(number):
+        return number * (number * 7919 % 1_000) // 100_000_000
+
+    border = searched(*rounded(off_by)).border(True)
+    assert 50_000_000 <= border.good <= 60_000_000
+    # Nothing up to it is off by more than the limit.
+    assert 1_000 >= max(off_by(each) for each in range(border.good - 10_000, border.good + 1))
+
+
+def test_a_range_ends_before_rounding_breaks_what_is_small():
+    border = searched(*rounded(lambda it: (it * 7919 % 97) * 200 // it)).border(False)
+    assert 20 <= border.good <= 60  # At 19 it may be off by 1,010.
+
+
+def test_an_end_at_which_nothing_is_rounded_stays():
+    border = searched(*rounded(lambda it: 0 if it <= 70_000 else 5_000)).border(True)
+    assert (border.good, border.fault) == (70_000, "off")
+
+
+def test_what_is_nearly_off_at_present_ends_no_range():
+    border = searched(*rounded(lambda it: 600)).border(True)
+    assert (border.good, border.fault) == (10 ** 9, "beyond")
 
 
 def test_each_failure_is_told_in_the_designers_names():

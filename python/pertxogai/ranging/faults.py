@@ -47,6 +47,9 @@ class FaultKind(Enum):
     """A step of the construction fails."""
     OFF = "off"
     """A constraint doesn't hold within the limit."""
+    ROUNDING = "rounding"
+    """Rounding puts a constraint off by more than half of the limit, so that at one of the values
+    beyond it may be off by more."""
     NO_LENGTH = "no length"
     """An edge shrinks to nothing, so that its direction isn't defined."""
     UNSIZED = "no size"
@@ -101,6 +104,13 @@ def of_failure(names: Names, failure: Failure) -> Fault:
 def of_deviation(off: Deviation, called: str) -> Fault:
     """That a constraint isn't met."""
     return Fault(FaultKind.OFF, f"{quoted(called)} is off by {amount_text(off)}")
+
+
+def of_rounding(fault: Fault, at: str) -> Fault:
+    """That rounding may put a constraint off by more than the limit. fault: how far one is off; at:
+    the value at which it is, near the end of the range."""
+    return Fault(FaultKind.ROUNDING,
+                 f"rounding may break a constraint beyond: at {at} {fault.text} already")
 
 
 def of_gone(names: Sequence[str]) -> Fault:

@@ -8,17 +8,16 @@ from fractions import Fraction
 from pertxogai.drawing import (
     Drawing, DrawingUnsound, Parameter, Sense, Unit, XDistance, YDistance, parameters)
 from pertxogai.drawing.checks import MOST_UM
-from pertxogai.drawing.numbers import MOST_MM
+from pertxogai.drawing.numbers import MOST_MM, decimal_text
 from pertxogai.drawing.values.parameters import Dimension, NamedValue
-from pertxogai.judging.edges import Edges
 from pertxogai.judging.measure import Limit
 from pertxogai.program import Solver
-from pertxogai.ranging.faults import Fault, FaultKind
+from pertxogai.ranging.faults import Fault, FaultKind, of_deviation, of_rounding
 from pertxogai.ranging.passage import Passage
 from pertxogai.ranging.search import Border, Search
 from pertxogai.ranging.spans import is_smooth
 from pertxogai.ranging.things import Placement
-from pertxogai.ranging.way import Way
+from pertxogai.ranging.way import Held, Way
 
 STEPS = {Unit.MM: 1_000, Unit.PLAIN: 1_000, Unit.DEGREES: 10_000}
 """Ends are told to so many parts of the unit: to a micrometre, to a ten-thousandth of a degree."""
@@ -78,7 +77,7 @@ class Ranging:
         """The range of one parameter. Raises ProgramError."""
         numbers = _Numbers(self, of)
         search = Search(numbers.fault, numbers.present, numbers.low, numbers.high, numbers.beyond,
-                        numbers.is_clear, numbers.at_end)
+                        numbers.is_clear, numbers.at_end, numbers.rounding)
         low, high = search.border(False), search.border(True)
         return Range(of, numbers.end(low), numbers.end(high), search.asked,
                      low.is_clear and high.is_clear)
@@ -120,6 +119,7 @@ class _Numbers:
         self.low, self.high = min(low, self.present), max(high, self.present)
         self._things = ranging.way.things
         self._placements = {self.present: self._things.placed(ranging.way.edges)}
+        self._offs: dict[int, Fault | None] = {}
         self._ways = [ranging.way]
 
     def _number(self, steps: int) -> Fraction:
@@ -133,11 +133,27 @@ class _Numbers:
         fault: Fault | None = None
         for way in self._ways:
             found = way.placed(drawing)
-            if isinstance(found, Edges):
-                self._placements[number] = self._things.placed(found)
+            if isinstance(found, Held):
+                self._placements[number] = self._things.placed(found.edges)
+                self._offs[number] = self._off(found)
                 return None
             fault = found
+        self._offs[number] = fault if fault and fault.kind is FaultKind.OFF else None
         return fault
+
+    def _off(self, found: Held) -> Fault | None:
+        """By how much a constraint is off that holds, where that is more than half of the limit."""
+        off = found.nearly
+        return None if off is None else of_deviation(off, off.called(self._ranging.drawing))
+
+    def rounding(self, number: int) -> Fault | None:
+        """That a constraint is off by more than half of the limit at a number that was tried, so
+        that rounding decides whether it holds near that; None where none is."""
+        off = self._offs.get(number)
+        if off is None:
+            return None
+        unit = f" {self._of.unit.value}" if self._of.unit.value else ""
+        return of_rounding(off, f"{decimal_text(self._number(number))}{unit}")
 
     def at_end(self, number: int) -> Fault | None:
         """What is wrong with a number, by whichever way; one that is found is known from now on."""
@@ -145,6 +161,7 @@ class _Numbers:
         if isinstance(found, Fault):
             return found
         self._ways.append(found)
+        self._offs[number] = None
         self._placements[number] = self._things.placed(found.edges)
         return None
 

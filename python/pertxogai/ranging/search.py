@@ -1,10 +1,11 @@
 """How far a number may go: to the limit where that is good; else by doubling away from the present
 one, and halving between the last that is good and the first that isn't. Some between are tried, and
-more where something may cross."""
+more where something may cross. Where rounding decides what is good, the border lies before that."""
 from __future__ import annotations
 
 from collections.abc import Callable, Iterator, Sequence
 from dataclasses import dataclass, field
+from math import isqrt
 from typing import Generic, TypeVar
 
 Fault = TypeVar("Fault")
@@ -18,6 +19,12 @@ FIRST = 16
 """The first step is a part of the present number: one in so many."""
 COARSE = 1000
 """Ends are looked for at multiples of this first, as at whole millimetres."""
+ROUGH = 4
+"""Numbers without round digits that are tried before an end far from the present one."""
+MANY_ROUGH = 16
+"""As many are tried before a number up to which rounding is to break nothing."""
+ROUGH_PART = 16
+"""They lie within this part of the way to it, and of its size."""
 MOST_ROUNDS = 8
 """So many times a number at which all looks to end may turn out to be good."""
 MOST_TRIED = 500
@@ -40,7 +47,8 @@ class Search(Generic[Fault]):
     with a number; None where it is good. low, high: the least and the greatest number that may be
     tried. beyond: what is wrong with those beyond. is_clear: whether nothing crosses between some
     good numbers, in their order. at_end: what is wrong with a number at which all looks to end,
-    asked by more than `fault` asks; None where it is good."""
+    asked by more than `fault` asks; None where it is good. rounding: by what a number that was
+    tried is good, or isn't, by the luck of rounding; None where it isn't so."""
 
     fault: Callable[[int], Fault | None]
     present: int
@@ -49,6 +57,7 @@ class Search(Generic[Fault]):
     beyond: Callable[[int], Fault]
     is_clear: Callable[[Sequence[int]], bool]
     at_end: Callable[[int], Fault | None]
+    rounding: Callable[[int], Fault | None] = lambda number: None
     known: dict[int, Fault | None] = field(default_factory=dict)
     asked: int = 0
     """How many numbers were tried."""
@@ -71,9 +80,54 @@ class Search(Generic[Fault]):
                 continue
             rounds += 1
             fault = self._at_end(bad) if rounds < MOST_ROUNDS else self._fault(bad)
-            if fault is not None:
-                return Border(good, fault, is_clear)
-            good, bad = self._apart(bad, way)
+            if fault is None:
+                good, bad = self._apart(bad, way)
+                continue
+            gap = self._gap_before(good) if rounds < MOST_ROUNDS else None
+            if gap is None:
+                return self._before_rounding(Border(good, fault, is_clear), way)
+            good, bad = self._last_good_before(gap), gap
+
+    def _gap_before(self, good: int) -> int | None:
+        """A number without round digits before a good one that isn't good, and not by rounding;
+        None where none is found."""
+        for each in self._rough(good, ROUGH):
+            if self._fault(each) and self._at_end(each) and self.rounding(each) is None:
+                return each
+        return None
+
+    def _before_rounding(self, border: Border[Fault], way: int) -> Border[Fault]:
+        """The border; or one nearer to the present number, up to which rounding breaks nothing."""
+        near = [border.good + way, *self._rough(border.good, ROUGH)]
+        if not any(map(self.rounding, near)) or self.rounding(self.present) is not None:
+            return border
+        fault = self._broken(border.good)
+        if fault is None:
+            return border
+        good, bad = self.present, border.good
+        while abs(bad - good) > max(1, min(abs(good), abs(bad)) // (4 * ROUGH_PART)):
+            middle = _middle_by_size(good, bad)
+            found = self._broken(middle)
+            good, bad, fault = (middle, bad, fault) if found is None else (good, middle, found)
+        round_good = _rounder(good, bad)
+        if way * round_good > way * self.present and self._broken(round_good) is None:
+            good = round_good
+        return Border(good, fault, border.is_clear)
+
+    def _broken(self, number: int) -> Fault | None:
+        """What rounding breaks, or nearly does, at a number or somewhat before it; else None."""
+        for each in (number, *self._rough(number, MANY_ROUGH)):
+            fault = self._fault(each)
+            if self.rounding(each) is not None or fault is not None:
+                return self.rounding(each) or fault
+        return None
+
+    def _rough(self, number: int, count: int) -> list[int]:
+        """Some numbers without round digits on the way to a number, of about its size."""
+        way, room = (1 if number > self.present else -1), abs(number - self.present)
+        part = max(1, min(room, abs(number)) // (ROUGH_PART * count))
+        steps = (each * part + each + 1 for each in range(count))
+        return [number - way * step for step in steps if step < room]
 
     def _at_end(self, number: int) -> Fault | None:
         """What is wrong with a number at which all looks to end. Where nothing is, it is good, and
@@ -177,9 +231,32 @@ class Search(Generic[Fault]):
         return [self.present, *self._tried_between(self.present, number)][-1]
 
 
+def _middle_by_size(good: int, bad: int) -> int:
+    """A number between two that aren't neighbours: by their sizes, where both are on one side of
+    0."""
+    low, high = sorted((good, bad))
+    middle = (low + high) // 2
+    if low > 0:
+        middle = isqrt(low * high)
+    elif high < 0:
+        middle = -isqrt(low * high)
+    return _coarse(min(max(middle, low + 1), high - 1), low, high)
+
+
+def _rounder(good: int, bad: int) -> int:
+    """A number with fewer digits next to a good one, on the side that a bad one isn't on, and
+    nearer to it than that."""
+    part: int = 10 ** (len(str(abs(bad - good))) - 1)
+    return good // part * part if good < bad else -(-good // part) * part
+
+
 def _coarse_middle(good: int, bad: int) -> int:
     """A number in the middle between two: a multiple of what is coarse, where one lies there."""
     low, high = sorted((good, bad))
-    middle = (low + high) // 2
-    coarse = round(middle / COARSE) * COARSE
-    return coarse if low < coarse < high else middle
+    return _coarse((low + high) // 2, low, high)
+
+
+def _coarse(number: int, low: int, high: int) -> int:
+    """A number, or the multiple of what is coarse next to it, if it lies between two others."""
+    coarse = round(number / COARSE) * COARSE
+    return coarse if low < coarse < high else number

@@ -2,7 +2,7 @@
 numbers."""
 from __future__ import annotations
 
-from collections.abc import Callable
+from collections.abc import Callable, Sequence
 from dataclasses import dataclass, replace
 from functools import partial
 from typing import TypeVar
@@ -36,6 +36,15 @@ Found = TypeVar("Found")
 
 class NoRange(Exception):
     """A drawing, or a parameter of it, has no range. The message is one line, and says why."""
+
+
+@dataclass(frozen=True)
+class Held:
+    """Where the edges of a drawing lie in which each constraint holds. nearly: the first that is
+    off by more than half of the limit; None where none is."""
+
+    edges: Edges
+    nearly: Deviation | None = None
 
 
 @dataclass(frozen=True)
@@ -74,7 +83,7 @@ class Way:
                   Pieces.of(drawing), things, judged.style, *_reading(judged))
         return replace(way, reading=None) if isinstance(way.placed(drawing), Fault) else way
 
-    def placed(self, drawing: Drawing) -> Edges | Fault:
+    def placed(self, drawing: Drawing) -> Held | Fault:
         """Where the edges of the drawing with another number lie, or why it isn't as this one is.
         Raises ProgramError."""
         if self.reading is None:
@@ -86,11 +95,18 @@ class Way:
         `judge` finds it; or why there is none. Raises ProgramError."""
         return _unless_refused(partial(self._by_all, drawing))
 
-    def _placed_by_all(self, drawing: Drawing) -> Edges | Fault:
+    def _placed_by_all(self, drawing: Drawing) -> Held | Fault:
         found = self.found_for(drawing)
-        return found if isinstance(found, Fault) else found.edges
+        if isinstance(found, Fault):
+            return found
+        return self._held(found.edges, measure(drawing, found.edges.solution))
 
-    def _by_one(self, drawing: Drawing, reading: Reading) -> Edges | Fault:
+    def _held(self, edges: Edges, deviations: Sequence[Deviation]) -> Held:
+        """Edges that are placed so that each constraint holds."""
+        half = Limit(max(1, self.limit.amount // 2))
+        return Held(edges, next(half.beyond(deviations), None))
+
+    def _by_one(self, drawing: Drawing, reading: Reading) -> Held | Fault:
         spellings = interpreted(drawing, reading, self.before)
         axes = spellings.axes
         spelled = spellings.spelled(self.style)
@@ -104,20 +120,22 @@ class Way:
             return of_verdict(trial.verdict)
         return self._of_failure(names, trial.solved)
 
-    def _checked(self, drawing: Drawing, trial: Trial, solved: Solved) -> Edges | Fault:
+    def _checked(self, drawing: Drawing, trial: Trial, solved: Solved) -> Held | Fault:
         """The placed edges, or what is wrong with them; then also as placed by finer angles."""
         found = self._checked_once(drawing, trial, solved)
-        if isinstance(found, Edges):
+        if isinstance(found, Held) and found.nearly is None:
             return found
         fine = finer(Question(drawing, self.program, self.limit), trial)
         if fine is trial or not isinstance(fine.solved, Solved):
             return found
-        return self._checked_once(drawing, fine, fine.solved)
+        other = self._checked_once(drawing, fine, fine.solved)
+        return found if isinstance(found, Held) and isinstance(other, Fault) else other
 
-    def _checked_once(self, drawing: Drawing, trial: Trial, solved: Solved) -> Edges | Fault:
+    def _checked_once(self, drawing: Drawing, trial: Trial, solved: Solved) -> Held | Fault:
         found = settled(drawing, trial, solved)
         edges = Edges(drawing, found.solution)
-        off = next(self.limit.beyond(measure(drawing, found.solution)), None)
+        deviations = measure(drawing, found.solution)
+        off = next(self.limit.beyond(deviations), None)
         if off is not None:
             return self._of_deviation(off, edges)
         if found.unsized:
@@ -127,7 +145,7 @@ class Way:
         if warnings:
             return of_warnings(warnings)
         turned = next(self.pieces.mirrored(edges), None)
-        return edges if turned is None else of_mirrored(turned)
+        return self._held(edges, deviations) if turned is None else of_mirrored(turned)
 
     def _of_deviation(self, off: Deviation, edges: Edges) -> Fault:
         """That a constraint isn't met, or that there are edges without a length there."""
