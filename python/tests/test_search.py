@@ -202,6 +202,38 @@ def test_what_turns_about_the_origin_has_one_freedom_of_the_whole():
     assert (found.freedoms, found.of_the_whole, len(found.moves)) == (1, 0, 1)
 
 
+@pytest.mark.parametrize("text, freedoms, of_the_whole", [
+    # Two circles have 6 unknowns, less two. All may be moved along y; a turn changes x of one of
+    # them, and that both are drawn at one height doesn't make it one of the whole.
+    ("circle A 10 5 3\ncircle B 30 5 3\nx A.centre 10\nx B.centre 30\n", 4, 1),
+    # All turns about the origin. Nothing says that both lie on the x-axis, along y of which neither
+    # is moved to the first order.
+    ("circle A 10 0 3\ncircle B 30 0 3\n"
+     "distance A.centre Origin 10\ndistance B.centre Origin 30\n", 4, 1),
+    # The points are drawn one above the other, so they are found in one place, as nothing else says.
+    ("circle C 30 23 9\npoint P -15 -30\npoint Q -15 39\nhorizontal P Q\n", 6, 2),
+    # Here all turns about the corner, where another constraint puts both.
+    ("segment A 0 0 40 0\npoint P 1 0\npoint Q 2 0\ncoincident P A.start\ncoincident Q A.start\n"
+     "x P 3\nhorizontal P Q\n", 3, 2),
+])
+def test_a_motion_of_the_whole_lasts_wherever_its_parts_are_moved(text, freedoms, of_the_whole):
+    found = found_of(text)
+    assert (found.freedoms, found.of_the_whole, found.is_doubtful) == (freedoms, of_the_whole, False)
+
+
+@pytest.mark.parametrize("text, freedoms, of_the_whole", [
+    # What is given from outside lies where it is drawn, so nothing moves or turns it with the rest.
+    ("outer segment O 36 27 4 28\nsegment S 1 2 14 32\nlength S 30\n", 3, 0),
+    ("outer segment O 36 27 4 28\nsegment S 1 2 14 32\nx O.end S.start 13\n", 3, 0),
+    # A circle that is given stays as it is where all turns about its centre.
+    ("outer circle O 0 0 3\ncircle A 7 5 3\ndistance A.centre O.centre 8\n", 2, 1),
+    ("outer circle O 2 1 3\npoint P 0 0\ncoincident O.centre P\nsegment S 7 5 20 5\n", 4, 1),
+])
+def test_what_is_given_from_outside_holds_the_whole(text, freedoms, of_the_whole):
+    found = found_of(text)
+    assert (found.freedoms, found.of_the_whole) == (freedoms, of_the_whole)
+
+
 def test_a_rigid_drawing_that_floats_has_no_moves():
     found = found_in(TESTS / "beyond_triangles/frame-of-nine-bars.drawing")
     assert (found.freedoms, found.of_the_whole, found.moves) == (3, 3, ())

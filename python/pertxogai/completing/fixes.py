@@ -14,19 +14,18 @@ from pertxogai.drawing import (
 from pertxogai.drawing.meetings import joins_points
 from pertxogai.drawing.mentions import refs_of
 from pertxogai.judging.measure import Solution
-from pertxogai.search.arrays import Array, stacked, unit_rows
+from pertxogai.search.arrays import Array, Matrix, stacked, unit_rows
 from pertxogai.search.constraint_rows import rows_asked
-from pertxogai.search.equations import Equations
+from pertxogai.search.equations import Equations, System
 from pertxogai.search.motions import Motions, motions
 from pertxogai.search.rank import rank_of
 from pertxogai.search.rounding import unknowns_of
 from pertxogai.search.unknowns import Unknowns
+from pertxogai.search.whole import SEEN, Linearization
 
 _DIRECTIONS = Horizontal, Vertical, Parallel, Perpendicular, AngleBetween
 Direction = tuple[float, float]
 """A direction of length 1."""
-SEEN = 1e-6
-"""Of motions of length 1, what moves by less stays."""
 NEARLY_ALONG = 1e-3
 """A direction of which the one part is less runs along an axis."""
 
@@ -63,7 +62,7 @@ class Fixing:
     def _begin(self, drawing: Drawing) -> None:
         self.drawing, self._equations = drawing, Equations(drawing)
         self._x = unknowns_of(self._equations.unknowns, self._solution)
-        self._slopes = unit_rows(self._equations.tangents(self._x).jacobian)
+        self._beside: tuple[System, ...] = ()
 
     def add(self, constraint: Constraint) -> None:
         """Adds a constraint. One that makes points one, or puts a point on a shape, changes what
@@ -73,14 +72,21 @@ class Fixing:
             self._begin(drawing)
             return
         asked = self._equations.beside(rows_asked(self._equations.unknowns, constraint))
-        self.drawing = drawing
-        self._slopes = stacked(self._slopes, unit_rows(asked.tangents(self._x).jacobian))
+        self.drawing, self._beside = drawing, (*self._beside, asked)
 
     def loose(self) -> Loose:
         """What of it is loose."""
         unknowns = self._equations.unknowns
-        free = rank_of(self._slopes, len(unknowns.points)).free
-        return Loose.of(self.drawing, unknowns, motions(unknowns, self._x, self._slopes, free))
+        rows = Linearization(unknowns, self._x, self._slopes(self._x), self._slopes)
+        free = rank_of(rows.jacobian, len(unknowns.points)).free
+        return Loose.of(self.drawing, unknowns, motions(rows, free))
+
+    def _slopes(self, x: Array) -> Matrix:
+        """The Jacobian of all that is asked where the unknowns are x."""
+        found = unit_rows(self._equations.tangents(x).jacobian)
+        for asked in self._beside:
+            found = stacked(found, unit_rows(asked.tangents(x).jacobian))
+        return found
 
 
 def _turns(whole: Array) -> bool:

@@ -12,9 +12,9 @@ from pertxogai.classes import Classes
 from pertxogai.search.arrays import Array, Indices, Matrix, unit_rows
 from pertxogai.search.combination import Combination
 from pertxogai.search.equations import Equations, System
-from pertxogai.search.motions import SEEN
 from pertxogai.search.rank import Free, rank_of
 from pertxogai.search.row import Row
+from pertxogai.search.whole import SEEN
 
 
 @dataclass(frozen=True)

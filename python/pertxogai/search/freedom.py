@@ -6,16 +6,17 @@ the row of its far end keeps the lines parallel where places are looked for, and
 nothing here: what turns one of the lines is a freedom, and is told to move."""
 from __future__ import annotations
 
-from dataclasses import dataclass
+from dataclasses import dataclass, replace
 
 import numpy as np
 
-from pertxogai.search.arrays import Array, Matrix, row_factors, rows_times
+from pertxogai.search.arrays import Array, row_factors, rows_times, unit_rows
 from pertxogai.search.dependencies import Dependency, dependencies
 from pertxogai.search.equations import Equations
-from pertxogai.search.motions import Motions, motions, of_the_whole
+from pertxogai.search.motions import Motions, motions
 from pertxogai.search.rank import Free, rank_of
 from pertxogai.search.unknowns import By
+from pertxogai.search.whole import Linearization, of_the_whole
 
 
 @dataclass(frozen=True)
@@ -47,15 +48,16 @@ def freedom(equations: Equations, x: Array) -> Freedom:
     unknowns = equations.unknowns
     off, jacobian = equations.tangents(x)
     factors = row_factors(jacobian)
-    jacobian = rows_times(jacobian, factors)
-    rank = held = rank_of(jacobian, len(unknowns.points))
+    asked = Linearization(unknowns, x, rows_times(jacobian, factors),
+                          lambda near: unit_rows(equations.tangents(near).jacobian))
+    rank = held = rank_of(asked.jacobian, len(unknowns.points))
     found = [each for dependent in held.dependent
              for each in dependencies(equations.rows, off * factors, dependent)]
-    crooked, whole = _crooked(equations, found), of_the_whole(unknowns, x, jacobian)
+    crooked, whole = _crooked(equations, found), of_the_whole(asked, held.free)
     if crooked:
-        jacobian = _without_measured(equations, jacobian)
-        rank = rank_of(jacobian, len(unknowns.points))
-    return Freedom(unknowns.count - rank.rank, motions(unknowns, x, jacobian, rank.free),
+        asked = _without_measured(equations, asked)
+        rank = rank_of(asked.jacobian, len(unknowns.points))
+    return Freedom(unknowns.count - rank.rank, motions(asked, rank.free),
                    tuple(each for each in found if each.sources[0].by is By.CONSTRAINT),
                    held.free, whole, held.is_sure and rank.is_sure, crooked)
 
@@ -67,9 +69,10 @@ def _crooked(equations: Equations, found: list[Dependency]) -> frozenset[int]:
                              if each.sources[0].by is By.MEASURED})
 
 
-def _without_measured(equations: Equations, jacobian: Matrix) -> Matrix:
-    """A Jacobian without what is only measured, as the far ends of distances of lines. Where one
+def _without_measured(equations: Equations, asked: Linearization) -> Linearization:
+    """The rows without what is only measured, as the far ends of distances of lines. Where one
     follows from what else is asked, nothing is lost; and from another far end none may follow."""
-    kept = [place for place, row in enumerate(equations.rows)
-            if row.source.by is not By.MEASURED]
-    return jacobian[np.array(kept, dtype=int)]
+    kept = np.array([place for place, row in enumerate(equations.rows)
+                     if row.source.by is not By.MEASURED], dtype=int)
+    return replace(asked, jacobian=asked.jacobian[kept],
+                   near=lambda near: asked.near(near)[kept])

@@ -1,5 +1,5 @@
-"""Which points still move, and along which direction; apart from these, how the drawing as a whole
-may still be moved and turned."""
+"""Which points still move, and along which direction, apart from how the drawing as a whole may
+still be moved and turned."""
 from __future__ import annotations
 
 from collections.abc import Iterator, Sequence
@@ -10,12 +10,11 @@ import numpy as np
 
 from pertxogai.drawing import PointRef, Segment, Which
 from pertxogai.judging.finding import PointMove
-from pertxogai.search.arrays import Array, Matrix
+from pertxogai.search.arrays import Array
 from pertxogai.search.rank import Free, wide
 from pertxogai.search.unknowns import Unknowns
+from pertxogai.search.whole import SEEN, Linearization, of_the_whole
 
-SEEN = 1e-6
-"""Of motions of length 1, what moves by less stays."""
 MOST_HELD = 40
 """The most segments that are tried as the one that is held still."""
 ALONG = ((1.0, 0.0), (0.0, 1.0))
@@ -38,9 +37,9 @@ class Motions:
         return int(self.whole.shape[1])
 
 
-def motions(unknowns: Unknowns, x: Array, jacobian: Matrix, free: Sequence[Free]) -> Motions:
-    """What moves from x by these free motions, of the rows of this Jacobian."""
-    whole = of_the_whole(unknowns, x, jacobian)
+def motions(found: Linearization, free: Sequence[Free]) -> Motions:
+    """What moves by these free motions of some rows."""
+    unknowns, whole = found.unknowns, of_the_whole(found, free)
     own = _without(unknowns, whole, free)
     at = {column: each for each in own for column in each.columns.tolist()}
     rows = {column: row for each in own for row, column in zip(each.ways, each.columns.tolist())}
@@ -51,43 +50,7 @@ def motions(unknowns: Unknowns, x: Array, jacobian: Matrix, free: Sequence[Free]
     return Motions(whole, tuple(moves), tuple(rims))
 
 
-# -- the whole
-
-
-def of_the_whole(unknowns: Unknowns, x: Array, jacobian: Matrix) -> Array:
-    """How all of it may be moved and turned at once from x, where no row of this Jacobian changes:
-    three ways at most, each a column of length 1."""
-    return _that_stay(_of_the_plane(unknowns, x), jacobian)
-
-
-def _of_the_plane(unknowns: Unknowns, x: Array) -> Array:
-    """Two shifts and a turn of all points, as columns of length 1 that are square to each other; of
-    one point no turn. Where a shape has a given point, a turn about that is left; where shapes have
-    several, none."""
-    held = list(set(unknowns.held()))
-    points = 2 * len(unknowns.points)
-    places = x[:points].reshape(-1, 2)
-    if len(held) > 1 or not len(places):
-        return np.zeros((unknowns.count, 0))
-    aside = places - (held[0] if held else places.mean(axis=0))
-    moves = np.zeros((unknowns.count, 3))
-    moves[0:points:2, 0], moves[1:points:2, 1] = 1.0, 1.0
-    moves[0:points:2, 2], moves[1:points:2, 2] = -aside[:, 1], aside[:, 0]
-    moves = moves[:, 2:] if held else moves
-    lengths = np.linalg.norm(moves, axis=0)
-    found: Array = moves[:, lengths > SEEN] / lengths[lengths > SEEN]
-    return found
-
-
-def _that_stay(moves: Array, jacobian: Matrix) -> Array:
-    """Those combinations of moves by which no row changes."""
-    if not jacobian.shape[0] or not moves.shape[1]:
-        return moves
-    triangle = np.linalg.qr(jacobian @ moves, mode="r")
-    _, sizes, combinations = np.linalg.svd(triangle)
-    sizes = np.concatenate([sizes, np.zeros(moves.shape[1] - len(sizes))])
-    found: Array = moves @ combinations[sizes <= SEEN].T
-    return found
+# -- without the whole
 
 
 def _without(unknowns: Unknowns, whole: Array, free: Sequence[Free]) -> Sequence[Free]:

@@ -99,6 +99,11 @@ class Unknowns:
             if leader in self.given and ref not in self.given:
                 yield self.given[leader]
 
+    def given_of_shapes(self) -> Iterator[FloatPointNm]:
+        """The given places that are points of shapes, outer ones among them."""
+        leaders = map(self.leader, self.drawing.points())
+        yield from (self.given[leader] for leader in leaders if leader in self.given)
+
     # -- what constraints speak of
 
     def point(self, ref: PointRef) -> Combination:

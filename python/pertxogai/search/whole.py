@@ -1,0 +1,97 @@
+"""How a drawing as a whole may still be moved and turned.
+
+A motion of the whole is one that lasts: it goes on wherever else the drawing's parts are moved to.
+Where two points happen to lie at one height, or in one place, a turn may change no row to the first
+order, and does so as soon as one of them is moved; that is none."""
+from __future__ import annotations
+
+from collections.abc import Callable, Sequence
+from dataclasses import dataclass
+
+import numpy as np
+
+from pertxogai.search.arrays import Array, Matrix
+from pertxogai.search.rank import Free
+from pertxogai.search.unknowns import Unknowns
+
+SEEN = 1e-6
+"""Of motions of length 1, what moves by less stays."""
+STEP = 1e-6
+"""How far parts are moved to see what lasts, as a part of the drawing's reach."""
+LEAST_REACH_NM = 1e3
+"""No drawing reaches less far from its middle."""
+
+
+@dataclass(frozen=True)
+class Linearization:
+    """The rows of a drawing where its unknowns are x: their Jacobian, with rows of length 1, and
+    what gives the same near by."""
+
+    unknowns: Unknowns
+    x: Array
+    jacobian: Matrix
+    near: Callable[[Array], Matrix]
+
+
+def of_the_whole(rows: Linearization, free: Sequence[Free]) -> Array:
+    """How all of it may be moved and turned at once from x, where no row changes: three ways at
+    most, each a column of length 1. free: how the unknowns may move."""
+    frame = _Frame(rows.unknowns, rows.x)
+    moves = frame.at(rows.x)
+    if not rows.jacobian.shape[0] or not moves.shape[1]:
+        return moves
+    aside = _aside(rows.x, free, STEP * frame.reach_nm)
+    there, back = (rows.near(each) @ frame.at(each) for each in (rows.x + aside, rows.x - aside))
+    found: Array = moves @ _lasting(rows.jacobian @ moves, (there - back) / (2 * STEP))
+    return found
+
+
+class _Frame:
+    """Two shifts of all points, and a turn of them about their middle; of one point no turn. Where
+    a shape has a given point, a turn about that is left; where shapes have several, none."""
+
+    def __init__(self, unknowns: Unknowns, x: Array) -> None:
+        self._unknowns, self._points = unknowns, 2 * len(unknowns.points)
+        given = list(set(unknowns.given_of_shapes()))
+        places = x[:self._points].reshape(-1, 2)
+        middle = places.mean(axis=0) if len(places) else np.zeros(2)
+        self._pole = np.array(given[0]) if given else middle
+        self.reach_nm = max(float(np.abs(places - self._pole).max(initial=0.0)), LEAST_REACH_NM)
+        lengths = np.linalg.norm(self._all(x), axis=0)
+        kept = np.array([not given, not given, len(given) < 2]) & (lengths > SEEN)
+        self._kept, self._lengths = kept, lengths[kept]
+
+    def at(self, x: Array) -> Array:
+        """These motions where the unknowns are x: columns of length 1, square to each other, where
+        the frame was made."""
+        found: Array = self._all(x)[:, self._kept] / self._lengths
+        return found
+
+    def _all(self, x: Array) -> Array:
+        moves = np.zeros((self._unknowns.count, 3))
+        aside = x[:self._points].reshape(-1, 2) - self._pole
+        moves[0:self._points:2, 0], moves[1:self._points:2, 1] = 1.0, 1.0
+        moves[0:self._points:2, 2], moves[1:self._points:2, 2] = -aside[:, 1], aside[:, 0]
+        return moves
+
+
+def _aside(x: Array, free: Sequence[Free], reach_nm: float) -> Array:
+    """Some motion of all that is free, of which the greatest part is so long."""
+    chance, found = np.random.default_rng(0), np.zeros(len(x))
+    for each in free:
+        found[each.columns] += each.ways @ chance.standard_normal(each.ways.shape[1])
+    aside: Array = found * (reach_nm / max(float(np.abs(found).max(initial=0.0)), SEEN))
+    return aside
+
+
+def _lasting(changes: Array, bends: Array) -> Array:
+    """The combinations of motions that change no row, and go on where parts are moved: as they
+    bend then, no row changes. changes, bends: how each row changes with each motion, and how that
+    changes where parts are moved."""
+    more = np.zeros((changes.shape[1], changes.shape[1]))
+    reached, sizes, combinations = np.linalg.svd(np.vstack([changes, more]), full_matrices=False)
+    reached, staying = reached[:, sizes > SEEN], combinations[sizes <= SEEN].T
+    bent = np.vstack([bends, more]) @ staying
+    _, sizes, combinations = np.linalg.svd(bent - reached @ (reached.T @ bent), full_matrices=False)
+    found: Array = staying @ combinations[sizes <= SEEN].T
+    return found
