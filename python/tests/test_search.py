@@ -259,6 +259,15 @@ def test_what_is_said_twice_is_named_with_the_latest_first(name, group):
     assert found.contradictions == ()
 
 
+def test_all_are_named_that_contradict_in_a_long_chain():
+    # By hand: sixteen steps of 10 mm reach 160 and not 175, and do with any one of them longer.
+    points = "".join(f"point P{each} {10 * each} {each % 3}\n" for each in range(1, 17))
+    steps = "".join(f"x P{each} P{each + 1} 10\n" for each in range(1, 16))
+    found = found_of(f"{points}x P1 10\n{steps}x P16 175\n")
+    (group,) = found.contradictions
+    assert len(group) == 17 and group[0] == "constraint 17 (x P16 175)"
+
+
 def test_points_that_are_told_twice_to_be_one_repeat():
     found = found_of("point A 0 0\npoint B 1 0\nOnce: coincident A B\nTwice: coincident B A\n")
     assert found.repeats == (("Twice",),)

@@ -28,8 +28,9 @@ from pertxogai.search.unknowns import By, Unknowns
 
 Numbers = tuple[int, ...]
 """Constraints by their places, from 1, the latest first."""
-MOST_LEFT_OUT = 12
-"""The most constraints that are left out, one after the other."""
+MOST_LEFT_OUT, SHARES = 48, 12
+"""The most constraints that are left out, one after the other, and into how many shares the seconds
+for that are divided at most."""
 SHRUNK = 0.02
 """Next to nothing: this part of the size as it is drawn."""
 LEAST_NM = 10.0
@@ -89,6 +90,15 @@ def _one_by_one(equations: Equations, dependencies: Sequence[Dependency],
                          [each for each in told if each.repeats(within_nm)], clashing)
 
 
+@dataclass(frozen=True)
+class _Tried:
+    """Constraints that were left out one after the other. needed: those without each of which there
+    are places. untried: those for which there was no time."""
+
+    needed: Numbers
+    untried: Numbers
+
+
 class _Rests:
     """A drawing without some of its constraints. latest: those that aren't needed by the others, of
     which a group is tried with one, its own."""
@@ -104,7 +114,7 @@ class _Rests:
         contradictions, in_doubt = list[Numbers](), list[Numbers]()
         for each in groups:
             numbers = _numbers(each)
-            sharp = self.sharp(numbers)
+            sharp = self._sharp(numbers)
             if sharp or each in known:
                 contradictions.append(sharp or numbers)
             elif not self._is_met(self._beside(numbers), SECONDS):
@@ -113,11 +123,21 @@ class _Rests:
 
     def sharp(self, numbers: Iterable[int]) -> Numbers:
         """Those without each of which there are places, of the first that can be tried in time."""
-        tried = list(dict.fromkeys(numbers))[:MOST_LEFT_OUT]
-        beside, end = self._beside(tried), thread_time() + SECONDS
-        in_time = takewhile(lambda _: thread_time() < end, tried)
-        return _latest_first(number for number in in_time
-                             if self._is_met(beside | {number}, SECONDS / len(tried)))
+        return self._tried(tuple(dict.fromkeys(numbers))).needed
+
+    def _sharp(self, group: Numbers) -> Numbers:
+        """The same of a group that seems to contradict, with those of it that weren't tried: it
+        can't all be met, and one of these may be why."""
+        tried = self._tried(group)
+        return _latest_first(tried.needed + tried.untried) if tried.needed else ()
+
+    def _tried(self, numbers: Numbers) -> _Tried:
+        """What comes of leaving out each of some constraints, while there is time."""
+        seconds = SECONDS / min(max(len(numbers), 1), SHARES)
+        beside, end = self._beside(numbers), thread_time() + SECONDS
+        in_time = takewhile(lambda _: thread_time() < end, numbers[:MOST_LEFT_OUT])
+        is_needed = {number: self._is_met(beside | {number}, seconds) for number in in_time}
+        return _Tried(_latest_first(filter(is_needed.get, is_needed)), numbers[len(is_needed):])
 
     def _beside(self, numbers: Collection[int]) -> frozenset[int]:
         """What is left out while a group is tried: the latest constraints of the others."""
