@@ -147,7 +147,10 @@ def cross(first: Array, second: Array) -> Array:
 
 def left(ways: Array) -> Array:
     """Ways, turned by a right angle to the left."""
-    return np.stack([-ways[:, 1], ways[:, 0]], axis=1)
+    found = np.empty_like(ways)
+    np.negative(ways[:, 1], out=found[:, 0])
+    found[:, 1] = ways[:, 0]
+    return found
 
 
 def turned_by(turns: Array, ways: Array) -> Array:
