@@ -215,6 +215,7 @@ def test_values_are_the_numbers_that_are_drawn(text, lines, program):
 @pytest.mark.parametrize("name, line", [
     ("bracket", "x H1.centre 44"),  # Drawn at 44, 11.
     ("slot-without-length", "length Lower 29"),  # Drawn from 0, -8 to 29, -8.
+    ("plate-without-place", "coincident PlateBottom.start Origin"),  # Drawn at 0, 0.
     ("four-bar", "angle Crank +58.3deg")])  # Drawn to 21, 34: its tangent is 1.61905.
 def test_values_of_the_gallery_are_those_that_are_drawn(name, line, program):
     text = (TESTS / f"drawings/open-{name}.drawing").read_text()

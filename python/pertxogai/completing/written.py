@@ -14,8 +14,9 @@ from pertxogai.completing.slack import Slack
 from pertxogai.completing.trials import Trials, Valued
 from pertxogai.completing.values import round_um
 from pertxogai.drawing import (
-    X_AXIS, AngleBetween, Constraint, Diameter, Distance, Drawing, Length, PointLineDistance,
-    PointRef, Radius, Segment, Sense, ShapeRef, Which, XDistance, YDistance)
+    ORIGIN, X_AXIS, Y_AXIS, AngleBetween, Coincident, Constraint, Diameter, Distance, Drawing,
+    Length, PointLineDistance, PointOn, PointRef, Radius, Segment, Sense, ShapeRef, Which,
+    XDistance, YDistance)
 from pertxogai.search.solving import scaled
 
 SAME_SCALE = 2.0
@@ -61,9 +62,10 @@ def with_drawn_values(slack: Slack, placed: Choice, trials: Trials) -> Iterator[
     drawn = as_written(slack, placed)
     if drawn == placed:
         return
-    if room_of(slack.drawing, drawn, trials).is_enough():
-        yield drawn
-        return
+    for choice in dict.fromkeys((_joined_to_the_origin(drawn), drawn)):
+        if room_of(slack.drawing, choice, trials).is_enough():
+            yield choice
+            return
     some = _some_as_drawn(slack.drawing, placed, drawn, trials)
     if some != placed and room_of(slack.drawing, some, trials).is_enough():
         yield some
@@ -81,6 +83,14 @@ def _some_as_drawn(drawing: Drawing, placed: Choice, drawn: Choice, trials: Tria
         if room_of(drawing, tried, trials, place).is_enough():
             some = tried
     return some
+
+
+def _joined_to_the_origin(choice: Choice) -> Choice:
+    """A choice in which each point that is put on both axes is told to be the origin."""
+    on = {(each.point, each.curve) for each in choice.own if isinstance(each, PointOn)}
+    own = (Coincident(each.point, ORIGIN) if isinstance(each, PointOn)
+           and {(each.point, X_AXIS), (each.point, Y_AXIS)} <= on else each for each in choice.own)
+    return replace(choice, own=tuple(dict.fromkeys(own)))
 
 
 def as_written(slack: Slack, choice: Choice) -> Choice:
