@@ -52,27 +52,29 @@ def off_line(way: Vector, step: Vector) -> Fraction:
 
 @dataclass(frozen=True)
 class Root:
-    """The number `sign` times the square root of `square`, which isn't negative."""
+    """The number `sign` times the square root of `square` / `below`: the first isn't negative, the
+    second is above 0."""
 
     sign: int
     square: Number
+    below: Number = 1
 
     def at_most(self, limit: Number) -> bool:
         """Whether the number is at most the limit."""
         if self.sign >= 0:
-            return limit >= 0 and self.square <= limit * limit
-        return limit >= 0 or self.square >= limit * limit
+            return limit >= 0 and self.square <= limit * limit * self.below
+        return limit >= 0 or self.square >= limit * limit * self.below
 
     def at_least(self, limit: Number) -> bool:
         """Whether the number is at least the limit."""
-        return Root(-1 if self.sign >= 0 else 1, self.square).at_most(-limit)
+        if self.sign >= 0:
+            return limit <= 0 or self.square >= limit * limit * self.below
+        return limit <= 0 and self.square <= limit * limit * self.below
 
 
 def quotient(above: Number, below_square: Number) -> Root:
     """The number `above` divided by the root of `below_square`, which is above 0."""
-    above_square = above * above
-    return Root(-1 if above < 0 else 1, above_square if below_square == 1
-                else Fraction(above_square) / below_square)
+    return Root(-1 if above < 0 else 1, above * above, below_square)
 
 
 def least(holds: Callable[[int], bool]) -> int:

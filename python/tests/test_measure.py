@@ -10,6 +10,7 @@ from math import isqrt
 import pytest
 
 from pertxogai.drawing import Arc, Circle, PointRef, Which, read_drawing
+from pertxogai.exact import Root, off, quotient
 from pertxogai.judging.measure import (
     Because, Frame, MissingPlace, Solution, Unit, greatest, measure, measure_placed)
 from pertxogai.judging.measure.measuring import measure_one
@@ -323,3 +324,16 @@ def test_great_numbers_stay_exact():
     exact = Solution({ref_of("A"): (0, 0), ref_of("B"): (Fraction(10 ** 12 * 3, 5),
                                                          Fraction(10 ** 12 * 4, 5))})
     assert amounts(drawing, exact) == (0, None)
+
+
+@pytest.mark.parametrize("below", [4, Fraction(4)])
+def test_a_quotient_by_a_root_is_compared_exactly(below):
+    """3 / root(4) is 1.5, and -3 / root(4) is -1.5."""
+    more, less = quotient(3, below), quotient(-3, below)
+    assert more == Root(1, 9, below) and less == Root(-1, 9, below)
+    limits = [-2, Fraction(-3, 2), -1, 0, 1, Fraction(3, 2), 2]
+    assert [more.at_most(each) for each in limits] == [False] * 5 + [True] * 2
+    assert [more.at_least(each) for each in limits] == [True] * 6 + [False]
+    assert [less.at_most(each) for each in limits] == [False] + [True] * 6
+    assert [less.at_least(each) for each in limits] == [True] * 2 + [False] * 5
+    assert [off(more, wanted) for wanted in (0, 1, 2, 7)] == [2, 1, 1, 6]

@@ -2,7 +2,7 @@
 
 from __future__ import annotations
 
-from dataclasses import dataclass
+from dataclasses import dataclass, field
 from fractions import Fraction
 
 from pertxogai.drawing import ORIGIN, Axis, Circle, Drawing, PointRef, Segment, ShapeRef, Which
@@ -27,6 +27,8 @@ class Placed:
 
     drawing: Drawing
     solution: Solution
+    _lines: dict[str, Line] = field(default_factory=dict, init=False, repr=False, compare=False)
+    """The lines that were asked for, by their names."""
 
     def spot(self, ref: PointRef) -> Vector:
         """Where a point lies."""
@@ -46,12 +48,18 @@ class Placed:
 
     def line(self, line: ShapeRef) -> Line:
         """A segment, from its start to its end, or an axis."""
-        shape = self.drawing.shape(line.name)
+        known = self._lines.get(line.name)
+        if known is None:
+            known = self._lines[line.name] = self._line(line.name)
+        return known
+
+    def _line(self, name: str) -> Line:
+        shape = self.drawing.shape(name)
         if isinstance(shape, Axis):
             right = self.right()
             upwards = (-right[1], right[0])
             return Line(self.spot(ORIGIN), upwards if shape.upwards else right, False)
-        start, end = (self.spot(PointRef(line.name, which)) for which in (Which.START, Which.END))
+        start, end = (self.spot(PointRef(name, which)) for which in (Which.START, Which.END))
         return Line(start, between(start, end), True)
 
     def right(self) -> Vector:

@@ -36,7 +36,9 @@ class Solution:
 
     def spot(self, ref: PointRef) -> PointNm:
         """The position of a point. Raises MissingPlace."""
-        spot = self.frame.origin if ref == ORIGIN else self.points.get(ref)
+        spot = self.points.get(ref)
+        if spot is None and ref == ORIGIN:
+            return self.frame.origin
         if spot is None:
             raise MissingPlace(f"no place of {ref} was printed")
         return spot
