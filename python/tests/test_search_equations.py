@@ -8,6 +8,7 @@ from pathlib import Path
 
 import numpy as np
 import pytest
+from scipy import sparse
 
 from pertxogai.completing.dimensions import Kind, dimensions
 from pertxogai.completing.figure import Figure
@@ -15,6 +16,7 @@ from pertxogai.drawing import PointOn, read_drawing
 from pertxogai.search.arrays import Sums, dense
 from pertxogai.search.constraint_rows import rows_asked
 from pertxogai.search.equations import Equations
+from pertxogai.search.multipliers import steps_with_multipliers
 from pertxogai.search.rank import CUT, rank_of
 from strips import strip
 
@@ -85,3 +87,16 @@ def test_the_rank_of_a_peeled_matrix_is_that_of_the_dense_one():
         moved = dense(matrix)[:, free.columns] @ free.ways
         assert np.abs(moved).max() < 1e-9
         assert np.allclose(free.ways.T @ free.ways, np.eye(free.ways.shape[1]))
+
+
+def test_steps_with_multipliers_are_those_of_the_dense_matrix():
+    """Also of the second matrix with entries in the same places, which are other ones there."""
+    random = np.random.default_rng(1)
+    places = random.random((12, 30)) < 0.3
+    places[:, 0] = True
+    for damping in (1e-3, 2.0):
+        whole = np.where(places, random.normal(size=places.shape), 0.0)
+        matrix, wanted = sparse.csr_matrix(whole), random.normal(size=12)
+        square = whole @ whole.T + damping * np.identity(12)
+        step = steps_with_multipliers(matrix, damping)(wanted)
+        assert step == pytest.approx(whole.T @ np.linalg.solve(square, wanted), abs=1e-12)

@@ -8,10 +8,10 @@ from dataclasses import dataclass
 
 import numpy as np
 
-from pertxogai.search.arrays import (
-    Array, Matrix, columns_times, damped_step, least_step, row_squares)
+from pertxogai.search.arrays import Array, Matrix, columns_times, row_squares
 from pertxogai.search.budget import Budget
 from pertxogai.search.equations import System, Tangents
+from pertxogai.search.least_steps import damped_step, least_step
 
 MET_NM = 1e-2
 """Rows that are all this near to 0 are met, before the places are rounded."""

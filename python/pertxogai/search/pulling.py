@@ -19,12 +19,12 @@ from itertools import product
 
 import numpy as np
 
-from pertxogai.search.arrays import (
-    Array, Indices, Matrix, Steps, columns_times, damped_steps, row_squares)
+from pertxogai.search.arrays import Array, Indices, Matrix, columns_times, row_squares
 from pertxogai.search.budget import Budget
 from pertxogai.search.descent import descend
 from pertxogai.search.equations import System
 from pertxogai.search.following import Following
+from pertxogai.search.least_steps import Steps, damped_steps
 
 HEAVY, FIRM = 1e-2, 1e-4
 """How easily a held unknown moves from where it is pulled, against the others; and from its place,
