@@ -48,6 +48,16 @@ class BoardDrag:
     points: dict[str, Point] = field(default_factory=dict)
     radii: dict[str, float] = field(default_factory=dict)
 
+    def __post_init__(self) -> None:
+        names = self.drag.names
+        self._asked = [(number, constraint)
+                       for number, constraint in enumerate(self.drawing.constraints, start=1)
+                       if not names.isdisjoint(named(constraint))]
+        self._measured = [(number, each)
+                          for number, each in enumerate(references(self.drawing), start=1)
+                          if not names.isdisjoint(named(each.constraint))]
+        self._labels = all_labels(self.drawing)
+
     def is_at(self, drawing: Drawing, taken: int) -> bool:
         """Whether it is of this very drawing, and the page has its last frame and no later one."""
         return self.drawing is drawing and self.taken == taken
@@ -78,13 +88,11 @@ class BoardDrag:
     def _marks(self, frame: Frame) -> list[Mark]:
         """The marks of what is asked of the shapes that move, where these lie now."""
         where = DrawnPlaces(self.drag.moving, frame.whole)
-        asked = (mark for number, constraint in enumerate(self.drawing.constraints, start=1)
-                 if not self.drag.names.isdisjoint(named(constraint))
+        asked = (mark for number, constraint in self._asked
                  for mark in marks(where, number, constraint))
-        measured = (mark for number, each in enumerate(references(self.drawing), start=1)
-                    if not self.drag.names.isdisjoint(named(each.constraint))
+        measured = (mark for number, each in self._measured
                     for mark in reference_marks(where, number, each))
-        return list(with_labels([*asked, *measured], all_labels(self.drawing)))
+        return list(with_labels([*asked, *measured], self._labels))
 
 
 class Drags:

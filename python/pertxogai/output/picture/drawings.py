@@ -123,6 +123,17 @@ class DrawnPlaces:
 
     def ends(self, name: str) -> tuple[PointMm, PointMm]:
         """The ends of a segment, arc, or axis of the datum."""
+        known = self._known_ends.get(name)
+        if known is None:
+            known = self._known_ends[name] = self._ends(name)
+        return known
+
+    @cached_property
+    def _known_ends(self) -> dict[str, tuple[PointMm, PointMm]]:
+        """The ends that were asked for, by the names of their shapes."""
+        return {}
+
+    def _ends(self, name: str) -> tuple[PointMm, PointMm]:
         shape = self.drawing.shape(name)
         if isinstance(shape, Axis):
             return (0.0, 0.0), ((0.0, 1.0) if shape.upwards else (1.0, 0.0))
