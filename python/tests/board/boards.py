@@ -1,6 +1,7 @@
 """A board that is served for tests. A module that imports this is passed over without Flask."""
 from __future__ import annotations
 
+import os
 import shutil
 import threading
 import time
@@ -22,7 +23,10 @@ DRAWINGS = Path(__file__).resolve().parents[1] / "drawings"
 FILES = DRAWINGS.parent / "files"
 CHROMIUM = shutil.which("chromium")
 DRIVER = shutil.which("chromedriver")
-SECONDS = 60.0
+PATIENCE = float(os.environ.get("PERTXOGAI_PATIENCE", "1"))
+"""How many times as long as usual is waited, on a machine that is slow or does something else."""
+SECONDS = 60.0 * PATIENCE
+"""So long is waited for anything."""
 
 
 def drawing(name: str) -> str:

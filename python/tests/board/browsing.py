@@ -13,7 +13,7 @@ import pytest
 
 pytest.importorskip("selenium", reason="the browser is driven by Debian's python3-selenium")
 
-from boards import CHROMIUM, DRIVER, Served, wait_for  # noqa: E402
+from boards import CHROMIUM, DRIVER, PATIENCE, Served, wait_for  # noqa: E402
 from selenium import webdriver  # noqa: E402
 from selenium.common.exceptions import (  # noqa: E402
     StaleElementReferenceException,
@@ -221,6 +221,15 @@ class Page:
             "const m = p.getPointAtLength(p.getTotalLength() * 0.43); return [m.x, m.y];", name)
         return found[0], found[1]
 
+    def mark(self, number: int) -> tuple[float, float]:
+        """Where the middle of the text of a dimension is, in pixels of the board."""
+        x, y = self.driver.execute_script(
+            "const b = document.getElementById('board').getBoundingClientRect();"
+            "const r = document.querySelector(`.marks [data-constraint='${arguments[0]}'] text`)"
+            "  .getBoundingClientRect();"
+            "return [r.x + r.width / 2 - b.x, r.y + r.height / 2 - b.y];", number)
+        return x, y
+
     def select(self, *names: str) -> None:
         """Selects points and shapes by the mouse."""
         self.keys("v")
@@ -285,6 +294,7 @@ def browser(downloads: Path, dark: bool = False) -> Iterator[Page]:
     options.set_capability("goog:loggingPrefs", {"browser": "ALL"})
     options.add_experimental_option("prefs", {"download.default_directory": str(downloads)})
     driver = webdriver.Chrome(service=Service(DRIVER or ""), options=options)
+    driver.set_script_timeout(30 * PATIENCE)
     if dark:
         driver.execute_cdp_cmd("Emulation.setEmulatedMedia", {
             "features": [{"name": "prefers-color-scheme", "value": "dark"}]})

@@ -30,16 +30,6 @@ LEGIBLE = 10, 30
 """Between these a text's height in pixels is legible."""
 
 
-def centre(page: Page, number: int) -> tuple[float, float]:
-    """The middle of the text of a dimension, in pixels of the board."""
-    x, y = page.driver.execute_script(
-        "const b = document.getElementById('board').getBoundingClientRect();"
-        "const r = document.querySelector(`.marks [data-constraint='${arguments[0]}'] text`)"
-        "  .getBoundingClientRect();"
-        "return [r.x + r.width / 2 - b.x, r.y + r.height / 2 - b.y];", number)
-    return x, y
-
-
 def boxes(page: Page) -> list[list[float]]:
     """The boxes of all texts of dimensions."""
     found = page.driver.execute_script(
@@ -57,15 +47,15 @@ def overlap(one: list[float], other: list[float]) -> bool:
 
 def test_a_label_goes_where_it_is_dragged_and_is_kept_in_the_text(page: Page) -> None:
     page.begin(PLATE, "open")
-    x, y = centre(page, 3)
+    x, y = page.mark(3)
     page.press(x, y, to=(x + 30, y + 24))
     wait_for("a note", lambda: re.search(r"length A 80 # label -?[\d.]+ -[\d.]+\n", page.text()))
     page.settled()
-    u, v = centre(page, 3)
+    u, v = page.mark(3)
     assert abs(u - x - 30) < 2 and abs(v - y - 24) < 2
     page.click("#undo")
     wait_for("one step", lambda: "label" not in page.text())
-    wait_for("there again", lambda: centre(page, 3) == pytest.approx((x, y), abs=1))
+    wait_for("there again", lambda: page.mark(3) == pytest.approx((x, y), abs=1))
 
 
 def test_leaders_and_arcs_go_with_their_labels(page: Page) -> None:
@@ -75,11 +65,11 @@ def test_leaders_and_arcs_go_with_their_labels(page: Page) -> None:
         path = f".marks [data-constraint='{number}'] path"
         assert "A" in page.driver.find_element(By.CSS_SELECTOR, path).get_attribute("d") or (
             number == 7)
-        x, y = centre(page, number)
+        x, y = page.mark(number)
         page.press(x, y, to=(x + 20, y - 18))
         wait_for("a note", lambda: page.text().count(" # label") == count)
         page.settled()
-        assert centre(page, number) == pytest.approx((x + 20, y - 18), abs=2)
+        assert page.mark(number) == pytest.approx((x + 20, y - 18), abs=2)
     assert page.text().count("# label") == 2 and page.faults() == []
 
 
@@ -136,19 +126,19 @@ def test_a_dimension_is_only_measured(page: Page) -> None:
     page.settled()
     assert page.driver.execute_script(
         "return document.querySelector('.marks .reference text').textContent") != "(50)"
-    page.press(*centre(page, -1))
+    page.press(*page.mark(-1))
     page.keys(Keys.DELETE)
     wait_for("it is gone", lambda: "reference" not in page.text())
 
 
 def test_a_dimension_that_is_asked_for_may_be_measured_instead_and_back(page: Page) -> None:
     page.begin("segment A 0 0 30 0\nlength A 30\n", "well")
-    page.press(*centre(page, 1))
+    page.press(*page.mark(1))
     page.keys(Keys.ENTER)
     page.wait("the button", "return document.querySelector('#value[open] #measure:not([hidden])')")
     page.click("#measure")
     wait_for("a note", lambda: page.text().endswith("segment A 0 0 30 0\n# reference length A\n"))
-    page.press(*centre(page, -1))
+    page.press(*page.mark(-1))
     page.keys(Keys.ENTER)
     field = page.wait("a value", "return document.querySelector('#value[open] input')")
     field.send_keys(Keys.CONTROL, "a")

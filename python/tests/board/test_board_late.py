@@ -31,16 +31,6 @@ length Crank 30
 """
 
 
-def mark(page: Page, number: int) -> tuple[float, float]:
-    """Where the text of a dimension stands, in pixels of the board."""
-    x, y = page.driver.execute_script(
-        "const b = document.getElementById('board').getBoundingClientRect();"
-        "const r = document.querySelector(`.marks [data-constraint='${arguments[0]}'] text`)"
-        ".getBoundingClientRect();"
-        "return [r.x + r.width / 2 - b.x, r.y + r.height / 2 - b.y];", number)
-    return x, y
-
-
 def hold(page: Page, kind: str, at: tuple[float, float], buttons: int) -> None:
     """One event of the mouse on the board, with a button that is down or not."""
     x, y = page.driver.execute_script(
@@ -56,7 +46,7 @@ def hold(page: Page, kind: str, at: tuple[float, float], buttons: int) -> None:
 def test_a_measured_dimension_isnt_deleted_by_the_number_that_it_had(page: Page) -> None:
     """Once the first is gone the second is the first, and the third the second."""
     page.begin(MEASURED, "open")
-    first, second = mark(page, -1), mark(page, -2)
+    first, second = page.mark(-1), page.mark(-2)
     with page.held("edit"):
         for place in (first, second):
             page.press(*place)
@@ -68,7 +58,7 @@ def test_a_measured_dimension_isnt_deleted_by_the_number_that_it_had(page: Page)
 
 def test_a_measured_dimension_isnt_asked_for_by_the_number_that_it_had(page: Page) -> None:
     page.begin(MEASURED, "open")
-    first, second = mark(page, -1), mark(page, -2)
+    first, second = page.mark(-1), page.mark(-2)
     with page.held("edit"):
         page.press(*first)
         page.wait("it is selected", "return document.querySelector('.marks .selectedmark')")
@@ -96,7 +86,7 @@ def test_nothing_is_previewed_by_the_number_that_a_dimension_had(page: Page) -> 
     page.begin("segment A 0 0 40 0\nsegment B A.end 40 30\ncoincident A.start Origin\n"
                "horizontal A\nvertical B\nvalue Long 40\nlength A Long\nlength B 30\n", "well")
     page.driver.execute_script(EDITS)
-    page.press(*mark(page, 5))
+    page.press(*page.mark(5))
     page.wait("its slider", "return document.querySelector('#range-slider:not([hidden])')")
     page.click("#tab-asked")
     with page.held("edit"):
@@ -217,7 +207,7 @@ def test_a_label_that_is_held_stands_elsewhere_in_another_drawing(
     text = "drawing 1\nsegment A 0 0 40 0\nlength A 40\n"
     page.begin(text, "well")
     page.settled()
-    place = mark(page, 1)
+    place = page.mark(1)
     file = tmp_path / "other.drawing"
     file.write_text(text, encoding="utf-8")
     with page.held("open"):
@@ -227,7 +217,7 @@ def test_a_label_that_is_held_stands_elsewhere_in_another_drawing(
     wait_for("it is opened", lambda: page.driver.execute_script(
         "return document.getElementById('name').value") == "other")
     page.settled()
-    assert mark(page, 1) == pytest.approx(place, abs=1)
+    assert page.mark(1) == pytest.approx(place, abs=1)
     page.let_go()
     page.settled()
     assert page.text() == text

@@ -1,6 +1,7 @@
 """The board in a real browser under a hand that does anything: no error in the console, no drawing
 that is lost, no answer that is stale. PERTXOGAI_SEEDS and PERTXOGAI_ACTIONS have it do more:
-`PERTXOGAI_SEEDS=10 PERTXOGAI_ACTIONS=300` takes some minutes a seed."""
+`PERTXOGAI_SEEDS=10 PERTXOGAI_ACTIONS=300` takes some minutes a seed. PERTXOGAI_PATIENCE=5 has it
+wait five times as long, on a slow machine."""
 from __future__ import annotations
 
 import os
@@ -11,7 +12,7 @@ from dataclasses import dataclass, field
 
 import pytest
 
-from boards import drawing, wait_for
+from boards import PATIENCE, drawing, wait_for
 from browsing import Page
 from selenium.common.exceptions import ElementNotInteractableException
 from selenium.webdriver.common.action_chains import ActionChains
@@ -33,7 +34,7 @@ COPIES = "mwuo"
 PLAIN = ("v", "x", "y", "d", "0", "+", "-", "[", "]", Keys.ESCAPE, Keys.ENTER, Keys.DELETE,
          Keys.ARROW_LEFT, Keys.ARROW_UP, Keys.CONTROL + "z", Keys.CONTROL + "z", Keys.CONTROL + "y",
          Keys.CONTROL + "c", Keys.CONTROL + "v", Keys.CONTROL + "a", Keys.ALT + Keys.ARROW_RIGHT)
-LONGEST_SECONDS = 240
+LONGEST_SECONDS = 240 * PATIENCE
 """Within this a page comes to rest, beside other programs too: a range takes many calls of the
 program."""
 VALUES = ("10", "25", "60deg", "1/2", "0.5 in", "-3", "", "forty", "7.25")
