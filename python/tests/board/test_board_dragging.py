@@ -336,6 +336,24 @@ def test_dimensions_of_what_stays_stand_still_in_a_drag(page: Page) -> None:
     hand.let_go((14, 30))
 
 
+def test_what_moves_in_a_drag_keeps_its_nodes_and_its_dimension_its_side(page: Page) -> None:
+    """So a frame costs what changes of it, and no label jumps. The hole B goes off to the right,
+    where more room is free."""
+    hand = Hand(page, HOLES)
+    page.driver.execute_script(
+        "window.kept_ = ['.edges [data-name=B] .shape', '.dots [data-name=\"B.centre\"] .dot',"
+        "  '.marks [data-constraint=\"8\"] text'].map((each) => document.querySelector(each));")
+    hand.take("B.centre")
+    (x, y), (u, v) = page.at("B.centre"), labels(page)["8"]
+    for at in (50, 54, 58):
+        hand.to((at, 30))
+        page.settled()
+        assert page.driver.execute_script("return window.kept_.every((each) => each.isConnected)")
+        (p, q), (r, s) = page.at("B.centre"), labels(page)["8"]
+        assert p > x + 10 and (r - p, s - q) == pytest.approx((u - x, v - y), abs=0.1)
+    hand.let_go((58, 30))
+
+
 def test_an_edge_goes_the_way_of_the_hand(page: Page) -> None:
     """Its ends keep their places to each other, and what is level with them goes along."""
     text = ("drawing 1\nsegment A 0 0 50 0\nsegment B A.end 50 30\nsegment C B.end 0 30\n"

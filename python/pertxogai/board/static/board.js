@@ -1,6 +1,6 @@
 // @ts-check
 /** The board: the drawing as SVG, faint as drawn beneath what is placed, with its marks. */
-import { svg, nodeOf } from './nodes.js';
+import { svg, nodeOf, fitted } from './nodes.js';
 import { View } from './view.js';
 import { Marks, markMade, proposedMade, checkMade, toldPlaces } from './marks.js';
 import { Layer, isSame } from './layer.js';
@@ -20,6 +20,8 @@ import { awayFrom, kindOf, pathOf, shapeMade, pointMade, stillMade, moveMade, mi
 
 const LAYERS = ['grid', 'drawn', 'edges', 'other', 'proposed', 'checks', 'marks', 'dots', 'moves',
   'names', 'joints', 'faults'];
+/** Those with buttons, which lose the focus once they are others. */
+const PRESSED = ['proposed', 'checks'];
 /** Pixels within which a click is one on the edge itself. */
 const NEAR = 3.5;
 /** Pixels within which an edge is the one that is meant, where no sign lies on it. */
@@ -112,8 +114,8 @@ export class Board {
     this.node = node;
     this.selection = selection;
     this.over = svg('g', { class: 'overlay' });
-    this.layers = Object.fromEntries(
-      LAYERS.map((kind) => [kind, new Layer(svg('g', { class: kind }), svg)]));
+    this.layers = Object.fromEntries(LAYERS.map((kind) => [kind, new Layer(
+      svg('g', { class: kind }), svg, PRESSED.includes(kind) ? undefined : fitted)]));
     node.replaceChildren(...Object.values(this.layers).map((layer) => layer.node), this.over);
     nodeOf('faint', SVGSVGElement).append(this.layers.drawn.node);
     selection.addEventListener('change', () => this.draw());
@@ -371,9 +373,8 @@ export class Board {
     const measured = [...this.selection.numbers].filter((each) => each < 0).join();
     const all = [...from, kinds.join(), measured, JSON.stringify([...told])];
     if (this.isSame('marks', all)) return null;
-    return this.placed.map((mark, place) => keptMark(
-      mark, place, kinds[mark.number - 1] ?? this.kindOfReference(mark.number),
-      told.get(mark.number)));
+    return this.placed.map((mark) => keptMark(
+      mark, kinds[mark.number - 1] ?? this.kindOfReference(mark.number), told.get(mark.number)));
   }
 
   /**
@@ -617,15 +618,14 @@ export class Board {
 /**
  * A placed mark of a layer.
  * @param {PlacedMark} mark
- * @param {number} key
  * @param {string} kind
  * @param {string} [told]
  * @returns {Kept}
  */
-function keptMark(mark, key, kind, told) {
-  const { number, sign, path, text, at, isOpen } = mark;
+function keptMark(mark, kind, told) {
+  const { key, number, sign, path, text, at, isOpen } = mark;
   return { key, from: [number, sign, path, text, ...at, isOpen, kind, told],
-    make: () => markMade(mark, key, kind, told) };
+    make: () => markMade(mark, kind, told) };
 }
 
 /**

@@ -1,21 +1,26 @@
 // @ts-check
-/** A group whose nodes are kept while what they show stays the same. */
+/**
+ * A group whose nodes are kept while what they show stays the same, or is fitted to what they show.
+ */
 
 /** @typedef {import('./page').Made} Made */
 /** @typedef {import('./page').Kept} Kept */
 
 export class Layer {
-  /** @type {Map<string | number, { from: unknown[], node: Element }>} */
+  /** @type {Map<string | number, { from: unknown[], made: Made, node: Element }>} */
   kept = new Map();
 
   /**
-   * `make` makes a node, as `svg` does.
+   * `make` makes a node, as `svg` does; `fit` makes of one that shows something one that shows
+   * something else, and gives whether it could.
    * @param {Element} node
    * @param {(...made: Made) => Element} make
+   * @param {(node: Element, before: Made, made: Made) => boolean} [fit]
    */
-  constructor(node, make) {
+  constructor(node, make, fit = () => false) {
     this.node = node;
     this.make = make;
+    this.fit = fit;
   }
 
   /**
@@ -36,9 +41,9 @@ export class Layer {
     const kept = new Map();
     for (const { key, from, make } of things) {
       const old = this.kept.get(key);
-      kept.set(key, old && isSame(old.from, from) ? old : { from, node: this.made(make()) });
+      kept.set(key, old && isSame(old.from, from) ? old : this.shown(old, from, make()));
     }
-    for (const [key, old] of this.kept) if (kept.get(key) !== old) old.node.remove();
+    for (const [key, { node }] of this.kept) if (kept.get(key)?.node !== node) node.remove();
     this.kept = kept;
     let next = this.node.firstChild;
     for (const { node } of kept.values()) {
@@ -48,11 +53,14 @@ export class Layer {
   }
 
   /**
-   * The node of a thing.
+   * A thing as it is shown from now on: by the node that showed what it was before, or by a new one.
+   * @param {{ made: Made, node: Element } | undefined} old
+   * @param {unknown[]} from
    * @param {import('./page').Keyed} thing
    */
-  made([, ...made]) {
-    return this.make(...made);
+  shown(old, from, [, ...made]) {
+    const isKept = old && this.fit(old.node, old.made, made);
+    return { from, made, node: isKept ? old.node : this.make(...made) };
   }
 }
 

@@ -3,6 +3,7 @@
 import { middleOf } from './shapes.js';
 import { Taken, halfWidth } from './taken.js';
 
+/** @typedef {import('./page').Chosen} Chosen */
 /** @typedef {import('./page').Place} Place */
 /** @typedef {import('./page').PlacedMark} PlacedMark */
 /** @typedef {import('./protocol').Mark} Mark */
@@ -39,10 +40,15 @@ const FURTHER = [36, 54, 72, 90, 108, 126, 144, 162, 180];
  * Where the labels of dimensions stand while a hand drags one, by the numbers of their marks.
  * @typedef {Map<number, Place>} Dragged
  */
-/** @typedef {Omit<PlacedMark, 'number'>} Made */
+/** @typedef {Omit<PlacedMark, 'number' | 'key'>} Made */
 /**
  * Where marks stand.
  * @typedef {Map<Mark, PlacedMark>} Standing
+ */
+/**
+ * The places that a text may take: how many there are, each by its number from 0, and the number of
+ * that which it takes where none is free.
+ * @typedef {{ count: number, at: (number: number) => Place, last: number }} Spots
  */
 /**
  * Which way a bar runs, how long it is in pixels, how far along from its middle its text stands,
@@ -67,30 +73,37 @@ export class Marks {
 
   /**
    * All marks with their places: those whose place the drawing says first, then bars. Marks that
-   * are `kept` stay where they stand.
+   * are `kept` stay where they stand; others of the same keys go along, on the side of what they
+   * mark where they stood, while they lie over no more there.
    * @param {(Mark & { line?: string })[]} marks
    * @param {Standing} [kept]
    * @returns {PlacedMark[]}
    */
   all(marks, kept = new Map()) {
-    const told = marks.filter((mark) => this.labelOf(mark));
-    const bars = marks.filter((mark) => mark.bar && !told.includes(mark));
-    const others = marks.filter((mark) => !mark.bar && !told.includes(mark));
+    const told = new Set(marks.filter((mark) => this.labelOf(mark)));
+    const bars = marks.filter((mark) => mark.bar && !told.has(mark));
+    const others = marks.filter((mark) => !mark.bar && !told.has(mark));
     const all = [...told, ...bars, ...others];
     for (const mark of all) {
       const placed = kept.get(mark);
       if (placed) this.stand(mark, placed);
     }
-    return all.map((mark) => this.standing.get(mark) ?? this.stand(mark, this.placed(mark)));
+    const before = new Map([...kept.values()].map(({ key, chosen }) => [key, chosen]));
+    const keys = keysOf(all);
+    return all.map((mark, place) => this.standing.get(mark)
+      ?? this.stand(mark, this.placed(mark, keys[place], before.get(keys[place]))));
   }
 
   /**
    * A mark at its place, with what it is of.
    * @param {Mark & { line?: string }} mark
+   * @param {string} key
+   * @param {Chosen} [had]
    * @returns {PlacedMark}
    */
-  placed(mark) {
-    return { number: mark.number, sign: mark.sign, line: mark.line, ...this.made(mark) };
+  placed(mark, key, had) {
+    const { number, sign, line } = mark;
+    return { key, number, sign, line, ...this.made(mark, had) };
   }
 
   /**
@@ -108,12 +121,30 @@ export class Marks {
   /**
    * A mark at its place.
    * @param {Mark} mark
+   * @param {Chosen} [had]
    * @returns {Made}
    */
-  made(mark) {
-    if (mark.bar) return this.bar(mark, mark.bar);
-    if (mark.centre) return this.leader(mark, mark.centre);
-    return mark.turn ? this.angle(mark, mark.turn) : this.tag(mark);
+  made(mark, had) {
+    if (mark.bar) return this.bar(mark, mark.bar, had);
+    if (mark.centre) return this.leader(mark, mark.centre, had);
+    return mark.turn ? this.angle(mark, mark.turn, had) : this.tag(mark, had);
+  }
+
+  /**
+   * The first of some places where a text is free; or that which it had before, if it is one of
+   * them, while it lies over no more there.
+   * @param {string} text
+   * @param {Spots} spots
+   * @param {Chosen} [had]
+   * @returns {Chosen}
+   */
+  pick(text, { count, at, last }, had) {
+    const isKept = had && had.place < count;
+    if (isKept && (!had.free || this.taken.isFree(at(had.place), text))) return had;
+    for (let place = 0; place < count; place += 1) {
+      if (this.taken.isFree(at(place), text)) return { place, free: 1 };
+    }
+    return { place: last, free: 0 };
   }
 
   /**
@@ -131,9 +162,10 @@ export class Marks {
    * A bar between two places, beside what it measures, with its text.
    * @param {Mark} mark
    * @param {[Place, Place]} measured
+   * @param {Chosen} [had]
    * @returns {Made}
    */
-  bar(mark, measured) {
+  bar(mark, measured, had) {
     const { text = '' } = mark;
     const [start, end] = [this.plane.toScreen(measured[0]), this.plane.toScreen(measured[1])];
     const length = Math.hypot(end[0] - start[0], end[1] - start[1]) || 1;
@@ -144,106 +176,169 @@ export class Marks {
     const along = label ? label[0] * way[0] + label[1] * way[1]
       : length < 2 * halfWidth(text) + 20 ? length / 2 + halfWidth(text) + 6 : 0;
     const bar = { way, length, along, text };
+    const chosen = label ? undefined : this.open(beside, bar, had);
     const [a, b] = label ? beside(label[1] * way[0] - label[0] * way[1])
-      : this.open(beside, bar);
+      : beside(AWAYS[chosen?.place ?? 0]);
     const at = textAt([a, b], bar);
-    const reach = Math.abs(along) > length / 2 ? `M${a}L${at}` : '';
-    const path = `M${start}L${a}M${end}L${b}M${a}L${b}${reach}`
-      + `${tip(a, way)}${tip(b, [-way[0], -way[1]])}`;
-    return { path, text, at, base: middleOf(measured), ends: [a, b] };
+    const [one, other] = [spot(a), spot(b)];
+    const reach = Math.abs(along) > length / 2 ? `M${one}L${spot(at)}` : '';
+    const path = `M${spot(start)}L${one}M${spot(end)}L${other}M${one}L${other}${reach}`
+      + `${tip(one, way)}${tip(other, [-way[0], -way[1]])}`;
+    return { path, text, at, base: middleOf(measured), ends: [a, b], chosen };
   }
 
   /**
    * The first place beside what a bar measures where it and its text lie over no other; else where
-   * the text does.
+   * the text does. Or that which it had before, while it lies over no more there.
    * @param {(away: number) => [Place, Place]} beside
    * @param {Bar} bar
+   * @param {Chosen} [had]
+   * @returns {Chosen}
    */
-  open(beside, bar) {
+  open(beside, bar, had) {
+    const isKept = had && had.place < AWAYS.length;
+    if (isKept && this.isOpen(beside(AWAYS[had.place]), bar, had.free)) return had;
     let free = null;
-    for (const away of AWAYS) {
+    for (const [place, away] of AWAYS.entries()) {
       const ends = beside(away);
-      if (!this.taken.isFree(textAt(ends, bar), bar.text)) continue;
-      if (this.taken.isAlone(ends, bar.way, bar.length)) return ends;
-      free ??= ends;
+      if (!this.isOpen(ends, bar, 1)) continue;
+      if (this.taken.isAlone(ends, bar.way, bar.length)) return { place, free: 2 };
+      free ??= place;
     }
-    return free ?? beside(AWAYS[0]);
+    return free === null ? { place: 0, free: 0 } : { place: free, free: 1 };
+  }
+
+  /**
+   * Whether between two places so much of a bar lies over no other: 1 its text, 2 all of it.
+   * @param {[Place, Place]} ends
+   * @param {Bar} bar
+   * @param {number} free
+   */
+  isOpen(ends, bar, free) {
+    if (free > 0 && !this.taken.isFree(textAt(ends, bar), bar.text)) return false;
+    return free < 2 || this.taken.isAlone(ends, bar.way, bar.length);
   }
 
   /**
    * A text beside a rim, with a leader to it.
    * @param {Mark} mark
    * @param {Place} centre
+   * @param {Chosen} [had]
    * @returns {Made}
    */
-  leader(mark, centre) {
+  leader(mark, centre, had) {
     const { text = '', at: base = centre } = mark;
     const [middle, rim] = [this.plane.toScreen(centre), this.plane.toScreen(base)];
     const radius = Math.hypot(rim[0] - middle[0], rim[1] - middle[1]) || 1;
     const turn = Math.atan2(rim[1] - middle[1], rim[0] - middle[0]);
     const label = this.labelOf(mark);
-    const places = LEADERS.flatMap((away) => (mark.whole ? ROUND : [0]).map(
-      (round) => aboutAt(middle, radius + away, turn + round)));
+    const rounds = mark.whole ? ROUND.length : 1;
+    const near = LEADERS.length * rounds;
+    const spots = { ...further(near), at: (/** @type {number} */ place) => (place < near
+      ? aboutAt(middle, radius + LEADERS[Math.floor(place / rounds)], turn + ROUND[place % rounds])
+      : furtherAt(rim, place - near)) };
+    const chosen = label ? undefined : this.pick(text, spots, had);
     /** @type {Place} */
-    const at = label ? [rim[0] + label[0], rim[1] + label[1]]
-      : places.find((each) => this.taken.isFree(each, text)) ?? this.further(rim, text);
+    const at = label ? [rim[0] + label[0], rim[1] + label[1]] : spots.at(chosen?.place ?? 0);
     const foot = mark.whole
       ? aboutAt(middle, radius, Math.atan2(at[1] - middle[1], at[0] - middle[0])) : rim;
     const long = Math.hypot(at[0] - foot[0], at[1] - foot[1]) || 1;
     /** @type {Place} */
     const way = [(at[0] - foot[0]) / long, (at[1] - foot[1]) / long];
-    return { path: `M${foot}L${at}${tip(foot, way)}`, text, at, base };
+    const begin = spot(foot);
+    return { path: `M${begin}L${spot(at)}${tip(begin, way)}`, text, at, base, chosen };
   }
 
   /**
    * A text at an arc about a corner.
    * @param {Mark} mark
    * @param {Place} turn
+   * @param {Chosen} [had]
    * @returns {Made}
    */
-  angle(mark, [first, sweep]) {
+  angle(mark, [first, sweep], had) {
     const { text = '', at: base = [0, 0] } = mark;
     const corner = this.plane.toScreen(base);
     const label = this.labelOf(mark);
     const middle = -(first + sweep / 2);
     const beside = (/** @type {number} */ r) => aboutAt(
       corner, r + 6 + halfWidth(text) / 2, middle);
-    const free = ARCS.find((each) => this.taken.isFree(beside(each), text)) ?? ARCS[0];
-    const radius = label ? Math.max(12, Math.hypot(...label) - 6 - halfWidth(text) / 2) : free;
+    const spots = { count: ARCS.length, last: 0,
+      at: (/** @type {number} */ place) => beside(ARCS[place]) };
+    const chosen = label ? undefined : this.pick(text, spots, had);
+    const radius = label ? Math.max(12, Math.hypot(...label) - 6 - halfWidth(text) / 2)
+      : ARCS[chosen?.place ?? 0];
     /** @type {Place} */
     const at = label ? [corner[0] + label[0], corner[1] + label[1]] : beside(radius);
-    const [start, end] = [-first, -(first + sweep)].map((each) => aboutAt(corner, radius, each));
+    const [start, end] = [-first, -(first + sweep)].map(
+      (each) => spot(aboutAt(corner, radius, each)));
     const bow = `M${start}A${radius} ${radius} 0 ${sweep > Math.PI ? 1 : 0} 0 ${end}`;
-    return { path: `${bow}L${end}`, text, at, base, isOpen: true };
+    return { path: `${bow}L${end}`, text, at, base, isOpen: true, chosen };
   }
 
   /**
    * A text or a sign near a place.
    * @param {Mark} mark
+   * @param {Chosen} [had]
    * @returns {Made}
    */
-  tag(mark) {
+  tag(mark, had) {
     const text = mark.text ?? mark.sign ?? '';
     const base = mark.at ?? [0, 0];
-    const [x, y] = this.plane.toScreen(base);
+    const place = this.plane.toScreen(base);
+    const [x, y] = place;
     const label = this.labelOf(mark);
     if (label) return { path: null, text, at: [x + label[0], y + label[1]], base };
-    /** @type {Place[]} */
-    const places = stepsOf(mark).map(([dx, dy]) => [x + dx, y + dy]);
-    const at = places.find((each) => this.taken.isFree(each, text)) ?? this.further([x, y], text);
-    return { path: null, text, at, base };
+    const steps = stepsOf(mark);
+    const spots = { ...further(steps.length),
+      at: (/** @type {number} */ number) => stepped(place, steps, number) };
+    const chosen = this.pick(text, spots, had);
+    return { path: null, text, at: spots.at(chosen.place), base, chosen };
   }
+}
 
-  /**
-   * A place further from another, where no text stands.
-   * @param {Place} place
-   * @param {string} text
-   */
-  further(place, text) {
-    const places = FURTHER.flatMap((away) => ROUND.map(
-      (turn) => aboutAt(place, away, turn - Math.PI / 2)));
-    return places.find((each) => this.taken.isFree(each, text)) ?? places[0];
-  }
+/**
+ * A key for each of some marks: the number of what it is of, and which mark of that it is.
+ * @param {Mark[]} marks
+ */
+function keysOf(marks) {
+  /** @type {Map<number, number>} */
+  const counts = new Map();
+  return marks.map(({ number }) => {
+    const count = counts.get(number) ?? 0;
+    counts.set(number, count + 1);
+    return `${number} ${count}`;
+  });
+}
+
+/**
+ * How many places there are for a text behind so many near ones, and that where none is free.
+ * @param {number} near
+ */
+function further(near) {
+  return { count: near + FURTHER.length * ROUND.length, last: near };
+}
+
+/**
+ * One of the places that are further from another.
+ * @param {Place} place
+ * @param {number} number
+ */
+function furtherAt(place, number) {
+  const turn = ROUND[number % ROUND.length] - Math.PI / 2;
+  return aboutAt(place, FURTHER[Math.floor(number / ROUND.length)], turn);
+}
+
+/**
+ * A place, by one of some steps aside; behind these one that is further.
+ * @param {Place} place
+ * @param {Place[]} steps
+ * @param {number} number
+ * @returns {Place}
+ */
+function stepped(place, steps, number) {
+  if (number >= steps.length) return furtherAt(place, number - steps.length);
+  return [place[0] + steps[number][0], place[1] + steps[number][1]];
 }
 
 /**
@@ -255,6 +350,15 @@ export class Marks {
  */
 function aboutAt([x, y], away, turn) {
   return [x + away * Math.cos(turn), y + away * Math.sin(turn)];
+}
+
+/**
+ * A place as the path of a mark has it: to a hundredth of a pixel, which is written in half the time
+ * of all its digits.
+ * @param {Place} place
+ */
+function spot([x, y]) {
+  return `${Math.round(x * 100) / 100} ${Math.round(y * 100) / 100}`;
 }
 
 /**
@@ -324,12 +428,11 @@ export function toldPlaces({ at = [0, 0], bar, label }) {
 /**
  * A placed mark, in classes, with what is told of it where a hand rests on it.
  * @param {PlacedMark} mark
- * @param {number} key
  * @param {string} kind
  * @param {string} [told]
  * @returns {import('./page').Keyed}
  */
-export function markMade({ number, sign, path, text, at: [x, y], isOpen }, key, kind, told) {
+export function markMade({ key, number, sign, path, text, at: [x, y], isOpen }, kind, told) {
   return [key, 'g', { class: kind, 'data-constraint': number }, told && ['title', {}, told],
     path && ['path', { class: isOpen ? 'mark open' : 'mark', d: path }],
     ['text', { x, y, class: sign ? 'sign' : 'value' }, text]];
@@ -367,10 +470,11 @@ export function checkMade({ number, path, text, at: [x, y], isOpen: open }, key,
 }
 
 /**
- * An arrow's tip at a place, pointing outwards.
- * @param {Place} place
+ * An arrow's tip at a place, as that is written in a path, pointing outwards.
+ * @param {string} place
  * @param {Place} way
  */
-function tip([x, y], [dx, dy]) {
-  return `M${x} ${y}l${dx * 8 - dy * 2.6} ${dy * 8 + dx * 2.6}l${dy * 5.2} ${-dx * 5.2}Z`;
+function tip(place, [dx, dy]) {
+  const [side, back] = [spot([dx * 8 - dy * 2.6, dy * 8 + dx * 2.6]), spot([dy * 5.2, -dx * 5.2])];
+  return `M${place}l${side}l${back}Z`;
 }

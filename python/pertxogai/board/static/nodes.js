@@ -78,6 +78,61 @@ function filled(made, node, attributes, children) {
 }
 
 /**
+ * Makes of a node that was made of one thing what another thing makes: only what isn't the same is
+ * set. Gives whether that can be: where they have other parts, or hear something, a new node is to
+ * be made.
+ * @param {Element} node
+ * @param {import('./page').Made} before
+ * @param {import('./page').Made} made
+ * @returns {boolean}
+ */
+export function fitted(node, [tag, attributes = {}, ...parts], [kind, others = {}, ...children]) {
+  if (tag !== kind || parts.length !== children.length) return false;
+  let at = node.firstChild;
+  for (const [place, child] of children.entries()) {
+    const part = parts[place];
+    if (!part && !child) continue;
+    if (!at || !isFitted(at, part, child)) return false;
+    at = at.nextSibling;
+  }
+  return isDressed(/** @type {SVGElement} */ (node), attributes, others);
+}
+
+/**
+ * Makes of a part of a node another part. Gives whether that can be.
+ * @param {ChildNode} node
+ * @param {Child} before
+ * @param {Child} made
+ */
+function isFitted(node, before, made) {
+  if (Array.isArray(before) && Array.isArray(made)) {
+    return fitted(/** @type {Element} */ (node), before, made);
+  }
+  if (!before || typeof before !== 'string' || typeof made !== 'string') return false;
+  if (before !== made) node.nodeValue = made;
+  return true;
+}
+
+/**
+ * Sets those attributes of a node that are others than before. Gives whether that can be: not where
+ * one of them is a listener.
+ * @param {SVGElement} node
+ * @param {Attributes} before
+ * @param {Attributes} attributes
+ */
+function isDressed(node, before, attributes) {
+  for (const [name, value] of Object.entries(attributes)) {
+    if (value === before[name]) continue;
+    if (typeof value === 'function') return false;
+    const isNone = value === null || value === undefined;
+    if (STYLES.includes(name)) node.style.setProperty(name, isNone ? '' : String(value));
+    else if (isNone) node.removeAttribute(name);
+    else node.setAttribute(name, String(value));
+  }
+  return Object.keys(before).every((name) => name in attributes);
+}
+
+/**
  * The colour of a part, by its number from 1.
  * @param {number | null | undefined} part
  */

@@ -28,11 +28,22 @@ export interface Read extends Judged {
 }
 
 /**
- * A mark at its place in pixels; of what is proposed with its line. base: where its dimension is
- * measured, in millimetres. ends: those of its bar, in pixels. isOpen: whether its path has no
- * inside.
+ * Which of the places that a mark may take it has, by its number, and how much of it lies over
+ * nothing there: 0 nothing, 1 its text, 2 a bar as well.
+ */
+export interface Chosen {
+  place: number;
+  free: number;
+}
+
+/**
+ * A mark at its place in pixels; of what is proposed with its line. key: tells it from other marks,
+ * also of the same dimension. base: where its dimension is measured, in millimetres. ends: those of
+ * its bar, in pixels. isOpen: whether its path has no inside. chosen: undefined where the drawing
+ * says its place, or a hand.
  */
 export interface PlacedMark {
+  key: string;
   number: number;
   line?: string;
   sign?: Mark['sign'];
@@ -42,6 +53,7 @@ export interface PlacedMark {
   base: Place;
   ends?: [Place, Place];
   isOpen?: boolean;
+  chosen?: Chosen;
 }
 
 /** What a hand let go at a dead point, and where it had taken hold. */

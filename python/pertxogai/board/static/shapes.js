@@ -101,7 +101,8 @@ export function line([x, y], [u, v]) {
  * @param {number} r
  */
 export function ring([x, y], r) {
-  return `M${x - r} ${y}a${r} ${r} 0 1 0 ${2 * r} 0a${r} ${r} 0 1 0 ${-2 * r} 0Z`;
+  const half = `a${r} ${r} 0 1 0 `;
+  return `M${x - r} ${y}${half}${2 * r} 0${half}${-2 * r} 0Z`;
 }
 
 /**
