@@ -1,5 +1,5 @@
-"""Steps that change rows as wanted, and the unknowns as little as they can: from a dense Jacobian or
-from a sparse one."""
+"""Steps that change rows as wanted, and the unknowns as little as they can: from a dense Jacobian
+or from a sparse one."""
 from __future__ import annotations
 
 from collections.abc import Callable

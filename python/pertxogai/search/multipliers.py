@@ -1,4 +1,4 @@
-"""Damped steps by the sparse system of the step and its multipliers, [[1, J'], [J, -damping]], which
+"""Damped steps by the sparse system of the step and its multipliers, [[1, J'], [J, -damping]]. It
 fills up less than JJ' where many rows speak of one unknown. The Jacobians of one drawing have their
 entries in the same places: where those of the system are, and in which order it is eliminated, is
 found once for all of them."""
