@@ -53,7 +53,7 @@ export class Layer {
   }
 
   /**
-   * A thing as it is shown from now on: by the node that showed what it was before, or by a new one.
+   * A thing as it is shown from now on: by the node that showed what it was before, or a new one.
    * @param {{ made: Made, node: Element } | undefined} old
    * @param {unknown[]} from
    * @param {import('./page').Keyed} thing

@@ -353,8 +353,8 @@ function aboutAt([x, y], away, turn) {
 }
 
 /**
- * A place as the path of a mark has it: to a hundredth of a pixel, which is written in half the time
- * of all its digits.
+ * A place as the path of a mark has it: to a hundredth of a pixel, which is written in half the
+ * time of all its digits.
  * @param {Place} place
  */
 function spot([x, y]) {
