@@ -73,6 +73,21 @@ def test_what_is_rigid_beyond_triangles_is_constructed_with_a_word_only_measured
     assert found["places"]["C1"]["radius_nm"] == pytest.approx(16_350_000, abs=2)
 
 
+def test_a_circle_that_equals_one_from_outside_is_constructed_beside_what_is_rigid(
+        capsys, tmp_path):
+    # The equal circles in the square are rigid by more than triangles. Beside them stands a circle as
+    # large as one that is given from outside: it has no column, and is no edge with a length.
+    square = (TESTS / "beyond_triangles/sangaku-two-equal-circles-and-a-square.drawing").read_text()
+    (tmp_path / "given.drawing").write_text(
+        "outer circle Given 100 20 5\ncircle Own 130 20 4\nequal Given Own\n"
+        f"x Own.centre 130\ny Own.centre 20\n{square}")
+    main(["judge", "--json", str(tmp_path / "given.drawing")])
+    (found,) = json.loads(capsys.readouterr().out)["sketches"]
+    assert (found["freedoms"]["count"], found["places_by"]) == (0, "program")
+    assert found["places"]["Own"]["radius_nm"] == pytest.approx(5_000_000, abs=2)
+    assert found["places"]["C1"]["radius_nm"] == pytest.approx(16_350_000, abs=2)
+
+
 def test_what_repeats_in_what_is_over_is_a_group_with_the_latest_first(capsys):
     found = json_of(capsys, "drawings/over-hole-row")
     assert found["verdict"] == "over"

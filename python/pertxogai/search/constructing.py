@@ -12,7 +12,7 @@ from dataclasses import dataclass, replace
 
 from pertxogai.drawing import (
     Collinear, Constraint, Drawing, Equal, Length, Midpoint, Parallel, ParallelDistance, PointOn,
-    Symmetric, Tangent)
+    Segment, Symmetric, Tangent)
 from pertxogai.drawing.meetings import joins_points
 from pertxogai.judging.judgement import Judgement, judge_at_once
 from pertxogai.judging.limits import DrawingRefused
@@ -250,7 +250,8 @@ class _Mending:
         unknowns, basis = equations.unknowns, wide(free.free, equations.unknowns.count)
         seen: set[str] = set()
         for each in self._drawing.constraints:
-            if not isinstance(each, Equal) or each.first.name in unknowns.column_of:
+            if not (isinstance(each, Equal)
+                    and isinstance(self._drawing.shape(each.first.name), Segment)):
                 continue
             if basis is None or each.first.name in seen:
                 continue
