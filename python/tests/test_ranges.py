@@ -411,7 +411,7 @@ def searched(fault, rounding, low=1, high=10 ** 9):
 def test_a_range_ends_before_rounding_breaks_what_is_odd_alone():
     # As a half of an odd number of micrometres, which no sketch beyond 125 m can hold.
     border = searched(*rounded(lambda it: 1_001 if it > 125_000_000 and it % 2 else 1)).border(True)
-    assert 125_000_000 * 31 // 32 <= border.good <= 125_000_000
+    assert 125_000_000 * 15 // 16 <= border.good <= 125_000_000
     assert border.fault.startswith("off at ") and int(border.fault.split()[-1]) % 2
 
 
@@ -421,7 +421,7 @@ def test_a_range_ends_where_the_error_of_rounding_may_pass_the_half_of_the_limit
         return number * (number * 7919 % 1_000) // 100_000_000
 
     border = searched(*rounded(off_by)).border(True)
-    assert 50_000_000 <= border.good <= 60_000_000
+    assert 50_000_000 * 15 // 16 <= border.good <= 60_000_000
     # Nothing up to it is off by more than the limit.
     assert 1_000 >= max(off_by(each) for each in range(border.good - 10_000, border.good + 1))
 

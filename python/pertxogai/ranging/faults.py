@@ -11,12 +11,14 @@ from pertxogai.judging import Failure, Names
 from pertxogai.judging.departures import Departure, DepartureKind, Warned
 from pertxogai.judging.faults import Unit as AmountUnit
 from pertxogai.judging.good import Lack, Reason, mirrored_text
-from pertxogai.judging.measure import Deviation, Unit, amount_text, units_text
+from pertxogai.judging.measure import Deviation, Limit, Unit, amount_text, units_text
 from pertxogai.judging.naming import quoted
 from pertxogai.program.reports import (
     Cause, ConstraintFault, FrameFault, LineFault, NumberFault, RangeFault, StepAt, TurnedFault,
     Verdict)
 
+MOST_ROUNDED = 10
+"""What is off by more than so many times the limit isn't off by rounding."""
 MOST_NAMED = 6
 """The most names, and the most warnings, that a reason tells."""
 
@@ -64,10 +66,12 @@ class FaultKind(Enum):
 
 @dataclass(frozen=True)
 class Fault:
-    """Why a value isn't in the range: one line for the designer."""
+    """Why a value isn't in the range: one line for the designer. by_rounding: whether a constraint
+    is off by so little that it may be by rounding."""
 
     kind: FaultKind
     text: str
+    by_rounding: bool = False
 
 
 def of_warnings(warnings: Sequence[Warned]) -> Fault:
@@ -101,9 +105,10 @@ def of_failure(names: Names, failure: Failure) -> Fault:
     return Fault(FaultKind.NO_PLACES, _failure_text(names, failure))
 
 
-def of_deviation(off: Deviation, called: str) -> Fault:
-    """That a constraint isn't met."""
-    return Fault(FaultKind.OFF, f"{quoted(called)} is off by {amount_text(off)}")
+def of_deviation(off: Deviation, called: str, limit: Limit) -> Fault:
+    """That a constraint isn't met, or only just."""
+    return Fault(FaultKind.OFF, f"{quoted(called)} is off by {amount_text(off)}",
+                 off.amount <= MOST_ROUNDED * limit.amount)
 
 
 def of_rounding(fault: Fault, at: str) -> Fault:

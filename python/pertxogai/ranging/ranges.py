@@ -12,7 +12,7 @@ from pertxogai.drawing.numbers import MOST_MM, decimal_text
 from pertxogai.drawing.values.parameters import Dimension, NamedValue
 from pertxogai.judging.measure import Limit
 from pertxogai.program import Solver
-from pertxogai.ranging.faults import Fault, FaultKind, of_deviation, of_rounding
+from pertxogai.ranging.faults import Fault, FaultKind, of_rounding
 from pertxogai.ranging.passage import Passage
 from pertxogai.ranging.search import Border, Search
 from pertxogai.ranging.spans import is_smooth
@@ -135,16 +135,11 @@ class _Numbers:
             found = way.placed(drawing)
             if isinstance(found, Held):
                 self._placements[number] = self._things.placed(found.edges)
-                self._offs[number] = self._off(found)
+                self._offs[number] = found.nearly and way.off(found.nearly)
                 return None
             fault = found
-        self._offs[number] = fault if fault and fault.kind is FaultKind.OFF else None
+        self._offs[number] = fault if fault and fault.by_rounding else None
         return fault
-
-    def _off(self, found: Held) -> Fault | None:
-        """By how much a constraint is off that holds, where that is more than half of the limit."""
-        off = found.nearly
-        return None if off is None else of_deviation(off, off.called(self._ranging.drawing))
 
     def rounding(self, number: int) -> Fault | None:
         """That a constraint is off by more than half of the limit at a number that was tried, so

@@ -23,8 +23,8 @@ ROUGH = 4
 """Numbers without round digits that are tried before an end far from the present one."""
 MANY_ROUGH = 16
 """As many are tried before a number up to which rounding is to break nothing."""
-ROUGH_PART = 16
-"""They lie within this part of the way to it, and of its size."""
+BLUNT = 32
+"""Where rounding ends a range, its end is found to within this part of its size."""
 MOST_ROUNDS = 8
 """So many times a number at which all looks to end may turn out to be good."""
 MOST_TRIED = 500
@@ -101,18 +101,27 @@ class Search(Generic[Fault]):
         near = [border.good + way, *self._rough(border.good, ROUGH)]
         if not any(map(self.rounding, near)) or self.rounding(self.present) is not None:
             return border
-        fault = self._broken(border.good)
+        good, bad, fault = border.good, border.good, self._broken(border.good)
         if fault is None:
             return border
-        good, bad = self.present, border.good
-        while abs(bad - good) > max(1, min(abs(good), abs(bad)) // (4 * ROUGH_PART)):
+        found, step = fault, 1
+        while found is not None and good != self.present:
+            bad, fault, step = good, found, 2 * step
+            good = max(good - way * step, self.present, key=lambda it: way * it)
+            found = self._broken(good)
+        return Border(*self._narrowed(good, bad, fault), border.is_clear)
+
+    def _narrowed(self, good: int, bad: int, fault: Fault) -> tuple[int, Fault]:
+        """About the last number up to which rounding breaks nothing, between one of which that is
+        so and one at which it does. fault: what it breaks there."""
+        while abs(bad - good) > max(1, min(abs(good), abs(bad)) // BLUNT):
             middle = _middle_by_size(good, bad)
             found = self._broken(middle)
             good, bad, fault = (middle, bad, fault) if found is None else (good, middle, found)
-        round_good = _rounder(good, bad)
-        if way * round_good > way * self.present and self._broken(round_good) is None:
-            good = round_good
-        return Border(good, fault, border.is_clear)
+        rounder, way = _rounder(good, bad), 1 if bad > good else -1
+        is_beyond_present = way * rounder > way * self.present
+        is_held = is_beyond_present and self._broken(rounder) is None
+        return rounder if is_held else good, fault
 
     def _broken(self, number: int) -> Fault | None:
         """What rounding breaks, or nearly does, at a number or somewhat before it; else None."""
@@ -123,10 +132,9 @@ class Search(Generic[Fault]):
         return None
 
     def _rough(self, number: int, count: int) -> list[int]:
-        """Some numbers without round digits on the way to a number, of about its size."""
+        """Some numbers without round digits on the way to a number, most of them near it."""
         way, room = (1 if number > self.present else -1), abs(number - self.present)
-        part = max(1, min(room, abs(number)) // (ROUGH_PART * count))
-        steps = (each * part + each + 1 for each in range(count))
+        steps = (2 ** each + each for each in range(count))
         return [number - way * step for step in steps if step < room]
 
     def _at_end(self, number: int) -> Fault | None:

@@ -151,7 +151,11 @@ class Way:
         """That a constraint isn't met, or that there are edges without a length there."""
         gone = [each.name for each in self.drawing.geometry
                 if isinstance(each, Segment) and not any(edges.of(each).placed.way)]
-        return of_gone(gone) if gone else of_deviation(off, off.called(self.drawing))
+        return of_gone(gone) if gone else self.off(off)
+
+    def off(self, off: Deviation) -> Fault:
+        """That a constraint isn't met, or only just."""
+        return of_deviation(off, off.called(self.drawing), self.limit)
 
     def _of_failure(self, names: Names, fault: ProgramFault) -> Fault:
         """Why the program can't place it, by the numbers that stand in the drawing."""
