@@ -50,8 +50,8 @@ class FaultKind(Enum):
     OFF = "off"
     """A constraint doesn't hold within the limit."""
     ROUNDING = "rounding"
-    """Rounding puts a constraint off by more than half of the limit, so that at one of the values
-    beyond it may be off by more."""
+    """Rounding puts a constraint off by more than two thirds of the limit, so that at one of the
+    values beyond it may be off by more than all of it."""
     NO_LENGTH = "no length"
     """An edge shrinks to nothing, so that its direction isn't defined."""
     UNSIZED = "no size"

@@ -142,8 +142,8 @@ class _Numbers:
         return fault
 
     def rounding(self, number: int) -> Fault | None:
-        """That a constraint is off by more than half of the limit at a number that was tried, so
-        that rounding decides whether it holds near that; None where none is."""
+        """That a constraint is off by more than two thirds of the limit at a number that was
+        tried, so that rounding decides whether it holds near that; None where none is."""
         off = self._offs.get(number)
         if off is None:
             return None

@@ -41,7 +41,8 @@ class NoRange(Exception):
 @dataclass(frozen=True)
 class Held:
     """Where the edges of a drawing lie in which each constraint holds. nearly: the first that is
-    off by more than half of the limit; None where none is."""
+    off by more than two thirds of the limit, while no value is rounded for the program: a rounded
+    one is off by the same wherever it is; None where none is."""
 
     edges: Edges
     nearly: Deviation | None = None
@@ -52,7 +53,8 @@ class Way:
     """A good drawing, its edges as they are placed, what is warned of in it, what may depart from
     the drawing, lie mirrored, and come to cross, and how it is told: by which reading and style.
     reading: None where no single one will do, as where a value was read off a placed part, so that
-    all ways are tried for each number. before: how the reading spells it."""
+    all ways are tried for each number. before: how the reading spells it. is_rounded: whether a
+    value of the drawing is rounded for the program."""
 
     drawing: Drawing
     program: Solver
@@ -65,6 +67,7 @@ class Way:
     style: Style
     reading: Reading | None
     before: Interpretation | None
+    is_rounded: bool = False
 
     @staticmethod
     def of(drawing: Drawing, program: Solver, limit: Limit = Limit(),
@@ -99,12 +102,15 @@ class Way:
         found = self.found_for(drawing)
         if isinstance(found, Fault):
             return found
-        return self._held(found.edges, measure(drawing, found.edges.solution))
+        deviations = measure(drawing, found.edges.solution)
+        return self._held(found.edges, deviations, found.is_rounded)
 
-    def _held(self, edges: Edges, deviations: Sequence[Deviation]) -> Held:
-        """Edges that are placed so that each constraint holds."""
-        half = Limit(max(1, self.limit.amount // 2))
-        return Held(edges, next(half.beyond(deviations), None))
+    def _held(self, edges: Edges, deviations: Sequence[Deviation], is_rounded: bool) -> Held:
+        """Edges that are placed so that each constraint holds. is_rounded: whether values are."""
+        if is_rounded:
+            return Held(edges)
+        less = Limit(max(1, 2 * self.limit.amount // 3))
+        return Held(edges, next(less.beyond(deviations), None))
 
     def _by_one(self, drawing: Drawing, reading: Reading) -> Held | Fault:
         spellings = interpreted(drawing, reading, self.before)
@@ -145,7 +151,9 @@ class Way:
         if warnings:
             return of_warnings(warnings)
         turned = next(self.pieces.mirrored(edges), None)
-        return self._held(edges, deviations) if turned is None else of_mirrored(turned)
+        if turned is not None:
+            return of_mirrored(turned)
+        return self._held(edges, deviations, bool(trial.spelled.rounded))
 
     def _of_deviation(self, off: Deviation, edges: Edges) -> Fault:
         """That a constraint isn't met, or that there are edges without a length there."""
@@ -181,7 +189,8 @@ class Way:
             off = reasons[0].off
             return self._of_deviation(off, edges) if off else of_reason(reasons[0])
         reading, before = _reading(judged)
-        return replace(self, edges=edges, style=judged.style, reading=reading, before=before)
+        return replace(self, edges=edges, style=judged.style, reading=reading, before=before,
+                       is_rounded=bool(judged.asked.spelled.rounded))
 
 
 def _unless_refused(act: Callable[[], Found | Fault]) -> Found | Fault:
