@@ -4,7 +4,7 @@ from __future__ import annotations
 from dataclasses import dataclass
 from fractions import Fraction
 from functools import lru_cache
-from math import atan2, gcd, pi, sin, tan
+from math import atan2, gcd, inf, pi, sin, tan
 
 from pertxogai.drawing import Degrees, Slope, Turn
 from pertxogai.language import nearest_ratio
@@ -62,10 +62,11 @@ class Lean:
         tangent = Fraction(tan(self.radians()))
         return nearest_ratio(tangent, 1)
 
-    def halves(self) -> tuple[Lean, Lean] | None:
+    def halves(self, within: float = 0.0) -> tuple[Lean, Lean] | None:
         """Two leans by ratios of which the sum is this within 10^-11 or so, where no ratio is
-        this; else None."""
-        return None if self.exact() else _halves(self)
+        this; else None. within: the first two will do of which the sum is so near, in radians,
+        which takes a small part of the time."""
+        return None if self.exact() else _halves(self, within)
 
     def exact(self) -> bool:
         """Whether `ratio` is the lean itself."""
@@ -86,13 +87,21 @@ class Lean:
         return turn * pi / 180 + atan2(self.left, self.ahead)
 
 
-@lru_cache(maxsize=256)
-def _halves(lean: Lean) -> tuple[Lean, Lean]:
-    """The two ratios that come nearest, of those of which the first is small."""
-    goal = lean.radians()
-    pairs = ((first, turn, near) for first, turn in _small_leans()
-             if (near := _near_rest(goal - turn)) is not None)
-    first, _, (p, q) = min(pairs, key=lambda each: abs(sin(goal - each[1] - _turn_of(*each[2]))))
+@lru_cache(maxsize=1024)
+def _halves(lean: Lean, within: float) -> tuple[Lean, Lean]:
+    """The two ratios that come nearest, of those of which the first is small, or the first two that
+    come so near."""
+    goal, least = lean.radians(), inf
+    best: tuple[Lean, tuple[int, int]] | None = None
+    for first, turn in _small_leans():
+        near = _near_rest(goal - turn)
+        off = inf if near is None else abs(sin(goal - turn - _turn_of(*near)))
+        if near is not None and off < least:
+            best, least = (first, near), off
+        if least <= within:
+            break
+    assert best is not None
+    first, (p, q) = best
     return first, _make(Fraction(0), q, p)
 
 

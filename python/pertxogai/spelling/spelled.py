@@ -43,12 +43,14 @@ class Contradiction:
 class Care:
     """Further options of an encoding. insist: encode linear constraints twice if they are given
     twice. fine: pass an angle that is no ratio as two angles that add up to it, with an auxiliary
-    line. through: the point through which that line runs, by the names of the two lines of the
+    line. within: how far these two may be off the angle, in radians, where they needn't be the
+    nearest. through: the point through which that line runs, by the names of the two lines of the
     angle; where they aren't here, the first point of the second line. off: contradictions to encode
     by points of their own."""
 
     insist: bool = False
     fine: bool = False
+    within: float = 0.0
     off: tuple[Contradiction, ...] = ()
     through: Mapping[tuple[str, ...], Knot] = field(default_factory=dict, hash=False)
 

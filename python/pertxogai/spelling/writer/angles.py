@@ -98,7 +98,7 @@ class Angles:
 
         layout = self.layout
         names = layout.names[first], layout.names[second]
-        halves = lean.halves() if layout.care.fine else None
+        halves = lean.halves(layout.care.within) if layout.care.fine else None
         if halves is None:
             layout.sheet.drafts.append(
                 Draft(*names, said, ratio=lean.ratio(), is_near=not lean.exact()))
