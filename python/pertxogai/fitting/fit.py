@@ -28,6 +28,8 @@ MOST_PASSES = 4
 """All checks are worked out at most this number of times."""
 LITTLE = Fraction(1, 100)
 """Of the sum of the squares, or of the worst case: what is no more may be passed over."""
+ALIKE = 100
+"""In millionths: what dimensions give is told as finely."""
 
 
 def fit_of(drawing: Drawing, program: Solver, limit: Limit) -> Fit | NoFit:
@@ -159,8 +161,9 @@ def _by_squares(base: int, moved: Sequence[Effect], worst: Worst) -> Range | Non
 
 
 def _shares(moved: Sequence[Effect]) -> tuple[Share, ...]:
+    """What each gives, the greatest first; in the order of the drawing where they give as much."""
     whole = sum(each.gives() for each in moved)
     squares = sum(each.gives() ** 2 for each in moved)
     found = [Share(each.dimension, each.gives(), each.per_unit(), each.gives() / whole,
                    each.gives() ** 2 / squares) for each in moved if each.gives() > 1]
-    return tuple(sorted(found, key=lambda share: -share.gives))
+    return tuple(sorted(found, key=lambda share: -round(share.gives / ALIKE)))
