@@ -6,16 +6,14 @@ from dataclasses import dataclass
 from fractions import Fraction
 
 from pertxogai.drawing import Drawing, DrawingUnsound
+from pertxogai.fitting.asking import Asking, NotPlaced
 from pertxogai.fitting.gauges import Gauge, Way
 from pertxogai.fitting.rounding import NOISE
 from pertxogai.fitting.toleranced import Toleranced, moved
-from pertxogai.judging import DrawingRefused, Judgement
-from pertxogai.judging.edited import EditedDrawing
-from pertxogai.judging.judgement import judge_edited
-from pertxogai.judging.measure import Limit, Unit
+from pertxogai.judging import DrawingRefused
+from pertxogai.judging.measure import Limit
 from pertxogai.language import NotHeld, Refusal
 from pertxogai.program import Solver
-from pertxogai.program.reports import Verdict
 
 BESIDE = Fraction(1, 1000)
 """Where a case between the ends of a dimension can't be placed, cases are tried this part of its
@@ -47,8 +45,8 @@ class Placer:
     kept."""
 
     def __init__(self, drawing: Drawing, program: Solver, limit: Limit) -> None:
-        self._edited, self._program, self._limit = EditedDrawing(drawing), program, limit
-        self.nominal: Judgement = judge_edited(self._edited, program, limit=limit)
+        self._drawing, self._asking = drawing, Asking(drawing, program, limit)
+        self.nominal = self._asking.nominal
         self._known: dict[Offs, Case] = {}
         self._within: dict[Offs, Case] = {}
         self._unplaced: dict[Offs, str] = {}
@@ -61,6 +59,7 @@ class Placer:
         """Says which dimensions may lie off, and what is measured."""
         self._dimensions, self._gauges = dimensions, gauges
         self._base = tuple(each.base for each in dimensions)
+        self._asking.begin([each.number for each in dimensions if not each.is_angle])
 
     @property
     def cases(self) -> Mapping[Offs, Case]:
@@ -178,27 +177,20 @@ class Placer:
         return self._gauges[number].noise
 
     def _placed(self, offs: Offs) -> Case:
-        drawing = self._edited.drawing
         by_number = {each.number: off for each, off in zip(self._dimensions, offs) if off}
         try:
-            edited = EditedDrawing(moved(drawing, by_number), self._edited)
-            judged = judge_edited(edited, self._program, limit=self._limit)
-        except (DrawingRefused, DrawingUnsound, NotHeld, Refusal) as refused:
-            raise Unplaced(f"{self._told(by_number)}: {refused}") from None
-        why = _why_not(judged, self._limit)
-        if why or judged.solution is None:
-            raise Unplaced(f"{self._told(by_number)}: {why}")
-        solution = judged.solution
-        off_nm = max((each.amount for each in judged.deviations if each.unit is Unit.NM), default=0)
-        return Case(tuple(gauge.measured(solution) for gauge in self._gauges),
-                    tuple(gauge.way(solution) for gauge in self._gauges), off_nm)
+            there = self._asking.lying(moved(self._drawing, by_number), by_number)
+        except (DrawingRefused, DrawingUnsound, NotHeld, NotPlaced, Refusal) as why:
+            raise Unplaced(f"{self._told(by_number)}: {why}") from None
+        return Case(tuple(gauge.measured(there.solution) for gauge in self._gauges),
+                    tuple(gauge.way(there.solution) for gauge in self._gauges), there.off_nm)
 
     def _told(self, by_number: dict[int, Fraction]) -> str:
         """Which dimensions lie off."""
         if len(by_number) > MOST_NAMED:
             return f"with {len(by_number)} dimensions off their nominal values"
         angles = {each.number for each in self._dimensions if each.is_angle}
-        called = self._edited.drawing.called
+        called = self._drawing.called
         told = (f"{called(number)} off by {_off_text(off, number in angles)}"
                 for number, off in by_number.items())
         return f"with {' and '.join(told) or 'nominal dimensions'}"
@@ -207,14 +199,3 @@ class Placer:
 def _off_text(off: Fraction, is_angle: bool) -> str:
     """How far a dimension is off, in four digits."""
     return f"{float(off):.4g} degrees" if is_angle else f"{float(off / 1000):.4g} mm"
-
-
-def _why_not(judged: Judgement, limit: Limit) -> str:
-    """Why what was placed doesn't count; nothing where it does."""
-    if judged.solution is None:
-        return ("it can't be placed as drawn" if judged.verdict is Verdict.WELL
-                else f"it is {judged.verdict.value}")
-    if judged.left_out or judged.frozen:
-        return "not all of it is passed to the program there"
-    beyond = next(iter(limit.beyond(judged.deviations)), None)
-    return "" if beyond is None else "a constraint isn't met"

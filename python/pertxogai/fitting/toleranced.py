@@ -112,7 +112,7 @@ def _breaks_edge(drawing: Drawing, solution: Solution, rim: ShapeRef) -> bool:
 def moved(drawing: Drawing, offs: Mapping[int, Fraction]) -> Drawing:
     """A drawing in which the dimensions at some places, from 1, lie so far off, in micrometres or
     degrees. Raises DrawingUnsound where one can't have such a value."""
-    return replace(drawing, constraints=tuple(_moved(drawing, offs)))
+    return drawing.with_numbers(tuple(_moved(drawing, offs)))
 
 
 def _moved(drawing: Drawing, offs: Mapping[int, Fraction]) -> Iterator[Constraint]:

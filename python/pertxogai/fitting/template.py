@@ -1,0 +1,189 @@
+"""The sketch by which a drawing was placed, with other lengths: a case in which lengths alone lie
+off is asked for by it, so that the drawing isn't encoded anew for each. Where its points come to
+lie is measured on the drawing as ever, so a sketch that says something else shows."""
+from __future__ import annotations
+
+from collections.abc import Mapping
+from dataclasses import dataclass, replace
+from fractions import Fraction
+
+from pertxogai.drawing import Arc, Circle, Drawing
+from pertxogai.exact import whole_near
+from pertxogai.fitting.affine import Affine, Probe
+from pertxogai.judging import Trial
+from pertxogai.judging.measure import Solution
+from pertxogai.judging.settled import settled
+from pertxogai.judging.turning import KnownSum, known_sum
+from pertxogai.judging.within import within
+from pertxogai.language import Constraint, Distance, On
+from pertxogai.program import Solver, Status
+from pertxogai.program.reports import Solved, read_answer
+from pertxogai.spelling import Axes, Rails, Spelled
+from pertxogai.spelling.facts import RadiusOf
+
+NM_PER_UM = 1000
+Offs = Mapping[int, Fraction]
+"""How far the dimensions of some numbers lie off, in micrometres."""
+Changing = Mapping[int, Affine]
+"""The values that change, by the place of the constraint in the sketch, from 0."""
+
+
+@dataclass(frozen=True)
+class Encoding:
+    """How a drawing is encoded: its axes, rails and sketch."""
+
+    axes: Axes
+    rails: Rails
+    spelled: Spelled
+
+
+@dataclass(frozen=True)
+class Template:
+    """asked: how the drawing was placed. distances: the values of the sketch that change. radii:
+    those of all circles and arcs. shifts: where the printed places lie along x and y. numbers: the
+    dimensions that may be off: none that changes what is 0 in the sketch, which is another one
+    then."""
+
+    drawing: Drawing
+    asked: Trial
+    distances: Changing
+    radii: Mapping[str, Affine]
+    shifts: tuple[Affine, Affine]
+    numbers: frozenset[int]
+
+    @staticmethod
+    def of(drawing: Drawing, asked: Trial, probe: Probe, there: Encoding) -> Template | None:
+        """That of a drawing that was placed. there: how it is encoded with the offs of the probe.
+        None where that differs by more than lengths."""
+        spelled = asked.spelled
+        if not spelled.tied() or not _are_alike(spelled, there.spelled):
+            return None
+        distances = _distances(spelled, there.spelled, probe)
+        radii = _radii(drawing, asked.rails, there.rails, probe)
+        shifts = [_shift(asked, there, probe, upwards) for upwards in (False, True)]
+        if distances is None or radii is None or shifts[0] is None or shifts[1] is None:
+            return None
+        loose = {number for each in distances.values() if not each.at for number in each.slopes}
+        return Template(drawing, asked, distances, radii, (shifts[0], shifts[1]),
+                        probe.numbers - loose)
+
+    def solution(self, offs: Offs, program: Solver) -> Solution | None:
+        """Where a drawing with these dimensions off is placed; None where it isn't by this sketch.
+        Raises ProgramError, and NotHeld where a length is beyond the language's."""
+        text = self._text(offs) if self.numbers.issuperset(offs) else None
+        if text is None:
+            return None
+        words = "solve", f"place={self.asked.place.value}", within(self.asked.spelled)
+        answer = program.ask(words, text)
+        solved = read_answer(words, answer) if answer.status is Status.DONE else None
+        if not isinstance(solved, Solved):
+            return None
+        return self._settled(settled(self.drawing, self.asked, solved).solution, offs)
+
+    def _text(self, offs: Offs) -> str | None:
+        """The sketch; None where a value can't be told in whole micrometres, or isn't above 0."""
+        spelled = self.asked.spelled
+        lines, first = spelled.sketch.text().split("\n"), 1 + len(spelled.sketch.elements)
+        for place, value in self.distances.items():
+            constraint = spelled.sketch.constraints[place]
+            told = value.value(offs) * spelled.scale
+            if isinstance(constraint, Distance):
+                if told.denominator != 1 or told <= 0:
+                    return None
+                lines[first + place] = replace(constraint, length_um=told.numerator).text()
+        return "\n".join(lines)
+
+    def _settled(self, found: Solution, offs: Offs) -> Solution | None:
+        """The places and radii with the dimensions off; None where they aren't whole
+        nanometres."""
+        by = [(each.value(offs) - each.at) * NM_PER_UM for each in self.shifts]
+        if any(each.denominator != 1 for each in by):
+            return None
+        x_nm, y_nm = (each.numerator for each in by)
+        points = (found.points if not any(by) else
+                  {ref: (x + x_nm, y + y_nm) for ref, (x, y) in found.points.items()})
+        radii = {name: whole_near(each.value(offs) * NM_PER_UM)
+                 for name, each in self.radii.items()}
+        return replace(found, points=points, radii=radii)
+
+
+def _are_alike(one: Spelled, other: Spelled) -> bool:
+    """Whether two encodings differ at most by the values of lengths, where nothing of them is left
+    out or told from behind a line."""
+    if any((one.left_out, other.left_out, one.behind, other.behind)):
+        return False
+    names = [[type(each), each.name] for each in one.sketch.elements]
+    return (names == [[type(each), each.name] for each in other.sketch.elements]
+            and one.points == other.points and one.tracks == other.tracks
+            and len(one.sketch.constraints) == len(other.sketch.constraints)
+            and all(map(_is_alike, one.sketch.constraints, other.sketch.constraints)))
+
+
+def _is_alike(one: Constraint, other: Constraint) -> bool:
+    """Whether two constraints differ at most by a length; that may be none on the one side."""
+    if isinstance(other, Distance) and isinstance(one, (Distance, On)):
+        return one.names() == other.names()
+    return one == other
+
+
+def _values(spelled: Spelled) -> list[Fraction | None]:
+    """The length that each constraint of a sketch tells, exactly, in micrometres of the drawing;
+    None of one that tells none."""
+    found = [_value(each, spelled.scale) for each in spelled.sketch.constraints]
+    for each in spelled.rounded:
+        found[each.number - 1] = Fraction(each.exact_um)
+    return found
+
+
+def _value(constraint: Constraint, scale: int) -> Fraction | None:
+    if isinstance(constraint, Distance):
+        return Fraction(constraint.length_um, scale)
+    return Fraction(0) if isinstance(constraint, On) else None
+
+
+def _distances(one: Spelled, other: Spelled, probe: Probe) -> Changing | None:
+    """The values that change; None where one doesn't change evenly."""
+    found: dict[int, Affine] = {}
+    for place, (at, there) in enumerate(zip(_values(one), _values(other))):
+        if at is None or there is None or at == there:
+            continue
+        value = probe.affine(at, there)
+        if value is None:
+            return None
+        found[place] = value
+    return found
+
+
+def _radii(drawing: Drawing, one: Rails, other: Rails,
+           probe: Probe) -> Mapping[str, Affine] | None:
+    """The radii of circles and arcs; None where one isn't told, or doesn't change evenly."""
+    found: dict[str, Affine] = {}
+    for rim in drawing.geometry:
+        if isinstance(rim, (Circle, Arc)):
+            at, there = (rails.size(RadiusOf(rim.name)) for rails in (one, other))
+            value = None if at is None or there is None else probe.affine(Fraction(at),
+                                                                          Fraction(there))
+            if value is None:
+                return None
+            found[rim.name] = value
+    return found
+
+
+def _shift(asked: Trial, there: Encoding, probe: Probe, upwards: bool) -> Affine | None:
+    """Where the printed places lie along an axis of the datum: on a line of the sketch that is the
+    other axis, or by what is told of their coordinates; None where that changes by more than its
+    value."""
+    if any(each.rail and each.rail.datum() and each.rail.upwards == upwards
+           for each in asked.spelled.headings):
+        return Affine(Fraction(0), {})
+    one, other = (known_sum(axes, upwards, asked.spelled.points)
+                  for axes in (asked.axes, there.axes))
+    if one is None or other is None:
+        return Affine(Fraction(0), {}) if one is other else None
+    return _of_sums(one, other, probe) if one.factors == other.factors else None
+
+
+def _of_sums(one: KnownSum, other: KnownSum, probe: Probe) -> Affine | None:
+    """By what two sums of coordinates put the places, the other with the probe's offs."""
+    total = one.total()
+    return probe.affine(Fraction(one.value) / total, Fraction(other.value) / total)

@@ -1,0 +1,144 @@
+"""How `fit` asks for a drawing with dimensions off: by the sketch of the drawing itself with other
+lengths where that will do, which is the sketch that encoding it anew gives; and where it won't."""
+from __future__ import annotations
+
+from collections.abc import Iterator, Sequence
+from fractions import Fraction
+from pathlib import Path
+from random import Random
+
+import pytest
+
+from pertxogai.drawing import VALUED, AngleBetween, Drawing, read_drawing
+from pertxogai.fitting.affine import Affine, Probe
+from pertxogai.fitting.asking import Asking
+from pertxogai.fitting.toleranced import moved
+from pertxogai.judging import judge_at_once
+from pertxogai.judging.measure import Limit
+from pertxogai.program import Answer
+
+FITS = sorted((Path(__file__).parent / "fits").glob("*.drawing"))
+PLATE = """rectangle P 0 0 80 60
+coincident PBottom.start Origin
+length PBottom 80
+length PRight 60
+circle H 30 20 5
+x H.centre 30
+y H.centre 20
+diameter H 10
+"""
+
+
+class Listening:
+    """A program, and the texts that it was asked about."""
+
+    def __init__(self, program) -> None:
+        self._program = program
+        self.texts: list[str] = []
+
+    def ask(self, words: Sequence[str], text: str) -> Answer:
+        """Asks the program."""
+        self.texts.append(text)
+        return self._program.ask(words, text)
+
+
+def lengths(drawing: Drawing) -> list[int]:
+    """The places of the dimensions that are lengths, from 1."""
+    return [number for number, each in enumerate(drawing.constraints, 1)
+            if isinstance(each, VALUED) and not isinstance(each, AngleBetween)]
+
+
+def cases(drawing: Drawing) -> Iterator[dict[int, Fraction]]:
+    """A length, two, and all of them a little off."""
+    random, numbers = Random(3), lengths(drawing)
+    for count in sorted({1, min(2, len(numbers)), len(numbers)}):
+        yield {number: Fraction(random.randint(-40, 40) or 7)
+               for number in random.sample(numbers, count)}
+
+
+# -- numbers that change evenly
+
+def test_the_parts_of_a_sum_are_read_off_its_value() -> None:
+    # 12.5 - 3 a + b / 2 with three dimensions, the last of which isn't in it.
+    probe = Probe([4, 7, 9])
+    offs = probe.offs()
+    assert probe.affine(Fraction(25, 2), Fraction(25, 2) - 3 * offs[4] + offs[7] / 2) == Affine(
+        Fraction(25, 2), {4: Fraction(-3), 7: Fraction(1, 2)})
+    assert Affine(Fraction(25, 2), {4: Fraction(-3), 7: Fraction(1, 2)}).value(
+        {4: Fraction(2), 9: Fraction(5)}) == Fraction(13, 2)
+
+
+def test_what_isnt_such_a_sum_is_told() -> None:
+    probe = Probe([4, 7])
+    offs = probe.offs()
+    assert probe.affine(Fraction(0), offs[4] * offs[7] / 11) is None
+    assert probe.affine(Fraction(0), offs[4] * offs[4]) != Affine(Fraction(0), {4: offs[4]})
+    assert probe.affine(Fraction(0), Fraction(1)) is None
+
+
+# -- the sketch of the drawing itself
+
+@pytest.mark.parametrize("path", FITS, ids=lambda path: path.stem)
+def test_other_lengths_are_asked_for_as_if_the_drawing_were_read_anew(path, program) -> None:
+    drawing, heard = read_drawing(path.read_text()), Listening(program)
+    asking = Asking(drawing, heard, Limit())
+    asking.begin(lengths(drawing))
+    for offs in cases(drawing):
+        anew = Listening(program)
+        heard.texts.clear()
+        other = moved(drawing, offs)
+        lying, judged = asking.lying(other, offs), judge_at_once(other, anew)
+        if len(anew.texts) == 1:
+            assert heard.texts == anew.texts and lying.solution == judged.solution
+        else:  # It is asked for by near ratios first, and then by finer ones.
+            assert all(abs(here - there) <= 1 for ref, spot in lying.solution.points.items()
+                       for here, there in zip(spot, judged.solution.points[ref]))
+
+
+def test_a_plate_of_other_sizes_is_not_encoded_anew(program, monkeypatch) -> None:
+    # The hole is 31 by 19 from the corner then, and of a radius of 5.5.
+    drawing = read_drawing(PLATE)
+    asking = Asking(drawing, program, Limit())
+    numbers = lengths(drawing)
+    asking.begin(numbers)
+    monkeypatch.setattr("pertxogai.fitting.asking.judge_edited", None)
+    offs = {number: Fraction(off) for number, off in zip(numbers, (2000, -1000, 1000, -1000, 1000))}
+    there = asking.lying(moved(drawing, offs), offs)
+    places = {str(ref): spot for ref, spot in there.solution.points.items()}
+    assert places["H.centre"] == (31_000_000, 19_000_000)
+    assert places["PTop.start"] == (82_000_000, 59_000_000)
+    assert there.solution.radii == {"H": 5_500_000} and there.off_nm == 0
+
+
+def test_what_is_in_line_by_values_alone_is_asked_for_anew_where_it_is_not(program) -> None:
+    # P and Q both stand 20 high, by dimensions of their own; 0.05 more of one lifts it alone.
+    drawing = read_drawing("point P 10 20\npoint Q 40 20\nx P 10\ny P 20\nx Q 40\ny Q 20\n")
+    asking = Asking(drawing, program, Limit())
+    asking.begin(lengths(drawing))
+    for number, spots in ((2, {"P": 20_050_000, "Q": 20_000_000}),
+                          (4, {"P": 20_000_000, "Q": 20_050_000})):
+        offs = {number: Fraction(50)}
+        there = asking.lying(moved(drawing, offs), offs)
+        assert {str(ref): spot[1] for ref, spot in there.solution.points.items()} == spots
+
+
+# -- angles
+
+def test_fine_angles_are_asked_for_at_once(program) -> None:
+    # A bar of 100 at 30 degrees, of which the tangent is no ratio: the end is at 86.602540 50. The
+    # first call for the drawing is by a near ratio, which leaves it 139 nm off.
+    drawing = read_drawing("segment A 0 0 86.6 50\ncoincident A.start Origin\nlength A 100\n"
+                           "angle A +30deg\n")
+    heard = Listening(program)
+    asking = Asking(drawing, heard, Limit())
+    asking.begin(lengths(drawing))
+    heard.texts.clear()
+    offs = {2: Fraction(1000)}
+    there = asking.lying(moved(drawing, offs), offs)
+    (x, y), = (spot for ref, spot in there.solution.points.items() if str(ref) == "A.end")
+    assert (abs(x - 87_468_566) <= 1, abs(y - 50_500_000) <= 1) == (True, True)
+    assert len(heard.texts) == 1 and there.off_nm <= 2
+    heard.texts.clear()
+    offs = {3: Fraction(1, 2)}
+    asking.lying(moved(drawing, offs), offs)
+    assert len(heard.texts) == 1
