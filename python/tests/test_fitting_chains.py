@@ -468,3 +468,12 @@ def test_a_value_that_is_read_off_what_is_placed_is_read_off_each_case(program) 
                      "segment S -0.15 -0.88 1.3 31.77\npoint P 0.53 14.95\nmidpoint P S\n"
                      "length S 32.4 +-0.058\n", program)
     assert worst(half) == (16.171, 16.229) and half.answer is Answer.FITS
+
+
+@pytest.mark.parametrize("off, told", [("0.1", 0.4226), ("0.01", 0.423)])
+def test_a_sensitivity_has_the_digits_that_whole_nanometres_leave(off, told, program) -> None:
+    # sin 25 is 0.42262. Over 0.2 mm a change is known to 2 nm in 200,000, over 0.02 to 2 in 20,000.
+    (high,) = checks("check High y A.end 20 .. 22\nsegment A 0 0 45.3 21.1\n"
+                     "coincident A.start Origin\nangle A +25deg\n"
+                     f"length A 50 +-{off}\n", program)
+    assert high.shares[0].per_unit == told

@@ -9,10 +9,15 @@ from fractions import Fraction
 
 from pertxogai.fitting.gauges import Way
 from pertxogai.fitting.placing import Case, Placer, Unplaced
+from pertxogai.fitting.rounding import NOISE
 from pertxogai.fitting.toleranced import MILLIONTHS, Toleranced
 
 NEAR = Fraction(1, 16)
 """A dimension with which nothing is placed at an end of its tolerance is tried at this part too."""
+ROUNDED = 2
+"""Millionths by which a change of what is measured by `NOISE` may be rounded."""
+MOST_DIGITS = 9
+"""A sensitivity has at most this number of digits behind the point."""
 
 
 @dataclass(frozen=True)
@@ -60,12 +65,16 @@ class Effect:
         return Fraction(self.greatest + self.least, 2)
 
     def per_unit(self) -> float | None:
-        """The change of the check, in millimetres or degrees, for each millimetre or degree; None
-        where it turns round."""
+        """The change of the check, in millimetres or degrees, for each millimetre or degree, to as
+        many digits as the rounding of places leaves; None where it turns round."""
         if self.turn() is not None:
             return None
         unit = Fraction(1) if self.dimension.is_angle else Fraction(1, 1000)
-        return float(Fraction(self.spread, MILLIONTHS) / (self.dimension.width() * unit))
+        width = self.dimension.width() * unit * MILLIONTHS
+        rounding = Fraction(ROUNDED * self.noise, NOISE) / width
+        digits = next((each for each in range(MOST_DIGITS, 0, -1)
+                       if rounding <= Fraction(1, 2 * 10 ** each)), 0)
+        return round(float(self.spread / width), digits)
 
     def at(self, off: Fraction) -> Reading | None:
         """What was measured with the dimension so far off; None where it wasn't."""
