@@ -18,8 +18,9 @@ from pertxogai.fitting import Fit, NoFit, fit
 from pertxogai.fitting.gauges import Gauge
 from pertxogai.fitting.placing import Offs, Placer, Unplaced
 from pertxogai.fitting.toleranced import Dimensions, Toleranced, moved
-from pertxogai.judging import judge
+from pertxogai.judging import judge_at_once
 from pertxogai.judging.measure import Limit
+from pertxogai.judging.remembering import Remembering
 from pertxogai.program import Solver
 from plain_gauges import Plain
 
@@ -111,7 +112,7 @@ def tried(seed: int, corners: int, program: Solver) -> Tried | None:
     drawing = toleranced(seed)
     if drawing is None:
         return None
-    random = Random(seed)
+    random, program = Random(seed), Remembering(program)  # Some corners are asked for again.
     if not _has_corners(drawing, program, random):
         return Tried(False)
     found = fit(drawing, program)
@@ -203,7 +204,7 @@ class _Search:
         self.anew += 1
         by_number = {each.number: off for each, off in zip(self._dimensions, offs)}
         drawing = read_drawing(write_drawing(moved(self._found.drawing, by_number)))
-        solution = judge(drawing, self._program).solution
+        solution = judge_at_once(drawing, self._program).solution
         values = self._values(offs)
         assert solution is not None and values is not None, drawing
         plain = Plain(drawing, solution)
