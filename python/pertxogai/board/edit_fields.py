@@ -19,7 +19,17 @@ from pertxogai.drawing import Drawing, Place
 def read_edit(drawing: Drawing, given: Fields) -> Edit:
     """The edit that an object tells by its `do`. Raises FieldRefused, and WordFault where it
     names what doesn't stand."""
-    match given.text("do"):
+    word = given.text("do")
+    for read in (_of_points, _of_shapes, _of_constraints, _of_names, _copies):
+        edit = read(word, drawing, given)
+        if edit is not None:
+            return edit
+    raise FieldRefused(f"{word!r} is no edit of the board")
+
+
+def _of_points(word: str, drawing: Drawing, given: Fields) -> Edit | None:
+    """An edit that draws, or moves what is drawn; None for another."""
+    match word:
         case "draw":
             return _draw(drawing, given)
         case "move":
@@ -27,9 +37,31 @@ def read_edit(drawing: Drawing, given: Fields) -> Edit:
         case "shift":
             points = tuple(point_of(drawing.scene, each) for each in given.texts("points"))
             return Shift(given.texts("shapes"), points, given.um("dx"), given.um("dy"))
+        case _:
+            return None
+
+
+def _of_shapes(word: str, drawing: Drawing, given: Fields) -> Edit | None:
+    """An edit that changes shapes, or takes some away; None for another."""
+    match word:
         case "erase":
             return Erase(given.texts("shapes"), given.wholes("constraints"),
                          given.wholes("references"))
+        case "construction":
+            return Construction(given.texts("shapes"), given.flag("construction"))
+        case "corner":
+            return _corner(given)
+        case "trim":
+            return Trim(given.text("shape"), Place(given.um("x"), given.um("y")))
+        case "extend":
+            return Extend(given.text("shape"), Place(given.um("x"), given.um("y")))
+        case _:
+            return None
+
+
+def _of_constraints(word: str, drawing: Drawing, given: Fields) -> Edit | None:
+    """An edit that asks for constraints, or changes one; None for another."""
+    match word:
         case "ask":
             return Ask(given.texts("words"),
                        given.text("value") if given.has("value") else None,
@@ -43,6 +75,13 @@ def read_edit(drawing: Drawing, given: Fields) -> Edit:
             return Lines(given.texts("lines"))
         case "value":
             return Value(given.whole("number"), given.text("value"))
+        case _:
+            return None
+
+
+def _of_names(word: str, drawing: Drawing, given: Fields) -> Edit | None:
+    """An edit of names, or of named values; None for another."""
+    match word:
         case "set-value":
             return SetValue(given.text("name"), given.text("expression"))
         case "drop-value":
@@ -51,35 +90,29 @@ def read_edit(drawing: Drawing, given: Fields) -> Edit:
             return Call(given.whole("number"), given.text("name"))
         case "rename":
             return Rename(given.text("old"), given.text("new"))
-        case "construction":
-            return Construction(given.texts("shapes"), given.flag("construction"))
-        case "corner":
-            return _corner(given)
-        case "trim":
-            return Trim(given.text("shape"), Place(given.um("x"), given.um("y")))
-        case "extend":
-            return Extend(given.text("shape"), Place(given.um("x"), given.um("y")))
         case _:
-            return _copies(drawing, given)
+            return None
 
 
-def _copies(drawing: Drawing, given: Fields) -> Edit:
-    """An edit that draws some shapes again."""
-    shapes = given.texts("shapes")
-    match given.text("do"):
+def _copies(word: str, drawing: Drawing, given: Fields) -> Edit | None:
+    """An edit that draws some shapes again; None for another."""
+    match word:
         case "mirror":
-            return Mirror(shapes, given.text("about"))
+            return Mirror(given.texts("shapes"), given.text("about"))
         case "row":
-            return Row(shapes, given.um("dx"), given.um("dy"), given.whole("count"))
+            return Row(given.texts("shapes"), given.um("dx"), given.um("dy"),
+                       given.whole("count"))
         case "ring":
-            return Ring(shapes, spot_of(drawing.scene, given.single("about")),
+            return Ring(given.texts("shapes"), spot_of(drawing.scene, given.single("about")),
                         given.whole("count"))
         case "offset":
-            return Offset(shapes, given.text("size"), Place(given.um("x"), given.um("y")))
+            return Offset(given.texts("shapes"), given.text("size"),
+                          Place(given.um("x"), given.um("y")))
         case "paste":
-            return Paste(given.text("source"), shapes, given.um("dx"), given.um("dy"))
-        case other:
-            raise FieldRefused(f"{other!r} is no edit of the board")
+            return Paste(given.text("source"), given.texts("shapes"), given.um("dx"),
+                         given.um("dy"))
+        case _:
+            return None
 
 
 def _draw(drawing: Drawing, given: Fields) -> Draw:
