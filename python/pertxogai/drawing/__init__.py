@@ -23,9 +23,6 @@ from pertxogai.drawing.soundness import checked, ends_made_one, faults
 from pertxogai.drawing.tolerances.check import Check, Tolerancing
 from pertxogai.drawing.tolerances.iso2768 import GeneralTolerance, Grade
 from pertxogai.drawing.tolerances.tolerance import Tolerance
-from pertxogai.drawing.values.expression import Expression
-from pertxogai.drawing.values.parameters import Dimension, NamedValue, Parameter, Unit, parameters
-from pertxogai.drawing.values.parsing import read_expression
 from pertxogai.drawing.values.quantity import Quantity
 from pertxogai.drawing.values.reckoning import (
     ReckonedValue, reckoned_values, rounded_roots, with_values)
@@ -48,7 +45,16 @@ __all__ = ["Anchor", "AngleBetween", "AngleValue", "Arc", "Axis", "Check", "Circ
            "reckoned_values", "rectangle", "rounded_roots", "run_um", "spot_of", "touch", "turn",
            "um_of_mm", "value_text", "way", "with_values", "words_of", "write_drawing"]
 
-if not TYPE_CHECKING:
+if TYPE_CHECKING:
+    from pertxogai.drawing.values.expression import Expression
+    from pertxogai.drawing.values.parameters import (
+        Dimension, NamedValue, Parameter, Unit, parameters)
+    from pertxogai.drawing.values.parsing import read_expression
+else:
     from pertxogai._former import former_names
+    from pertxogai._later import handed_on
 
-    __getattr__ = former_names("drawing")
+    __getattr__, __dir__ = handed_on(__name__, {
+        ".values.expression": "Expression",
+        ".values.parameters": "Dimension NamedValue Parameter Unit parameters",
+        ".values.parsing": "read_expression"}, former_names("drawing"))

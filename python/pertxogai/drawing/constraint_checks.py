@@ -3,7 +3,7 @@
 from __future__ import annotations
 
 from fractions import Fraction
-from typing import assert_never
+from typing import TYPE_CHECKING, assert_never
 
 from pertxogai.drawing.checks import (
     MOST_UM, check_line, check_point, check_rim, check_size, is_rim, standing)
@@ -19,8 +19,10 @@ from pertxogai.drawing.numbers import (
 from pertxogai.drawing.references import DATUM_NAMES, Pair, PointRef, ShapeRef, Which
 from pertxogai.drawing.refusal import WordFault
 from pertxogai.drawing.tolerances.tolerance import read_tolerance, split_tolerance
-from pertxogai.drawing.values.expression import Expression
 from pertxogai.exact import whole_up
+
+if TYPE_CHECKING:
+    from pertxogai.drawing.values.expression import Expression
 
 
 def check_constraint(scene: NamedShapes, constraint: Constraint) -> None:

@@ -15,10 +15,13 @@ from __future__ import annotations
 from dataclasses import dataclass, field
 from enum import Enum
 from fractions import Fraction
+from typing import TYPE_CHECKING
 
 from pertxogai.drawing.references import Pair, PointRef, ShapeRef
 from pertxogai.drawing.tolerances.tolerance import Tolerance
-from pertxogai.drawing.values.expression import Expression
+
+if TYPE_CHECKING:  # Few drawings have any.
+    from pertxogai.drawing.values.expression import Expression
 
 
 class Sense(Enum):

@@ -6,16 +6,19 @@ from __future__ import annotations
 import re
 from dataclasses import dataclass
 from fractions import Fraction
+from typing import TYPE_CHECKING
 
 from pertxogai.drawing.constraints import AngleValue, Degrees, Ratio, Sense
 from pertxogai.drawing.names import nearest
 from pertxogai.drawing.places import UM_PER_MM
 from pertxogai.drawing.refusal import WordFault
 from pertxogai.drawing.tolerances.tolerance import Tolerance
-from pertxogai.drawing.values.expression import Expression, Function
-from pertxogai.drawing.values.parsing import NAME, read_expression
 from pertxogai.drawing.values.quantity import Misfit
 from pertxogai.drawing.values.table import Values
+from pertxogai.drawing.values.words import NAME, Function
+
+if TYPE_CHECKING:
+    from pertxogai.drawing.values.expression import Expression
 
 MOST_MM = 1_000_000
 """No coordinate, length or radius is greater, in millimetres, as in the language."""
@@ -86,7 +89,7 @@ def read_length(text: str, values: Values) -> WrittenLength:
         return WrittenLength(read_um(text), _sense(has_sign(text)))
     _check_name(text, values, "is no number and no value: write millimetres, such as 12.5, or a "
                               f"line such as `value {text} 12.5`")
-    expression = read_expression(text)
+    expression = _read_expression(text)
     return WrittenLength(um_of(expression, values), _sense(expression.has_sign), expression)
 
 
@@ -96,9 +99,15 @@ def read_written_angle(text: str, values: Values) -> WrittenAngle:
         return WrittenAngle(read_angle(text), _sense(has_sign(text)))
     _check_name(text, values, "is no angle and no value: write degrees, such as 60deg, a ratio, "
                               f"such as 1/2, or a line such as `value {text} 60deg`")
-    expression = read_expression(text)
+    expression = _read_expression(text)
     degrees = Degrees(degrees_of(expression, values))
     return WrittenAngle(degrees, _sense(expression.has_sign), expression)
+
+
+def _read_expression(text: str) -> Expression:
+    from pertxogai.drawing.values.parsing import read_expression  # Few drawings have any.
+
+    return read_expression(text)
 
 
 def _check_name(text: str, values: Values, what: str) -> None:

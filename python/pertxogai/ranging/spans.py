@@ -10,7 +10,8 @@ from pertxogai.drawing import VALUED, AngleBetween, Drawing, Sense
 from pertxogai.drawing.constraints import Valued
 from pertxogai.drawing.numbers import MOST_MM
 from pertxogai.drawing.values.expression import (
-    Call, Expression, Function, Name, Negative, Node, Number, Product, Sum)
+    Call, Expression, Name, Negative, Node, Number, Product, Sum)
+from pertxogai.drawing.values.words import Function
 
 Span: TypeAlias = tuple[Fraction, Fraction]
 """The least and the greatest number."""

@@ -5,6 +5,7 @@ from __future__ import annotations
 from collections.abc import Iterable
 from dataclasses import dataclass, replace
 from fractions import Fraction
+from typing import TYPE_CHECKING
 
 from pertxogai.drawing.constraint_checks import check_constraint
 from pertxogai.drawing.constraint_lines import ConstraintWord, read_constraints
@@ -16,10 +17,11 @@ from pertxogai.drawing.names import check_shape_name
 from pertxogai.drawing.numbers import degrees_of, um_of
 from pertxogai.drawing.refusal import WordFault
 from pertxogai.drawing.tolerances.iso2768 import GeneralTolerance
-from pertxogai.drawing.values.expression import Expression
-from pertxogai.drawing.values.parsing import read_expression
 from pertxogai.drawing.values.table import Values
 from pertxogai.drawing.wording import asked_of
+
+if TYPE_CHECKING:
+    from pertxogai.drawing.values.expression import Expression
 
 WORD = "check"
 UP_TO = ".."
@@ -125,6 +127,8 @@ def _parts(scene: NamedShapes,
 
 
 def _limit(words: list[str]) -> Expression | None:
+    from pertxogai.drawing.values.parsing import read_expression
+
     return read_expression(" ".join(words)) if words else None
 
 

@@ -4,22 +4,14 @@ from __future__ import annotations
 
 from collections.abc import Callable, Iterator
 from dataclasses import dataclass, field
-from enum import Enum
 from functools import cached_property, partial
 
 from pertxogai.drawing.refusal import WordFault
 from pertxogai.drawing.values.quantity import Misfit, Quantity, greatest, least
+from pertxogai.drawing.values.words import Function
 
 LookUp = Callable[[str], Quantity]
 """What the value of a name comes to. Raises WordFault where none has that name."""
-
-
-class Function(Enum):
-    """The functions; the values are their words."""
-
-    MIN = "min"
-    MAX = "max"
-    SQRT = "sqrt"
 
 
 @dataclass(frozen=True)

@@ -6,7 +6,6 @@ from collections.abc import Iterable, Sequence
 from dataclasses import dataclass
 
 from pertxogai.drawing.refusal import WordFault
-from pertxogai.drawing.values.parsing import read_expression
 from pertxogai.drawing.values.table import Value, Values, check_value_name
 
 WORD = "value"
@@ -26,6 +25,8 @@ def read_value(words: Sequence[str], called: str | None = None) -> Value:
     if len(words) == 2:
         raise WordFault(words[1], "has no value: write a number behind it, such as "
                                   f"{WORD} {words[1]} 120")
+    from pertxogai.drawing.values.parsing import read_expression
+
     return Value(words[1], read_expression(" ".join(words[2:])))
 
 

@@ -10,23 +10,19 @@ from fractions import Fraction
 
 from pertxogai.drawing.refusal import WordFault
 from pertxogai.drawing.values.expression import (
-    Call, Expression, Function, Name, Negative, Node, Number, Product, Sum)
+    Call, Expression, Name, Negative, Node, Number, Product, Sum)
 from pertxogai.drawing.values.quantity import Quantity
+from pertxogai.drawing.values.words import NAME, RESERVED, UNITS, Function
 
 MOST_DEPTH = 20
 """No brackets stand deeper in one another, and no more signs stand behind one another."""
 
-UNITS = {"mm": Quantity(Fraction(1), length=1), "in": Quantity(Fraction(127, 5), length=1),
-         "deg": Quantity(Fraction(1), angle=1), "°": Quantity(Fraction(1), angle=1)}
+_ONE = dict(zip(UNITS, (
+    Quantity(Fraction(1), length=1), Quantity(Fraction(127, 5), length=1),
+    Quantity(Fraction(1), angle=1), Quantity(Fraction(1), angle=1)), strict=True))
 """What one of each unit is."""
 
 _FUNCTIONS = {each.value: each for each in Function}
-RESERVED = frozenset(UNITS) | frozenset(_FUNCTIONS)
-"""The words of expressions, so no value is called so."""
-
-NAME = r"[^\W\d]\w*"
-"""How the name of a value is written."""
-
 _TOKEN = re.compile(rf"(?P<blank> *)(?:(?P<number>[0-9.][0-9.]*)|(?P<name>{NAME})"
                     r"|(?P<sign>[-+−*/×·÷(),°])|(?P<other>.))")
 _NUMBER = re.compile(r"[0-9]{1,7}(?:\.[0-9]{1,20})?\Z")
@@ -125,9 +121,9 @@ class _Parser:
             raise WordFault(token.text, "is no number: write one to seven digits, and up to twenty "
                                         "behind a point")
         one = Quantity(Fraction(1))
-        if unit is not None and unit.text in UNITS:
+        if unit is not None and unit.text in _ONE:
             self._taken += 1
-            one = UNITS[unit.text]
+            one = _ONE[unit.text]
         elif unit is not None and unit.kind == "name" and not unit.behind_blank:
             raise WordFault(token.text + unit.text, "has a unit that isn't read: write mm, in or "
                                                     "deg")

@@ -4,15 +4,18 @@ from __future__ import annotations
 
 from collections.abc import Iterator, Mapping
 from dataclasses import dataclass, replace
+from typing import TYPE_CHECKING
 
 from pertxogai.drawing.constraint_checks import check_constraint
 from pertxogai.drawing.constraints import VALUED, AngleBetween, Constraint, Degrees, Valued
 from pertxogai.drawing.drawing import Drawing
 from pertxogai.drawing.numbers import degrees_of, um_of
 from pertxogai.drawing.refusal import DrawingUnsound, WordFault
-from pertxogai.drawing.values.expression import Expression
-from pertxogai.drawing.values.quantity import Quantity
 from pertxogai.drawing.values.table import ValueFault, Values
+
+if TYPE_CHECKING:
+    from pertxogai.drawing.values.expression import Expression
+    from pertxogai.drawing.values.quantity import Quantity
 
 
 @dataclass(frozen=True)

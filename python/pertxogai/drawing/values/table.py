@@ -5,12 +5,15 @@ from __future__ import annotations
 import re
 from collections.abc import Iterable, Mapping
 from dataclasses import dataclass
+from typing import TYPE_CHECKING
 
 from pertxogai.drawing.names import check_shape_name, nearest
 from pertxogai.drawing.refusal import WordFault
-from pertxogai.drawing.values.expression import Expression
-from pertxogai.drawing.values.parsing import NAME, RESERVED
-from pertxogai.drawing.values.quantity import Quantity
+from pertxogai.drawing.values.words import NAME, RESERVED
+
+if TYPE_CHECKING:
+    from pertxogai.drawing.values.expression import Expression
+    from pertxogai.drawing.values.quantity import Quantity
 
 MOST_VALUES = 1_000
 """No text has more values."""
