@@ -18,15 +18,14 @@ from pertxogai.judging.within import within
 from pertxogai.language import Refusal
 from pertxogai.program import Solver, Status
 from pertxogai.program.reports import (
-    CheckReport, Fault, NotAReport, Part, Refused, Solved, Verdict, read_answer, read_check,
-    read_fault, read_parts)
+    CheckReport, NotAReport, Part, Refused, Solved, Verdict, read_answer, read_check)
 from pertxogai.spelling import Axes, Care, Interpretation, Rails, Spelled, Style, readings, written
 from pertxogai.spelling.axes import Equation
 from pertxogai.spelling.facts import Knot, Owner
 from pertxogai.spelling.writing import Contradiction
 
-if TYPE_CHECKING:  # Few drawings need a plan.
-    from pertxogai.program.reports import Plan
+if TYPE_CHECKING:  # Few drawings have a fault, or need a plan.
+    from pertxogai.program.reports import Fault, PartsReport, Plan
 
 ROUNDS = 80
 """The most values that are read off placed parts."""
@@ -222,8 +221,7 @@ def _grow(asked: Trial, program: Solver, care: Care) -> Trial | None:
     over, of a few; None where there is none."""
     from pertxogai.judging.from_parts import growths
 
-    text = asked.spelled.sketch.text()
-    parts = read_parts(written_by(program, "parts", text, within(asked.spelled)))
+    parts = _parts(program, asked.spelled, within(asked.spelled))
     found: Trial | None = None
     for more in islice(growths(asked.axes, asked.rails, asked.spelled, parts), GROWTHS):
         rails = Rails(more.axes, asked.spelled.style)
@@ -256,11 +254,17 @@ def _off(question: Question, asked: Trial) -> tuple[Contradiction, ...]:
 
     for place in PlaceBy:
         keys = f"place={place.value}", within(asked.spelled)
-        text = asked.spelled.sketch.text()
-        report = read_parts(written_by(question.program, "parts", text, *keys))
+        report = _parts(question.program, asked.spelled, *keys)
         if asked.verdict is Verdict.OPEN or isinstance(report.parts[0].shape, Solved):
             return contradictions(asked.rails, asked.spelled, report, question.limit)
     return tuple(too_many(question.drawing, asked.spelled))
+
+
+def _parts(program: Solver, spelled: Spelled, *keys: str) -> PartsReport:
+    """What `parts` says of a spelling."""
+    from pertxogai.program.reports import read_parts
+
+    return read_parts(written_by(program, "parts", spelled.sketch.text(), *keys))
 
 
 def written_by(program: Solver, command: str, text: str, *keys: str) -> str:
@@ -282,6 +286,8 @@ def _solve(program: Solver, spelled: Spelled, place: PlaceBy) -> CheckReport | S
     words = "solve", f"place={place.value}", within(spelled)
     answer = program.ask(words, spelled.sketch.text())
     if answer.status in (Status.FAULT, Status.TOLERANCE):
+        from pertxogai.program.reports import read_fault
+
         return read_fault(answer.text)
     report = read_answer(words, answer)
     if isinstance(report, Refused):

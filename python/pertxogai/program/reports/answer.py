@@ -8,8 +8,6 @@ from typing import TYPE_CHECKING
 from pertxogai.language.refusal import Refusal
 from pertxogai.language.sketch import Sketch
 from pertxogai.program.reports.check import read_check
-from pertxogai.program.reports.faults import TurnedFault, read_fault
-from pertxogai.program.reports.refused import read_refusal, read_usage
 from pertxogai.program.reports.rows import NotAReport
 from pertxogai.program.running import Answer, Status
 
@@ -64,17 +62,24 @@ def read_answer(words: Sequence[str], answer: Answer) -> Report:
     status, command = answer.status, words[0] if words else ""
     if status in _WHAT:
         raise NoAnswer(answer)
-    if status is Status.REFUSED:
-        return read_refusal(answer.text)
-    if status is Status.USAGE:
-        return read_usage(answer.text)
+    if status in (Status.REFUSED, Status.USAGE):
+        return _refused(status, answer.text)
     if status is Status.NOT_WELL:
         return _not_well(command, answer.text)
     if command == "measure":
         return _read_measured(answer)
     if status in (Status.FAULT, Status.TOLERANCE):
+        from pertxogai.program.reports.faults import read_fault
+
         return read_fault(answer.text)
     return _report(command, answer.text)
+
+
+def _refused(status: Status, text: str) -> Report:
+    """Why a text, or the words of the command, are refused."""
+    from pertxogai.program.reports.refused import read_refusal, read_usage
+
+    return read_refusal(text) if status is Status.REFUSED else read_usage(text)
 
 
 def _not_well(command: str, text: str) -> Report:
@@ -88,6 +93,7 @@ def _not_well(command: str, text: str) -> Report:
 
 def _read_measured(answer: Answer) -> Measured | Unplaced:
     """What `measure` says, which fits its status."""
+    from pertxogai.program.reports.faults import TurnedFault
     from pertxogai.program.reports.measured import Unplaced, read_measure
 
     told = read_measure(answer.text)

@@ -4,9 +4,12 @@ from __future__ import annotations
 import re
 from collections.abc import Iterator
 from contextlib import contextmanager
+from typing import TYPE_CHECKING
 
-from pertxogai.language.clusters import ClusterName
 from pertxogai.program.errors import ProgramSpoke
+
+if TYPE_CHECKING:
+    from pertxogai.language.clusters import ClusterName
 
 NAME = r"[A-Za-z][A-Za-z0-9_]{0,15}"
 COUNT = r"(?:0|[1-9][0-9]*)"
@@ -82,4 +85,6 @@ def whole(text: str, what: str) -> Iterator[Rows]:
 
 def cluster(word: str) -> ClusterName:
     """The cluster of a word that is one's name."""
+    from pertxogai.language.clusters import ClusterName  # What is placed names none.
+
     return ClusterName(word[0] == "s", int(word[1:]))
