@@ -54,7 +54,8 @@ def main(words: Sequence[str] | None = None) -> int:
     """Does what the words ask for, and returns the exit status."""
     if isinstance(sys.stdout, io.TextIOWrapper):
         sys.stdout.reconfigure(errors="backslashreplace")
-    options = command_line().parse_args(words)
+    words = sys.argv[1:] if words is None else words
+    options = command_line(*words[:1]).parse_args(words)
     act: Callable[[argparse.Namespace], Exit] = options.act
     try:
         return act(options)
@@ -76,8 +77,8 @@ def _complain(error: Exception | str, status: Exit) -> Exit:
     return status
 
 
-def command_line() -> argparse.ArgumentParser:
-    """The reader of the words of all commands."""
+def command_line(command: str | None = None) -> argparse.ArgumentParser:
+    """The reader of the words of all commands, or of one alone, which is made quicker."""
     parser = argparse.ArgumentParser(
         prog="pertxogai",
         epilog=EPILOG,
@@ -85,15 +86,11 @@ def command_line() -> argparse.ArgumentParser:
     )
     parser.add_argument("--version", action="version", version=f"pertxogai {__version__}")
     commands = parser.add_subparsers(dest="command", required=True, metavar="COMMAND")
-    _add_judge(commands)
-    _add_watch(commands)
-    _add_draw(commands)
-    _add_complete(commands)
-    _add_range(commands)
-    _add_family(commands)
-    _add_fit(commands)
-    _add_certify(commands)
-    add_page(commands)
+    adders = {"judge": _add_judge, "watch": _add_watch, "draw": _add_draw,
+              "complete": _add_complete, "range": _add_range, "family": _add_family,
+              "fit": _add_fit, "certify": _add_certify, "page": add_page}
+    for add in [adders[command]] if command in adders else adders.values():
+        add(commands)
     return parser
 
 
