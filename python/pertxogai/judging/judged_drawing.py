@@ -7,15 +7,15 @@ from typing import TYPE_CHECKING
 
 from pertxogai.drawing import Drawing
 from pertxogai.judging.departures import Warned, warnings
-from pertxogai.judging.finding import Finding, Nearly, PlacesBy
 from pertxogai.judging.judgement import CountedJudgement, Judgement
 from pertxogai.judging.measure.deviation import Deviation, Unit, greatest
 from pertxogai.judging.measure.limit import Limit
 from pertxogai.judging.measure.solution import Solution
 from pertxogai.judging.printed import is_tied
 
-if TYPE_CHECKING:  # It is imported where the stored places are measured.
+if TYPE_CHECKING:  # Each is imported where it is found: few drawings have any.
     from pertxogai.judging.as_stored import StoredOffs
+    from pertxogai.judging.finding import Finding, Nearly, PlacesBy
 
 
 @dataclass(frozen=True)
@@ -60,6 +60,8 @@ class JudgedDrawing:
 
     def places_by(self) -> PlacesBy | None:
         """Where these positions come from."""
+        from pertxogai.judging.finding import PlacesBy
+
         if self.judgement.solution is not None:
             return PlacesBy.PROGRAM
         return self.finding.places_by if self.finding else None

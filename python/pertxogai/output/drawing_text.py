@@ -10,7 +10,6 @@ from pertxogai.judging.measure import Unit, amount_text
 from pertxogai.judging.measure.limit import units_text
 from pertxogai.judging.naming import listed, quoted, with_words
 from pertxogai.judging.states import WithPlaces
-from pertxogai.output.finding_text import finding_lines, freedoms_text
 from pertxogai.output.values_text import values_lines
 from pertxogai.output.verdict_text import verdict_text
 from pertxogai.program.called import COMMAND
@@ -63,7 +62,11 @@ def drawing_lines(judged: CountedDrawing) -> Iterator[str]:
 def _headline(judged: CountedDrawing) -> str:
     """The verdict, and what is counted."""
     judgement, check = judged.judgement, judged.judgement.asked.check
-    freedoms = f", {freedoms_text(judged.finding)}" if judged.finding else ""
+    freedoms = ""
+    if judged.finding is not None:
+        from pertxogai.output.finding_text import freedoms_text
+
+        freedoms = f", {freedoms_text(judged.finding)}"
     return (f"{judged.name}: {verdict_text(judgement.verdict)}{freedoms}, "
             f"encoding {judgement.style.value}, elements {check.elements}, "
             f"constraints {check.constraints}, rigid clusters {len(check.parts)}")
@@ -92,8 +95,16 @@ def _places_lines(judged: CountedDrawing) -> Iterator[str]:
     """Where it is placed, and why it isn't."""
     yield from _placed_lines(judged)
     yield from _advice_on_lacks(judged)
-    yield from finding_lines(judged)
+    yield from _finding_lines(judged)
     yield from _failure_lines(judged)
+
+
+def _finding_lines(judged: CountedDrawing) -> Iterator[str]:
+    """What the search has found, or why it wasn't made."""
+    if judged.finding is not None or judged.not_searched:
+        from pertxogai.output.finding_text import finding_lines
+
+        yield from finding_lines(judged)
 
 
 def _open_lines(judged: CountedDrawing) -> Iterator[str]:
