@@ -15,6 +15,7 @@ from pertxogai.judging import DepartureKind, DrawingRefused, Then, Tie, judge
 from pertxogai.judging.as_drawn import frozen_choices
 from pertxogai.judging.departures import warnings
 from pertxogai.judging.faults import Unit as Measure
+from pertxogai.judging.freedoms import freedoms
 from pertxogai.judging.measure import Limit, Solution, Unit
 from pertxogai.judging.missing import DIMENSIONS
 from pertxogai.judging.judged_drawing import JudgedDrawing
@@ -326,6 +327,31 @@ def test_an_edge_that_came_to_nothing_is_warned_of(program, radius, gone):
             f"radius Round {radius}\ndistance Round Flat 7\n")
     found = judge(read_drawing(text), program)
     assert [(each.departure, each.shapes) for each in found.warnings] == gone
+
+
+@pytest.mark.parametrize("given", [
+    # What is given from outside is given once, whichever shapes share its points.
+    "outer segment Base 0 0 40 0\nouter segment Side Base.start 0 40\n",
+    "outer segment Base Origin 40 0\nouter segment Side Origin 0 40\n",
+    "outer point Corner 0 0\nouter segment Base Corner 40 0\nouter segment Side 0 40 Corner\n",
+    # An arc's end that an edge has before it, and one that an edge has after it.
+    "outer segment Base 0 0 40 0\nouter segment Side 0 0 0 40\nouter arc Round 0 0 Base.end Side.end\n",
+    "outer arc Round 0 0 40 0 0 40\nouter segment Base Round.centre Round.start\n"
+    "outer segment Side Round.end Round.centre\n",
+])
+def test_outer_shapes_that_share_their_points_say_nothing_twice(program, given):
+    # By hand: the hole of radius 10 touches both edges, so its centre is 10 from each.
+    text = given + "circle Hole 12 11 9\ntangent Base Hole\ntangent Side Hole\nradius Hole 10\n"
+    found, free = judge(read_drawing(text), program), freedoms(read_drawing(text))
+    assert found.verdict is Verdict.WELL and not (found.left_out or found.repeats)
+    assert found.solution.spot(PointRef("Hole", Which.CENTRE)) == (10_000_000, 10_000_000)
+    assert (free.lacks, free.excess, free.whole.ways) == (0, 0, 0)
+
+
+def test_a_constraint_that_joins_what_is_given_apart_contradicts(program):
+    text = ("outer segment Base 0 0 40 0\nouter segment Side 0 1 0 40\n"
+            "coincident Side.start Base.start\npoint P 20 20\nx P 20\ny P 20\n")
+    assert judge(read_drawing(text), program).verdict is Verdict.OVER
 
 
 @pytest.mark.parametrize(("x", "told"), [

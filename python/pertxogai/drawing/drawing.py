@@ -14,7 +14,7 @@ from pertxogai.drawing.geometry import Datum, Shape
 from pertxogai.drawing.meetings import Meetings
 from pertxogai.drawing.named_shapes import NamedShapes, points_of, shares, spot_of
 from pertxogai.drawing.places import Place
-from pertxogai.drawing.references import Pair, PointRef
+from pertxogai.drawing.references import ORIGIN, Pair, PointRef
 from pertxogai.drawing.tolerances.check import Tolerancing
 from pertxogai.drawing.values.table import Value, Values
 from pertxogai.drawing.wording import words_of
@@ -113,3 +113,16 @@ class Drawing:
         spots = ((ref, spot_of(shape, ref.which)) for shape in self.geometry if shares(shape)
                  for ref in points_of(shape))
         return tuple(Pair(ref, spot) for ref, spot in spots if isinstance(spot, PointRef))
+
+    @cached_on
+    def given(self) -> frozenset[PointRef]:
+        """The points that are given from outside, each once: of those that outer shapes share, that
+        of the first; none that is the origin."""
+        earlier = {pair.first: pair.second for pair in self.shared()}
+        found = {ORIGIN: ORIGIN}
+        for ref in (ref for shape in self.geometry if shape.outer for ref in points_of(shape)):
+            spot = ref
+            while spot in earlier:
+                spot = earlier[spot]
+            found.setdefault(spot, ref)
+        return frozenset(found.values()) - {ORIGIN}

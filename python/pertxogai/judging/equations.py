@@ -5,7 +5,7 @@ The unknowns are the coordinates of each point that isn't shared with an earlier
 of circles."""
 from __future__ import annotations
 
-from collections.abc import Iterator, Sequence
+from collections.abc import Collection, Iterator, Sequence
 from dataclasses import dataclass
 from fractions import Fraction
 from functools import cached_property
@@ -159,13 +159,13 @@ class Plane(Generic[N]):
         """What the shapes ask: both ends of an arc lie on its circle, and what is given from
         outside lies where it is drawn."""
         for number, shape in enumerate(self.drawing.geometry, 1):
-            owner = Owner(number, True)
-            if isinstance(shape, Arc):
+            owner, given = Owner(number, True), self.drawing.given()
+            if isinstance(shape, Arc) and not (shape.outer and points_of(shape)[2] not in given):
                 arc = ShapeRef(shape.name)
                 last = between(self.centre(arc), self.ends(arc)[1])
                 yield owner, self.size(last) - self.radius(arc)
             if shape.outer:
-                yield from ((owner, jet) for jet in self._stays(shape))
+                yield from ((owner, jet) for jet in self._stays(shape, given))
 
     def asked(self, constraint: Constraint) -> list[Jet[N]]:
         """What a constraint asks."""
@@ -315,14 +315,15 @@ class Plane(Generic[N]):
             return
         shape = self.drawing.shape(what.name)
         if not isinstance(shape, (Origin, Axis)):
-            yield from self._stays(shape)
+            yield from self._stays(shape, points_of(shape))
 
-    def _stays(self, shape: Shape) -> Iterator[Jet[N]]:
-        """That a shape lies where it is drawn: of an arc the last radius has its direction."""
+    def _stays(self, shape: Shape, stay: Collection[PointRef]) -> Iterator[Jet[N]]:
+        """That a shape lies where it is drawn by these of its points: of an arc the last radius has
+        its direction."""
         refs = points_of(shape)
         for ref in refs[:2]:
-            yield from self._stays_at(ref)
-        if isinstance(shape, Arc):
+            yield from self._stays_at(ref) if ref in stay else ()
+        if isinstance(shape, Arc) and refs[2] in stay:
             arc = ShapeRef(shape.name)
             way = between(self.centre(arc), self.ends(arc)[1])
             wanted = between(*(self._drawn_way(ref) for ref in (refs[0], refs[2])))

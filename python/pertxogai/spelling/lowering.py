@@ -1,6 +1,7 @@
 """The facts that each word of a designer says."""
 from __future__ import annotations
 
+from collections.abc import Collection
 from dataclasses import replace
 from fractions import Fraction
 from math import atan2, cos, hypot, pi, sin, sqrt
@@ -121,21 +122,23 @@ class _Lowering:
             case Segment(name):
                 self.facts.own[ShapeRef(name)] = self._ends(name)
             case Arc(name):
-                for end in dict.fromkeys(self._ends(name)):
+                ends = self._ends(name)
+                is_given = shape.outer and PointRef(name, Which.END) not in self.drawing.given()
+                for end in dict.fromkeys(ends[:1] if is_given else ends):
                     self._apart(self._centre(ShapeRef(name)), end, Form.of(RadiusOf(name)), owner)
         if shape.outer:
-            self._stays(shape, owner)
+            self._stays(shape, self.drawing.given(), owner)
 
-    def _stays(self, shape: Shape, owner: Owner) -> None:
-        """A shape from outside, or a fixed one: its points where they are drawn, and its
+    def _stays(self, shape: Shape, refs: Collection[PointRef], owner: Owner) -> None:
+        """A shape from outside, or a fixed one: these of its points where they are drawn, and its
         radius."""
-        refs = points_of(shape)
-        if isinstance(shape, Arc):
-            refs = refs[:2]
+        points = points_of(shape)
+        if isinstance(shape, Arc) and points[2] in refs:
             line = self._through(self._centre(ShapeRef(shape.name)), self._ends(shape.name)[1])
             self._say(Leans(X_AXIS, line, self._lean_of(shape), owner))
-        for ref in refs:
-            self._stays_at(ref, owner)
+        for ref in points[:2]:
+            if ref in refs:
+                self._stays_at(ref, owner)
         if isinstance(shape, Circle):
             self._size(Form.of(RadiusOf(shape.name)), shape.radius_um, owner)
 
@@ -345,7 +348,7 @@ class _Lowering:
         if isinstance(what, ShapeRef):
             shape = self.drawing.shape(what.name)
             if not isinstance(shape, (Origin, Axis)):
-                self._stays(shape, owner)
+                self._stays(shape, points_of(shape), owner)
             return
         self._stays_at(what, owner)
 

@@ -36,13 +36,17 @@ class Ruler:
     def implied(self, at: Plane) -> list[Row]:
         """What the shapes ask by themselves: an arc's end lies on its circle, and what is given
         from outside where it is drawn."""
-        found = []
+        found, given = [], {"Origin"}
         for shape in at.sheet.shapes.values():
-            if shape.kind == "arc":
+            if shape.kind == "arc" and not shape.outer:
                 found.append(Row(_apart(at, f"{shape.name}.centre", f"{shape.name}.end")
                                  - at.radius(shape.name)))
             if shape.outer:
-                found += _fixed(self, at, Word("fixed", (shape.name,), None, -1))
+                points = [each for each in shape.points() if at.sheet.unknown[each] not in given]
+                given |= {at.sheet.unknown[each] for each in points}
+                found += [row for point in points for row in _stays(self, at, point)]
+                if shape.kind == "circle":
+                    found.append(Row(at.radius(shape.name) - self.drawn.radius(shape.name)))
         return found
 
 
@@ -185,12 +189,16 @@ def _midpoint(_: Ruler, at: Plane, word: Word) -> list[Row]:
     return [Row(part) for part in between(middle, at.spot(point))]
 
 
+def _stays(ruler: Ruler, at: Plane, point: str) -> list[Row]:
+    """A point lies where it is drawn."""
+    return [Row(part) for part in between(ruler.drawn.spot(point), at.spot(point))]
+
+
 def _fixed(ruler: Ruler, at: Plane, word: Word) -> list[Row]:
     name = word.names[0]
     shape = at.sheet.shapes.get(name)
     points = (name,) if shape is None or shape.kind == "point" else shape.points()
-    found = [Row(part) for point in points
-             for part in between(ruler.drawn.spot(point), at.spot(point))]
+    found = [row for point in points for row in _stays(ruler, at, point)]
     if shape is not None and shape.kind == "circle":
         found.append(Row(at.radius(name) - ruler.drawn.radius(name)))
     return found
