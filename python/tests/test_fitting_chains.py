@@ -477,3 +477,14 @@ def test_a_sensitivity_has_the_digits_that_whole_nanometres_leave(off, told, pro
                      "coincident A.start Origin\nangle A +25deg\n"
                      f"length A 50 +-{off}\n", program)
     assert high.shares[0].per_unit == told
+
+
+def test_what_may_slide_along_an_axis_has_a_distance_from_it(program) -> None:
+    # The bar is level and 5 high within 0.1, wherever along x it lies.
+    bar = "segment A 3 5 43 5\nhorizontal A\nlength A 40\ny A.start 5 +-0.1\n"
+    found = fit(read_drawing("check High distance A.end XAxis 4.9 .. 5.1\n"
+                             "check Level distance XAxis A 4.9 .. 5.1\n"
+                             f"check Aside distance A.end YAxis 40 .. 50\n{bar}"), program)
+    high, level, aside = found.checks
+    assert worst(high) == worst(level) == (4.9, 5.1) and high.answer is Answer.FITS
+    assert isinstance(aside, UnknownFit) and "moved along x (by rank)" in aside.why

@@ -1,7 +1,9 @@
 """Whether a check measures from the origin or the axes what no constraint ties to them."""
 from __future__ import annotations
 
-from pertxogai.drawing import DATUM_NAMES, AngleBetween, XDistance, YDistance
+from pertxogai.drawing import (
+    DATUM_NAMES, X_AXIS, Y_AXIS, AngleBetween, ParallelDistance, PointLineDistance, Valued,
+    XDistance, YDistance)
 from pertxogai.drawing.mentions import named
 from pertxogai.drawing.tolerances.check import Check
 from pertxogai.judging.freedoms import Whole
@@ -16,10 +18,23 @@ def floats(check: Check, whole: Whole) -> bool:
         return False
     if whole.turns or isinstance(asked, AngleBetween):
         return whole.turns
-    match asked:
-        case XDistance():
-            return whole.along_x or not whole.along_y and whole.ways > 0
-        case YDistance():
-            return whole.along_y or not whole.along_x and whole.ways > 0
-        case _:
-            return whole.ways > 0
+    if _is_along_x(asked):
+        return whole.along_x or not whole.along_y and whole.ways > 0
+    if _is_along_y(asked):
+        return whole.along_y or not whole.along_x and whole.ways > 0
+    return whole.ways > 0
+
+
+def _is_along_x(asked: Valued) -> bool:
+    """Whether a measure from the datum changes by a move along x alone."""
+    return isinstance(asked, XDistance) or _is_from(asked, Y_AXIS.name)
+
+
+def _is_along_y(asked: Valued) -> bool:
+    """Whether a measure from the datum changes by a move along y alone."""
+    return isinstance(asked, YDistance) or _is_from(asked, X_AXIS.name)
+
+
+def _is_from(asked: Valued, axis: str) -> bool:
+    """Whether it is the distance from an axis."""
+    return isinstance(asked, (PointLineDistance, ParallelDistance)) and axis in named(asked)
