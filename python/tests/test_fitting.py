@@ -341,3 +341,59 @@ def test_corners_by_chance_lie_within_the_worst_case(program) -> None:
     assert sum(what.corners for what in found if what.is_known) > 60
     assert sum(what.anew for what in found) > 5
     assert [line for what in found for line in what.wrong] == []
+
+
+# -- without limits
+
+END = ("check End x C.end ..\nsegment A 0 0 20 0\nsegment B A.end 40 0\nsegment C B.end 59.5 0\n"
+       "coincident A.start Origin\nhorizontal A B C\nlength A 20 +-0.1\nlength B 20 +0.2-0\n"
+       "length C 19.5 +-0.05\n")
+
+
+def test_how_far_something_varies_is_told_without_a_verdict(capsys, program, monkeypatch,
+                                                            tmp_path) -> None:
+    # 20 + 20 + 19.5, within 0.1, +0.2 and 0.05: 59.35 to 59.85. The middle is 59.6, and the root of
+    # 0.01 + 0.01 + 0.0025 is 0.15.
+    monkeypatch.setenv("PERTXOGAI_SKETCH", program.path)
+    path, out = tmp_path / "end.drawing", tmp_path / "end.svg"
+    path.write_text(END)
+    status, lines = told(capsys, "fit", path, "-o", out)
+    assert status == 0
+    assert lines.splitlines()[:5] == [
+        "end: 1 check, it has no limits; 3 dimensions with a tolerance", "  End: x C.end ..",
+        "    nominal          59.5 mm", "    worst case       59.35 to 59.85 mm",
+        "    root sum square  59.45 to 59.75 mm"]
+    assert "tighten" not in lines and "fits" not in lines
+    assert "fit" not in out.read_text().replace("fits {", "")
+    (sketch,) = json.loads(told(capsys, "fit", path, "--json")[1])["sketches"]
+    (end,) = sketch["checks"]
+    assert sketch["fits"] is end["worst"]["fits"] is end["by_squares"]["fits"] is None
+    assert (end["low"], end["high"], end["worst"]["least"]) == (None, None, 59.35)
+
+
+@pytest.mark.parametrize("limits, said, status", [
+    ("0 .. 59.8", "2 checks, none fits in the worst case, 1 doesn't, 1 has no limits", 1),
+    ("0 .. 60", "2 checks, 1 fits in the worst case, 1 has no limits", 0),
+    ("..", "2 checks, none has limits", 0)])
+def test_checks_without_limits_are_counted_by_themselves(limits, said, status, capsys, program,
+                                                         monkeypatch, tmp_path) -> None:
+    monkeypatch.setenv("PERTXOGAI_SKETCH", program.path)
+    path = tmp_path / "two.drawing"
+    path.write_text(f"check Other x C.end {limits}\n{END}")
+    found, lines = told(capsys, "fit", path)
+    assert found == status and lines.startswith(f"two: {said}; 3 dimensions")
+
+
+def test_a_check_without_limits_that_is_not_known_is_not_passed_over(program) -> None:
+    # The bar may lie anywhere along x.
+    found = checked("check Aside x A.end ..\nsegment A 0 5 20 5\nhorizontal A\ny A.start 5\n"
+                    "length A 20 +-0.1\n", program)
+    assert isinstance(found.checks[0], UnknownFit) and found.answer is Answer.UNSURE
+
+
+def test_of_lines_that_cross_the_acute_angle_is_told_without_limits(program) -> None:
+    # The bar stands on the middle of the other at 120 degrees, so at 60.
+    (tilt,) = checked("check Tilt angle A B ..\nsegment A 0 0 100 0\nsegment B 50 0 10 69.3\n"
+                      "coincident A.start Origin\nhorizontal A\nlength A 100\nlength B 80\n"
+                      "x B.start 50\non B.start A\nangle A B 60deg +1-0deg\n", program).checks
+    assert (mm(tilt.worst.least), mm(tilt.worst.greatest)) == (60, 61)

@@ -68,6 +68,14 @@ def test_a_check_goes_with_the_shape_that_it_measures():
     assert [each.name for each in kept.tolerancing.checks] == ["A"]
 
 
+@pytest.mark.parametrize("limits", ["2 .. 3", "2 ..", ".. 3", ".."])
+def test_either_limit_or_both_may_be_left_out(limits):
+    drawing = read_drawing(f"check Gap length A {limits}\n{EDGE}")
+    (check,) = drawing.tolerancing.checks
+    assert check.has_limits is (limits != "..") and check.words() == f"length A {limits}"
+    assert read_drawing(write_drawing(drawing)).tolerancing == drawing.tolerancing
+
+
 HEAD = ("drawing 1\nvalue W 40\n# by the shop\ntolerances ISO2768-m\ncheck Gap length A 39.9 .. W "
         "# must\n# drawn\n" + EDGE + "length A W +-0.1\n")
 
@@ -84,7 +92,7 @@ def test_what_stands_in_any_line_is_written_first_with_its_notes():
     ("length A 40 +0.1+0.2", "+0.1+0.2"), ("length A 40 +0.1+0.1", "+0.1+0.1"),
     ("length A 40 +-1deg", "+-1deg"), ("angle A B 90deg +-0.1", "+-0.1"),
     ("tolerances ISO2768-x", "ISO2768-x"), ("tolerances", "tolerances"),
-    ("check Gap", "Gap"), ("check Gap length A 3", "check"), ("check Gap length A ..", ".."),
+    ("check Gap", "Gap"), ("check Gap length A 3", "check"), ("check Gap length A", "check"),
     ("check Gap length A 3 .. 2", "Gap"), ("check Gap level A 2 .. 3", "level"),
     ("check Gap length C 2 .. 3", "C"), ("check Gap length A B 2 .. 3", "length"),
     ("check Gap angle A B 2 .. 3", "2"), ("Gap: check Gap length A 2 .. 3", "Gap")])
@@ -99,7 +107,6 @@ def test_what_is_refused_is_named(line, word):
     ("check Gap length A B 2 .. 3", "takes one thing here: write a line for each, such as check "),
     ("check Gap level A 2 .. 3", "can't be checked: write one of length, distance, x, y, angle, "),
     ("check Gap length A 3", "needs .. once, between its limits: write a line such as check Gap "),
-    ("check Gap length A ..", "has no limit on either side: write a line such as check Gap "),
     ("length A 40 +0.1 -0.2", "may be part of a tolerance or of a sum: write a tolerance without "
                               "blanks, such as +0.1-0.2, and a sum with blanks around its signs"),
     ("length A 40 -0.2-0.1", "has its greater deviation last: write it first, such as "),

@@ -16,6 +16,7 @@ from pertxogai.output.picture.drawings import DrawnPlaces
 
 ANSWERS: dict[Answer, CheckAnswer] = {
     Answer.FITS: "fits", Answer.UNSURE: "unsure", Answer.BEYOND: "beyond"}
+UNLIMITED: CheckAnswer = "unlimited"
 SIGNS = {Answer.FITS: "✓", Answer.UNSURE: "?", Answer.BEYOND: "✗"}
 """What tells the answers apart where no colours do."""
 
@@ -31,12 +32,13 @@ def checks_shown(drawing: Drawing, found: Fit | NoFit, shown: Solution | None) -
 
 
 def _checked(where: DrawnPlaces, number: int, found: CheckedFit | UnknownFit) -> Checked:
-    sign, check = SIGNS[found.answer], found.check
+    check, is_told = found.check, found.answer is Answer.FITS and not found.check.has_limits
+    sign, answer = ("↔", UNLIMITED) if is_told else (SIGNS[found.answer], ANSWERS[found.answer])
     known = found if isinstance(found, CheckedFit) else None
     worst = f"{number_text(known.placed.least)} .. {number_text(known.placed.greatest)}" if known \
         else "not known"
     return {"number": number, "name": check.name, "words": check.words(),
-            "answer": ANSWERS[found.answer], "sign": sign, "worst": worst,
+            "answer": answer, "sign": sign, "worst": worst,
             "lines": list(check_lines(where.drawing, found)),
             "gives": list(_contributions(where.drawing, known)) if known else [],
             "marks": list(_marks(where, number, found, f"{sign} {check.name} {worst}"))}

@@ -677,7 +677,7 @@ class Completed(Answer, total=False):
     why: str
 
 
-CheckAnswer = Literal["fits", "unsure", "beyond"]
+CheckAnswer = Literal["fits", "unsure", "beyond", "unlimited"]
 
 
 class Contribution(TypedDict):

@@ -140,10 +140,13 @@ class Gauge:
 
     def _is_of_the_rest(self, asked: AngleBetween, turned: int) -> bool:
         """Of a corner, whether one ray leaves it and the other comes to it; of lines that cross,
-        whether that angle is nearer to the limits. turned: by how much, without a sign."""
+        whether that angle is nearer to the limits, or acute where there are none. turned: by how
+        much, without a sign."""
         corner = self.drawing.meetings.corner(asked.first, asked.second)
         if corner is not None:
             return corner.first.which is not corner.second.which
+        if not self.check.has_limits:
+            return turned > 90 * MILLIONTHS
         middle = self._middle()
         return abs(180 * MILLIONTHS - turned - middle) < abs(turned - middle)
 

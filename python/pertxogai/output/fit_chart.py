@@ -68,23 +68,26 @@ class _Check:
         found, unit = self._found, unit_of(self._found)
         title = f"{found.check.name}: {found.check.words()} ({unit})"
         yield _text(MARGIN, self._top, title, "title")
-        yield from self._range(1, f"worst case {MARK[found.answer]}", found.placed, found.answer)
+        yield from self._range(1, "worst case", found.placed, found.answer)
         if found.by_squares is not None:
             answer = Answer.FITS if found.fits_by_squares else Answer.BEYOND
-            yield from self._range(2, f"root sum square {MARK[answer]}", found.by_squares, answer)
+            yield from self._range(2, "root sum square", found.by_squares, answer)
         most = max((share.gives for share in found.shares), default=1)
         for row, share in enumerate(found.shares[:MOST_BARS], start=3):
             yield from self._bar(row, share, most, unit)
 
     def _range(self, row: int, label: str, of: Range, answer: Answer) -> Iterator[str]:
-        """A range between the limits, with the place of the check as all is given."""
+        """A range between the limits, where there are some, with the place of the check as all is
+        given."""
         y, found = self._top + row * ROW, self._found
         low, high = (edge if limit is None else self._x(limit) for limit, edge in
                      ((found.low, LEFT), (found.high, LEFT + ROOM)))
-        yield _text(LEFT - 12, y, label, "end")
+        has_limits = found.check.has_limits
+        yield _text(LEFT - 12, y, f"{label} {MARK[answer]}" if has_limits else label, "end")
         yield _rect(low, y - BAR - 2, high - low, BAR + 6, "limits")
         begin, end = self._x(of.least), self._x(of.greatest)
-        yield _rect(begin, y - BAR + 1, max(end - begin, 2), BAR, KIND[answer])
+        kind = KIND[answer] if has_limits else "gives"
+        yield _rect(begin, y - BAR + 1, max(end - begin, 2), BAR, kind)
         for limit in (found.low, found.high):
             if limit is not None:
                 yield _upright(self._x(limit), y, "limit")

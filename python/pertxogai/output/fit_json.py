@@ -18,13 +18,14 @@ class RangeJson(TypedDict):
 
 
 class SquaresJson(RangeJson):
-    """The root sum square, and whether it lies within the limits."""
+    """The root sum square, and whether it lies within the limits; null where there are none."""
 
-    fits: bool
+    fits: bool | None
 
 
 class WorstJson(RangeJson):
-    """The worst case that was placed. fits: null where it isn't known. monotone: whether the check
+    """The worst case that was placed. fits: null where it isn't known, and where the check has no
+    limits. monotone: whether the check
     is in each dimension, wherever that was tried; not_monotone_in: the dimensions in which it
     isn't. reckoned: from the single effects, by numbers, where it isn't monotone."""
 
@@ -69,7 +70,8 @@ class CheckJson(TypedDict):
 
 
 class FitJson(TypedDict):
-    """What comes of the checks of a drawing. fits: null where it isn't known. why: why nothing is
+    """What comes of the checks of a drawing. fits: null where it isn't known, and where no check has
+    limits. why: why nothing is
     known at all. unplaced: which cases can't be placed, and why; between: those of which both cases
     beside them can. exact: the dimensions without a tolerance; idle: those whose tolerance moves no
     check."""
@@ -91,7 +93,9 @@ def fit_json(name: str, found: Fit | NoFit) -> FitJson:
         return {"name": name, "fits": None, "why": list(found.why), "placements": 0,
                 "unplaced": [], "between": [], "exact": [], "idle": [], "checks": []}
     called = found.drawing.called
-    return {"name": name, "fits": found.answer.value, "why": [], "placements": found.placements,
+    has_limits = any(each.check.has_limits for each in found.checks)
+    return {"name": name, "fits": found.answer.value if has_limits else None, "why": [],
+            "placements": found.placements,
             "unplaced": list(found.unplaced), "between": list(found.between),
             "exact": [*map(called, found.dimensions.exact)],
             "idle": [called(each.number) for each in found.idle],
@@ -107,14 +111,15 @@ def check_json(drawing: Drawing, found: CheckedFit | UnknownFit) -> CheckJson:
                 "dimensions": [], "tighten_first": None, "tighten_to": None}
     squares = found.by_squares
     first = found.shares[0].dimension if found.shares else None
-    to_tighten = first if found.answer is not Answer.FITS else None
+    is_asked = found.check.has_limits and found.answer is not Answer.FITS
+    to_tighten = first if is_asked else None
     return {
         "name": found.check.name, "line": found.check.line(), "unit": unit_of(found), "why": None,
         "low": _optional(found.low), "high": _optional(found.high),
         "nominal": _number(found.nominal), "worst": _worst(drawing, found),
         "by_squares": (None if squares is None
                        else {"least": _number(squares.least), "greatest": _number(squares.greatest),
-                             "fits": found.fits_by_squares}),
+                             "fits": found.fits_by_squares if found.check.has_limits else None}),
         "dimensions": [_dimension(drawing, each) for each in found.shares],
         "tighten_first": drawing.called(to_tighten.number) if to_tighten else None,
         "tighten_to": (None if to_tighten is None or found.tightened is None
@@ -123,7 +128,8 @@ def check_json(drawing: Drawing, found: CheckedFit | UnknownFit) -> CheckJson:
 
 def _worst(drawing: Drawing, found: CheckedFit) -> WorstJson:
     return {"least": _number(found.placed.least), "greatest": _number(found.placed.greatest),
-            "fits": found.answer.value, "monotone": found.worst.is_one_way,
+            "fits": found.answer.value if found.check.has_limits else None,
+            "monotone": found.worst.is_one_way,
             "not_monotone_in": [drawing.called(it) for it in found.turning_numbers],
             "reckoned": _range(found.reckoned) if found.worst.turning else None}
 

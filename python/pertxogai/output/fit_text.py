@@ -25,6 +25,9 @@ FOOT = (
     "  root sum square: calculated from the effects of single dimensions.")
 SURE = {Answer.FITS: "fits", Answer.BEYOND: "",
         Answer.UNSURE: "all placed cases fit, but another may not"}
+UNLIMITED = {Answer.FITS: "", Answer.BEYOND: "",
+             Answer.UNSURE: "of the placed cases, but another may be beyond it"}
+"""The same of a check without limits."""
 ONE = {Answer.FITS: "it fits in the worst case", Answer.BEYOND: "it doesn't fit in the worst case",
        Answer.UNSURE: "it isn't known whether it fits in the worst case"}
 
@@ -47,23 +50,39 @@ def fit_lines(name: str, found: Fit | NoFit) -> Iterator[str]:
 
 def _summary(found: Fit) -> str:
     count, exact = len(found.checks), len(found.dimensions.exact)
-    said = ONE[found.checks[0].answer] if count == 1 else _answers(found)
-    if found.unplaced and all(each.answer is Answer.FITS for each in found.checks):
+    said = _answer(found.checks[0]) if count == 1 else _answers(found)
+    if found.unplaced and _all_fit(found):
         said += " where the part can be placed"
     counts = f", {exact} without one {'counts' if exact == 1 else 'count'} as exact" * bool(exact)
     return (f"{_count(count, 'check')}, {said}; "
             f"{_count(len(found.dimensions.toleranced), 'dimension')} with a tolerance{counts}")
 
 
+def _all_fit(found: Fit) -> bool:
+    """Whether all checks with limits fit, of which there are some."""
+    limited = [each for each in found.checks if each.check.has_limits]
+    return bool(limited) and all(each.answer is Answer.FITS for each in found.checks)
+
+
+def _answer(found: CheckedFit | UnknownFit) -> str:
+    """Whether the one check fits."""
+    return ONE[found.answer] if found.check.has_limits else "it has no limits"
+
+
 def _answers(found: Fit) -> str:
-    """How many checks fit, how many don't, and of how many it isn't known."""
-    numbers = Counter(each.answer for each in found.checks)
+    """How many checks fit, how many don't, of how many it isn't known, and how many have no
+    limits."""
+    numbers = Counter(each.answer for each in found.checks if each.check.has_limits)
     fits, beyond, unsure = (numbers[each] for each in (Answer.FITS, Answer.BEYOND, Answer.UNSURE))
-    if not beyond and not unsure:
+    free = len(found.checks) - fits - beyond - unsure
+    if fits == len(found.checks):
         return "all fit in the worst case"
+    if free == len(found.checks):
+        return "none has limits"
     parts = [f"{fits or 'none'} fit{'' if fits > 1 else 's'} in the worst case"]
     parts += [f"{beyond} {'do' if beyond > 1 else 'does'}n't"] * bool(beyond)
     parts += [f"of {unsure} it isn't known"] * bool(unsure)
+    parts += [f"{free} {'have' if free > 1 else 'has'} no limits"] * bool(free)
     return ", ".join(parts)
 
 
@@ -72,12 +91,13 @@ def check_lines(drawing: Drawing, found: CheckedFit | UnknownFit) -> Iterator[st
     if isinstance(found, UnknownFit):
         yield f"not known: {found.why}"
         return
-    unit, squares = unit_of(found), found.by_squares
-    beyond = _beyond(found.placed, found)
+    unit, squares, has_limits = unit_of(found), found.by_squares, found.check.has_limits
+    sure = (SURE if has_limits else UNLIMITED)[found.answer]
     yield f"nominal          {number_text(found.nominal)} {unit}"
-    yield f"worst case       {_range(found.placed, unit)}: {beyond or SURE[found.answer]}"
+    yield f"worst case       {_range(found.placed, unit)}{_told(found.placed, found, sure)}"
     if squares is not None:
-        yield f"root sum square  {_range(squares, unit)}: {_beyond(squares, found) or 'fits'}"
+        fits = "fits" if has_limits else ""
+        yield f"root sum square  {_range(squares, unit)}{_told(squares, found, fits)}"
     else:
         why = "the check isn't monotone" if found.worst.turning else "the segments tilt"
         yield f"root sum square  not given, because {why}"
@@ -89,13 +109,20 @@ def check_lines(drawing: Drawing, found: CheckedFit | UnknownFit) -> Iterator[st
         yield "no single dimension changes it"
 
 
+def _told(ranged: Range, of: CheckedFit, sure: str) -> str:
+    """What is said behind a range: by how much it is beyond the limits, else what is sure of
+    it."""
+    said = _beyond(ranged, of) or sure
+    return f": {said}" if said else ""
+
+
 def _share_lines(drawing: Drawing, found: CheckedFit) -> Iterator[str]:
     """What single dimensions give, and which to tighten first."""
     unit = unit_of(found)
     yield from (_share_text(drawing, share, unit) for share in found.shares[:MOST_SHARES])
     if len(found.shares) > MOST_SHARES:
         yield f"and {len(found.shares) - MOST_SHARES} more, each less"
-    if found.shares and found.answer is not Answer.FITS:
+    if found.shares and found.check.has_limits and found.answer is not Answer.FITS:
         first = found.shares[0].dimension
         yield f"tighten first: {words_of_dimension(drawing, first)}{_to(found)}"
 

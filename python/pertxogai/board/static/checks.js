@@ -14,7 +14,9 @@ import { Layer } from './layer.js';
 /** @type {Found} */
 const NONE = { text: null, checks: [], why: [] };
 /** What an answer is called. */
-const ANSWERS = { fits: 'fits', unsure: 'not known to fit', beyond: 'doesn’t fit' };
+const ANSWERS = {
+  fits: 'fits', unsure: 'not known to fit', beyond: 'doesn’t fit', unlimited: 'no limits',
+};
 /** A line of the text that says what must fit. */
 const LINE = /^\s*check\s/m;
 

@@ -634,7 +634,7 @@ export interface Checked {
   number: number;
   name: string;
   words: string;
-  answer: 'fits' | 'unsure' | 'beyond';
+  answer: 'fits' | 'unsure' | 'beyond' | 'unlimited';
   sign: string;
   worst: string;
   lines: string[];

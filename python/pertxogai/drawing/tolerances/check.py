@@ -34,8 +34,8 @@ WORDS = ("length", "distance", "x", "y", "angle", "radius", "diameter")
 
 @dataclass(frozen=True)
 class Check:
-    """A measure that must lie between two limits; either may be omitted. asked: the dimension that
-    is measured; its value is ignored. If a limit is written with a sign, a coordinate or a turn is
+    """A measure that must lie between two limits; either may be omitted, and both where it is only
+    asked how far it varies. asked: the dimension that is measured; its value is ignored. If a limit is written with a sign, a coordinate or a turn is
     measured with its sign; otherwise it is measured as on paper."""
 
     name: str
@@ -52,6 +52,11 @@ class Check:
     def is_signed(self) -> bool:
         """Whether it measures a coordinate or a turn with its sign."""
         return isinstance(self.asked, SENSED) and self.asked.sense is Sense.SIGNED
+
+    @property
+    def has_limits(self) -> bool:
+        """Whether it has a limit; without one it neither fits nor doesn't."""
+        return self.low is not None or self.high is not None
 
     def words(self) -> str:
         """What is measured, in words, and the limits."""
@@ -120,10 +125,7 @@ def _parts(scene: NamedShapes,
     things: list[str] = []
     while cursor.left() and not cursor.begins_value():
         things.append(cursor.word("a shape"))
-    low, high = words[len(things):at], words[at + 1:]
-    if not low and not high:
-        raise WordFault(UP_TO, f"has no limit on either side: write a line such as {FORM}")
-    return things, _limit(low), _limit(high)
+    return things, _limit(words[len(things):at]), _limit(words[at + 1:])
 
 
 def _limit(words: list[str]) -> Expression | None:
