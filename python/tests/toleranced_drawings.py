@@ -14,7 +14,7 @@ from hunt.making import Kind, NotMade, made
 from pertxogai.drawing import (
     VALUED, AngleBetween, Drawing, DrawingRefusal, Segment, Tolerance, Valued, read_drawing,
     write_drawing)
-from pertxogai.fitting import Fit, NoFit, fit
+from pertxogai.fitting import CheckedFit, Fit, NoFit, fit
 from pertxogai.fitting.gauges import Gauge
 from pertxogai.fitting.placing import Offs, Placer, Unplaced
 from pertxogai.fitting.toleranced import Dimensions, Toleranced, moved
@@ -31,7 +31,7 @@ EACH_ANEW = 10
 GOALS = 2
 """For this number of the least and the greatest of the checks the search goes on."""
 ROUNDING = 3
-"""In millionths: what two ways to measure may differ by."""
+"""In millionths: what two ways to measure the same places may differ by."""
 WHOLE = 360_000_000
 """A whole turn, in millionths of a degree."""
 
@@ -150,7 +150,8 @@ class _Search:
         self._placer = Placer(found.drawing, program, Limit())
         solution = found.good.solution
         gauges = [Gauge.of(each.check, found.drawing, solution) for each in found.known]
-        self._placer.begin(self._dimensions, [gauge for each in gauges for gauge in each])
+        self._gauges = [gauge for each in gauges for gauge in each]
+        self._placer.begin(self._dimensions, self._gauges)
         self._plain = _signed(found)
         self.wrong: dict[str, None] = {}
         self.anew = 0
@@ -200,7 +201,8 @@ class _Search:
         return case.values
 
     def _try_anew(self, offs: Offs) -> None:
-        """Compares what was measured with what is in a drawing of its own."""
+        """Compares what was measured with what is in a drawing of its own, which may be told by
+        other ratios and so rounded otherwise; and there with what other formulas say."""
         self.anew += 1
         by_number = {each.number: off for each, off in zip(self._dimensions, offs)}
         drawing = read_drawing(write_drawing(moved(self._found.drawing, by_number)))
@@ -208,13 +210,17 @@ class _Search:
         values = self._values(offs)
         assert solution is not None and values is not None, drawing
         plain = Plain(drawing, solution)
-        for each, value in zip(self._found.known, values):
-            there = plain.measured(each.check) * self._plain[each.check.name]
-            off = abs(there - value)
-            if each.check.is_angle:
-                off = min(off % WHOLE, -off % WHOLE)
-            if off > ROUNDING:
-                self.wrong[f"{each.check.line()}: {value} is {there} anew"] = None
+        for each, gauge, value in zip(self._found.known, self._gauges, values):
+            here, there = gauge.measured(solution), plain.measured(each.check)
+            there *= self._plain[each.check.name]
+            if _off(each, here, there) > ROUNDING or _off(each, here, value) > each.noise:
+                self.wrong[f"{each.check.line()}: {value} is {here}, or {there}, anew"] = None
+
+
+def _off(found: CheckedFit, one: float, other: float) -> float:
+    """How far two values of a check are apart, in millionths, but for whole turns."""
+    off = abs(one - other)
+    return min(off % WHOLE, -off % WHOLE) if found.check.is_angle else off
 
 
 def _signed(found: Fit) -> dict[str, int]:
