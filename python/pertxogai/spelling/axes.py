@@ -4,7 +4,6 @@ from __future__ import annotations
 
 from collections import Counter
 from collections.abc import Hashable
-from dataclasses import dataclass, replace
 from functools import cached_property
 from typing import NamedTuple, Protocol
 
@@ -29,8 +28,7 @@ class Coordinate(NamedTuple):
     knot: Knot
 
 
-@dataclass(frozen=True)
-class Frame:
+class Frame(NamedTuple):
     """A class of lines of known directions; its first axis runs as `line` is drawn."""
 
     number: int
@@ -44,8 +42,7 @@ class Frame:
         return a * y - b * x if upwards else a * x + b * y
 
 
-@dataclass(frozen=True)
-class Equation:
+class Equation(NamedTuple):
     """A form that is 0, and who says so."""
 
     form: Form
@@ -69,8 +66,8 @@ class Axes:
         self.lines = lines
         self.directions = Directions()
         for leans in lines.leans:
-            self.directions.tell(replace(
-                leans, first=lines.leader(leans.first), second=lines.leader(leans.second)))
+            self.directions.tell(leans._replace(
+                first=lines.leader(leans.first), second=lines.leader(leans.second)))
         self._merge_parallels()
         self.frames: list[Frame] = []
         self._of_root: dict[Line, Frame] = {}
@@ -134,7 +131,7 @@ class Axes:
         another side than before."""
         other = copied(self)
         other.facts = facts
-        other.frames = [replace(each, way=facts.direction(each.line)) for each in self.frames]
+        other.frames = [each._replace(way=facts.direction(each.line)) for each in self.frames]
         other._of_root = {root: other.frames[each.number] for root, each in self._of_root.items()}
         other._signs = {}
         is_so = all(other.sign(other.frames[frame], upwards, first, second) == sign

@@ -3,7 +3,7 @@ is told to lie on both of its edges."""
 from __future__ import annotations
 
 from collections.abc import Hashable
-from dataclasses import fields, replace
+from dataclasses import replace
 
 from pertxogai.spelling.facts import Between, Fact, Facts, Knot, Leans, LengthOf, Lies, Line
 from pertxogai.spelling.linear import Form
@@ -74,9 +74,7 @@ class _One:
         """A fact of these points; None of one that says nothing more."""
         if isinstance(fact, Lies | Leans) and self.is_point(_led(fact)):
             return None
-        values = {each.name: getattr(fact, each.name) for each in fields(fact)}
-        changed = {name: self._value(value) for name, value in values.items()}
-        return replace(fact, **changed)
+        return fact._make(map(self._value, fact))
 
     def _value(self, value: object) -> object:
         if isinstance(value, Knot):

@@ -4,14 +4,14 @@ A lean that joins two classes says something new; one within a class follows fro
 it. """
 from __future__ import annotations
 
-from dataclasses import dataclass
+from typing import NamedTuple
+
 
 from pertxogai.spelling.facts import Leans, Line, Owner
 from pertxogai.spelling.lean import Lean
 
 
-@dataclass(frozen=True)
-class Bearing:
+class Bearing(NamedTuple):
     """A line's lean against its class's first line, and the leans, by their places, that say
     so."""
 

@@ -7,6 +7,7 @@ from dataclasses import dataclass, field
 from fractions import Fraction
 from functools import lru_cache
 from math import lcm
+from typing import NamedTuple
 
 from pertxogai import language
 from pertxogai.language.numbers import nearest_whole
@@ -30,8 +31,7 @@ def said_by(owners: Iterable[Owner]) -> Owners:
     return lambda: known
 
 
-@dataclass(frozen=True)
-class Draft:
+class Draft(NamedTuple):
     """A constraint, and who says it: `on` where there is neither value nor ratio. `second` is a
     line, or a point for a distance. is_near: whether the ratio is only the one next to the
     angle."""
@@ -48,8 +48,7 @@ class Draft:
         return self.first, self.second
 
 
-@dataclass(frozen=True)
-class Rounded:
+class Rounded(NamedTuple):
     """A value that the language can't hold, even on a greater scale, in micrometres, and what was
     told instead."""
 

@@ -66,8 +66,7 @@ class HalfOf:
     owner: Owner
 
 
-@dataclass(frozen=True)
-class Apart:
+class Apart(NamedTuple):
     """Two points are `value` apart."""
 
     first: Knot
@@ -80,8 +79,7 @@ class Apart:
         return self.first, self.second
 
 
-@dataclass(frozen=True)
-class Off:
+class Off(NamedTuple):
     """A point is `value` away from a line, on the side where it is drawn."""
 
     point: Knot
@@ -94,8 +92,7 @@ class Off:
         return self.point, self.line
 
 
-@dataclass(frozen=True)
-class Lies:
+class Lies(NamedTuple):
     """A point lies on a line."""
 
     point: Knot
@@ -103,8 +100,7 @@ class Lies:
     owner: Owner
 
 
-@dataclass(frozen=True)
-class Leans:
+class Leans(NamedTuple):
     """The second line leans so against the first."""
 
     first: Line
@@ -113,8 +109,7 @@ class Leans:
     owner: Owner
 
 
-@dataclass(frozen=True)
-class OneLine:
+class OneLine(NamedTuple):
     """Two lines are one; `ends` are the points by which the second is told to lie on the first."""
 
     first: Line
@@ -122,8 +117,7 @@ class OneLine:
     owner: Owner
 
 
-@dataclass(frozen=True)
-class Shift:
+class Shift(NamedTuple):
     """The second point's x, or y where `upwards`, is the first's and `value`, in micrometres."""
 
     first: Knot
@@ -133,8 +127,7 @@ class Shift:
     owner: Owner
 
 
-@dataclass(frozen=True)
-class Middle:
+class Middle(NamedTuple):
     """A point is in the middle of two others."""
 
     middle: Knot
@@ -143,8 +136,7 @@ class Middle:
     owner: Owner
 
 
-@dataclass(frozen=True)
-class Mirror:
+class Mirror(NamedTuple):
     """Two points are mirror images to a line. That the line through them is square to it stands as
     `Leans`."""
 
@@ -154,16 +146,14 @@ class Mirror:
     owner: Owner
 
 
-@dataclass(frozen=True)
-class Sized:
+class Sized(NamedTuple):
     """A sum of lengths and radii is 0."""
 
     form: Form
     owner: Owner
 
 
-@dataclass(frozen=True)
-class Stays:
+class Stays(NamedTuple):
     """A point lies exactly at a place of the datum."""
 
     point: Knot
@@ -222,8 +212,7 @@ def _are_alike(fact: Fact, other: Fact) -> bool:
         return True
     if type(fact) is not type(other):
         return False
-    return all(_is_alike(getattr(fact, each.name), getattr(other, each.name))
-               for each in fields(fact))
+    return all(map(_is_alike, fact, other))
 
 
 def _is_alike(value: object, other: object) -> bool:

@@ -10,6 +10,7 @@ from __future__ import annotations
 from collections.abc import Callable, Hashable, Mapping
 from dataclasses import dataclass, field
 from fractions import Fraction
+from typing import NamedTuple
 
 Number = int | Fraction
 Terms = Mapping[Hashable, Number]
@@ -50,8 +51,7 @@ class Form:
         return frozenset(self.terms.items())
 
 
-@dataclass(frozen=True)
-class Redundant:
+class Redundant(NamedTuple):
     """An equation that says nothing new: `marks` are the equations that it follows from, with its
     own; it is off these by `amount`, 0 where it repeats them."""
 

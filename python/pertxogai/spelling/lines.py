@@ -3,9 +3,9 @@ points that aren't one, are one."""
 from __future__ import annotations
 
 from collections.abc import Iterator
-from dataclasses import dataclass
 from itertools import combinations
 from math import hypot
+from typing import NamedTuple
 
 from pertxogai.classes import Classes
 from pertxogai.drawing import X_AXIS, Y_AXIS, ShapeRef
@@ -16,16 +16,14 @@ from pertxogai.spelling.lean import SQUARE, Lean
 from pertxogai.spelling.linear import Number
 
 
-@dataclass(frozen=True)
-class Member:
+class Member(NamedTuple):
     """A point on a line, and who puts it there; None of a segment's own end."""
 
     knot: Knot
     owner: Owner | None
 
 
-@dataclass(frozen=True)
-class Crossing:
+class Crossing(NamedTuple):
     """Two lines that share two points and aren't one, so that the points are one."""
 
     first: Line

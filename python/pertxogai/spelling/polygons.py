@@ -6,9 +6,10 @@ of the full turns. """
 from __future__ import annotations
 
 from collections.abc import Iterator
-from dataclasses import dataclass, replace
+from dataclasses import replace
 from fractions import Fraction
 from math import atan2, pi
+from typing import NamedTuple
 
 from pertxogai.spelling.facts import (
     Apart, Between, Fact, Facts, Knot, Leans, LengthOf, Line, Middle, RadiusOf, Sized)
@@ -16,8 +17,7 @@ from pertxogai.spelling.lean import SQUARE, Lean
 from pertxogai.spelling.linear import Form
 
 
-@dataclass(frozen=True)
-class Polygon:
+class Polygon(NamedTuple):
     """A regular polygon: its corners in order, the turn from each radius to the next, and who says
     it equal."""
 
@@ -177,7 +177,7 @@ def _of_first_side(fact: Fact, polygon: Polygon) -> Fact:
     form = Form(number=fact.form.number)
     for key, factor in fact.form.terms.items():
         form = form + Form.of(lengths[0] if key in lengths else key).times(factor)
-    return replace(fact, form=form)
+    return fact._replace(form=form)
 
 
 def _side(facts: Facts, polygon: Polygon, place: int) -> Line | None:
@@ -192,9 +192,9 @@ def _against_radius(facts: Facts, fact: Fact, polygon: Polygon) -> Fact:
     for place in range(len(polygon.corners)):
         side, radius = _side(facts, polygon, place), polygon.radius(place)
         if fact.second == side:
-            fact = replace(fact, second=radius, lean=fact.lean + polygon.to_radius())
+            fact = fact._replace(second=radius, lean=fact.lean + polygon.to_radius())
         if fact.first == side:
-            fact = replace(fact, first=radius, lean=-polygon.to_radius() + fact.lean)
+            fact = fact._replace(first=radius, lean=-polygon.to_radius() + fact.lean)
     return fact
 
 

@@ -7,6 +7,7 @@ from collections.abc import Hashable, Iterable
 from copy import copy
 from dataclasses import dataclass
 from functools import cached_property
+from typing import NamedTuple
 
 from pertxogai.spelling.axes import Axes, Coordinate, Equation, rank
 from pertxogai.spelling.facts import DATUM, Knot, Line, Owner
@@ -14,8 +15,7 @@ from pertxogai.spelling.linear import Form, LinearSystem, Number, small
 from pertxogai.spelling.style import Style
 
 
-@dataclass(frozen=True)
-class Rail:
+class Rail(NamedTuple):
     """What is unknown in a coordinate: nothing on the datum's axes. `upwards` rails run along the
     first axis."""
 
@@ -43,8 +43,7 @@ class Span:
     second: Knot | Line
 
 
-@dataclass(frozen=True)
-class Run:
+class Run(NamedTuple):
     """An x or y dimension that is spelled by itself: the second point lies `run_um` from the first
     along an axis."""
 
@@ -54,8 +53,7 @@ class Run:
     owners: frozenset[Owner]
 
 
-@dataclass(frozen=True)
-class Pending:
+class Pending(NamedTuple):
     """An equation that the rails don't say, in rails and sizes."""
 
     number: int

@@ -49,11 +49,11 @@ def _revalued(facts: Facts, drawing: Drawing, others: dict[Owner, Constraint]) -
 def _with_value(fact: Fact, drawing: Drawing, constraint: Constraint) -> Fact:
     """A fact of a constraint, with that one's value; as it is, where another says the value."""
     if isinstance(fact, Shift) and isinstance(constraint, XDistance | YDistance):
-        return replace(fact, value=Form(number=small(run_um(drawing, constraint))))
+        return fact._replace(value=Form(number=small(run_um(drawing, constraint))))
     if isinstance(fact, Sized) and isinstance(constraint, Length | Radius | Diameter):
-        return replace(fact, form=Form(fact.form.terms, -small(constraint.value_um)))
+        return fact._replace(form=Form(fact.form.terms, -small(constraint.value_um)))
     if isinstance(fact, Off) and isinstance(constraint, PointLineDistance | ParallelDistance):
-        return replace(fact, value=Form(number=small(constraint.value_um)))
+        return fact._replace(value=Form(number=small(constraint.value_um)))
     if isinstance(fact, Apart) and isinstance(constraint, Distance):
-        return replace(fact, value=Form(number=small(constraint.value_um)))
+        return fact._replace(value=Form(number=small(constraint.value_um)))
     return fact

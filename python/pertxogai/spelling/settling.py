@@ -2,7 +2,7 @@
 from __future__ import annotations
 
 from collections.abc import Iterator
-from dataclasses import dataclass
+from typing import NamedTuple
 
 from pertxogai.cached import cached_on
 from pertxogai.spelling.axes import Axes, Equation, Frame
@@ -36,8 +36,7 @@ def with_equation(axes: Axes, number: int | None, equation: Equation,
     return other
 
 
-@dataclass(frozen=True)
-class Step:
+class Step(NamedTuple):
     """A distance, by its place among those that were no equations, that runs along an axis of a
     frame, forwards or backwards by its sign: its points are level across that axis."""
 

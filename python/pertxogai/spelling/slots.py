@@ -5,15 +5,15 @@ That is told in the place of one of the two radii, of which it is a consequence 
 other. """
 from __future__ import annotations
 
-from dataclasses import dataclass, replace
+from dataclasses import replace
+from typing import NamedTuple
 
 from pertxogai.spelling.facts import Apart, Between, Facts, Knot, Leans, Line, Sized
 from pertxogai.spelling.lean import SQUARE, Lean
 from pertxogai.spelling.linear import Form, LinearSystem
 
 
-@dataclass(frozen=True)
-class Foot:
+class Foot(NamedTuple):
     """A rim's end at which it touches a line, and the fact that says how far it is from the
     centre."""
 

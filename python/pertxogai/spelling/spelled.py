@@ -4,6 +4,7 @@ from __future__ import annotations
 from collections.abc import Mapping
 from dataclasses import dataclass, field
 from functools import cached_property
+from typing import NamedTuple
 
 from pertxogai import language
 from pertxogai.spelling.drafts import Owners, Rounded
@@ -16,8 +17,7 @@ Track = Rail | Line
 """What becomes a line of the sketch: a rail, or a line that leans."""
 
 
-@dataclass(frozen=True)
-class Heading:
+class Heading(NamedTuple):
     """A line of the sketch: which way it runs in its frame, `turn` counter-clockwise from the
     first axis, and the rail that it is, with its place along the axis that it fixes."""
 
@@ -29,8 +29,7 @@ class Heading:
     at_um: Number
 
 
-@dataclass(frozen=True)
-class Contradiction:
+class Contradiction(NamedTuple):
     """What can't be spelled and isn't so where the rest is placed: by how much it is off, in
     micrometres, None where the rest has no places; who says it, and who says the rest."""
 
@@ -55,8 +54,7 @@ class Care:
     through: Mapping[tuple[str, ...], Knot] = field(default_factory=dict, hash=False)
 
 
-@dataclass(frozen=True)
-class Behind:
+class Behind(NamedTuple):
     """A line of help from which a height is told: so many micrometres of the drawing behind the
     line of a rail, and as much longer is the height told."""
 

@@ -1,7 +1,6 @@
 """What is told twice: that again, so that the program says what is spare."""
 from __future__ import annotations
 
-from dataclasses import replace
 from fractions import Fraction
 from math import cos, sin
 
@@ -80,8 +79,8 @@ class Repeats:
                           if each.names() == pair), None)
             if place is not None:
                 height = layout.rails.members[rail][key] - layout.rails.offset(rail)
-                layout.sheet.drafts[place] = replace(layout.sheet.drafts[place],
-                                                     said=said_by(circuit - equation.owners))
+                layout.sheet.drafts[place] = layout.sheet.drafts[place]._replace(
+                    said=said_by(circuit - equation.owners))
                 self.heights.say_height(key.knot, rail, said_by(equation.owners),
                                         height - Fraction(told.amount) / factor)
                 return True
