@@ -223,6 +223,14 @@ def test_values_of_the_gallery_are_those_that_are_drawn(name, line, program):
     assert isinstance(found, Completion) and line in [each.line() for each in found.proposals]
 
 
+def test_the_whole_is_tied_by_an_edge_that_is_drawn_level(program):
+    # A is drawn along the x axis, and C is the longest; the lengths turn both a little.
+    sides = TRIANGLE.replace("coincident A.start Origin\nhorizontal A\n", "")
+    found = complete(read_drawing(sides), program)
+    assert isinstance(found, Completion)
+    assert [each.line() for each in found.datum] == ["horizontal A", "coincident A.start Origin"]
+
+
 def test_a_drawn_number_that_cannot_be_had_leaves_the_others_as_they_are(program):
     # C is drawn 73.43 long, from 64, 36 to the origin; beside 30 and 40 it is less than 70. Its
     # slope changes with that, and x of the hole on it, drawn at 20, can be had all the same.
@@ -234,6 +242,8 @@ def test_a_drawn_number_that_cannot_be_had_leaves_the_others_as_they_are(program
     assert (words_of(size), words_of(run)) == ("diameter H 6", "x H.centre 20")
     assert isinstance(side, Length) and side.segment.name == "C"
     assert 10_000 < side.value_um < 70_000
+    drawn = [each.drawn and line_of(each.drawn) for each in found.proposals]
+    assert drawn == [None, "length C 73.43", None]
 
 
 # -- what the program says of it

@@ -2,7 +2,7 @@
 program has the last word."""
 from __future__ import annotations
 
-from collections.abc import Iterable, Iterator
+from collections.abc import Iterable, Iterator, Sequence
 from dataclasses import replace
 from functools import cached_property
 
@@ -12,10 +12,11 @@ from pertxogai.completing.choosing import (
     with_more, with_relations)
 from pertxogai.completing.figure import Figure
 from pertxogai.completing.fixes import proposals
-from pertxogai.completing.proposal import Completion, NoProposal, WhyNot
+from pertxogai.completing.proposal import Completion, NoProposal, Proposal, WhyNot
 from pertxogai.completing.slack import Slack, Remaining
 from pertxogai.completing.from_program import Words
-from pertxogai.completing.written import as_drawn, is_near, room_of, with_drawn_values
+from pertxogai.completing.written import (
+    as_drawn, as_written, is_near, room_of, with_drawn_values)
 from pertxogai.drawing import Constraint, Drawing
 from pertxogai.judging import Question, first_good, reasons_against
 from pertxogai.judging.limits import check_fits
@@ -80,8 +81,15 @@ class OpenDrawing:
             if judged is not None and judged.judgement.solution is not None:
                 found = tuple(proposals(self.drawing, added, judged.judgement.solution))
                 own = len(choice.own)
-                return Completion(found[:own], found[own:], judged, datum == choice.datum)
+                return Completion(tuple(self._beside_drawn(found[:own], choice)), found[own:],
+                                  judged, datum == choice.datum)
         return None
+
+    def _beside_drawn(self, own: Sequence[Proposal], choice: Choice) -> Iterator[Proposal]:
+        """What is proposed by a choice; beside what isn't as drawn stands how it is drawn."""
+        assert self.slack is not None
+        for each, there in zip(own, as_written(self.slack, choice).own):
+            yield each if there == each.constraint else replace(each, drawn=there)
 
 
 def completion_of(drawing: Drawing, program: Solver, limit: Limit,

@@ -187,15 +187,17 @@ def angles_of(figure: Figure, first: Segment, second: Segment) -> Iterator[Const
 
 
 def ties(drawn: Figure) -> Iterator[list[Constraint]]:
-    """What may tie the whole to the axes and the origin as it is drawn: directions of edges, the
-    longest first; the place of a point that is drawn at the origin, or of the base; where it would
-    turn about that, the place of the farthest point; the places of all others."""
-    longest_first = sorted(drawn.edges, key=lambda edge: -drawn.length_um(edge))
+    """What may tie the whole to the axes and the origin as it is drawn: directions of edges, those
+    along an axis first, and the longest of these; the place of a point that is drawn at the origin,
+    or of the base; where it would turn about that, the place of the farthest point; the places of
+    all others."""
+    level_first = sorted(drawn.edges, key=lambda edge: (
+        isinstance(direction(drawn, edge), AngleBetween), -drawn.length_um(edge)))
     nothing = nothing_um(drawn)
     base = next((ref for ref in drawn.points if abs(drawn.at(ref)) <= nothing), base_of(drawn))
     farthest = max(drawn.points, key=lambda ref: drawn.apart_um(base, ref))
     there = [Coincident(base, ORIGIN)] if abs(drawn.at(base)) <= nothing else []
-    yield [*(direction(drawn, edge) for edge in longest_first), *there,
+    yield [*(direction(drawn, edge) for edge in level_first), *there,
            *runs(drawn, ORIGIN, [base]), *_across(drawn, base, farthest)]
     yield list(runs(drawn, ORIGIN, drawn.points))
 

@@ -18,10 +18,11 @@ MOST_SECONDS = 20.0
 @dataclass(frozen=True)
 class Proposal:
     """A constraint to add. fixes: what it fixes of the drawing, wholly or in a direction, in words;
-    found by numbers."""
+    found by numbers. drawn: the same as it is drawn, where the drawing can't have that."""
 
     constraint: Constraint
     fixes: tuple[str, ...] = ()
+    drawn: Constraint | None = None
 
     def line(self) -> str:
         """The line to add."""

@@ -115,8 +115,8 @@ def as_drawn(dimension: Constraint, drawn: Figure) -> Constraint | None:
         case XDistance() | YDistance():
             return _run(dimension, drawn)
         case PointLineDistance(point, line):
-            edge = _edge(drawn, line)
-            return height_of(drawn, point, edge) if edge is not None else None
+            base = _edge(drawn, line)
+            return height_of(drawn, point, base) if base is not None else None
         case AngleBetween():
             return _angle(dimension, drawn)
         case _:

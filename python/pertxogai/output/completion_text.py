@@ -4,6 +4,7 @@ from __future__ import annotations
 from collections.abc import Iterator, Sequence
 
 from pertxogai.completing import Completion, NoProposal, Proposal, WhyNot
+from pertxogai.drawing import line_of
 from pertxogai.judging.measure import Unit, amount_text, greatest
 from pertxogai.program.called import COMMAND
 
@@ -25,7 +26,7 @@ def completion_lines(name: str, found: Completion | NoProposal,
 def _proposal_lines(name: str, found: Completion) -> Iterator[str]:
     yield (f"{name}: {_count(len(tuple(found.all())), 'line')} to add, and what each fixes "
            "(by numbers)")
-    yield from (f"  {each.line()}{_fixes(each)}" for each in found.proposals)
+    yield from (f"  {each.line()}{_fixes(each)}{_drawn(each)}" for each in found.proposals)
     if found.datum:
         yield "  to tie the whole to the origin and the axes:"
     yield from (f"  {each.line()}{_fixes(each)}" for each in found.datum)
@@ -51,6 +52,12 @@ def _fixes(proposal: Proposal) -> str:
         return ""
     more = len(proposal.fixes) - MOST_FIXED
     return f"   fixes {', '.join(proposal.fixes[:MOST_FIXED])}{f' and {more} more' * (more > 0)}"
+
+
+def _drawn(proposal: Proposal) -> str:
+    """How it is drawn, where the drawing can't have that."""
+    drawn = proposal.drawn
+    return "" if drawn is None else f"; as drawn it can't be had: {line_of(drawn)}"
 
 
 def _count(number: int, what: str) -> str:
