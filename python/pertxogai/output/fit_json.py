@@ -70,11 +70,10 @@ class CheckJson(TypedDict):
 
 
 class FitJson(TypedDict):
-    """What comes of the checks of a drawing. fits: null where it isn't known, and where no check has
-    limits. why: why nothing is
-    known at all. unplaced: which cases can't be placed, and why; between: those of which both cases
-    beside them can. exact: the dimensions without a tolerance; idle: those whose tolerance moves no
-    check."""
+    """What comes of the checks of a drawing. fits: null where it isn't known, and where no check
+    has limits. why: why nothing is known at all. unplaced: which cases can't be placed, and why;
+    between: those of which both cases beside them can. exact: the dimensions without a tolerance;
+    idle: those whose tolerance moves no check."""
 
     name: str
     fits: bool | None

@@ -35,8 +35,9 @@ WORDS = ("length", "distance", "x", "y", "angle", "radius", "diameter")
 @dataclass(frozen=True)
 class Check:
     """A measure that must lie between two limits; either may be omitted, and both where it is only
-    asked how far it varies. asked: the dimension that is measured; its value is ignored. If a limit is written with a sign, a coordinate or a turn is
-    measured with its sign; otherwise it is measured as on paper."""
+    asked how far it varies. asked: the dimension that is measured; its value is ignored. If a
+    limit is written with a sign, a coordinate or a turn is measured with its sign; otherwise it is
+    measured as on paper."""
 
     name: str
     asked: Valued
