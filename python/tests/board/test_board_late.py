@@ -71,6 +71,25 @@ def test_a_measured_dimension_isnt_asked_for_by_the_number_that_it_had(page: Pag
     assert page.text() == MEASURED.replace("# reference length A\n", "")
 
 
+def test_a_label_that_is_held_isnt_put_by_the_number_that_it_had(page: Page) -> None:
+    """Once the first dimension is gone the third has the number of the second."""
+    page.begin("segment A 0 0 40 0\nsegment B 0 20 40 20\nsegment C 0 40 40 40\n"
+               "length A 40\nlength B 40\nlength C 40\n", "open")
+    first, (x, y) = page.mark(1), page.mark(2)
+    page.press(*first)
+    page.wait("it is selected", "return document.querySelector('.marks .selectedmark')")
+    with page.held("edit"):
+        page.keys(Keys.DELETE)
+        page.press(x, y, to=(x + 40, y - 30), lets_go=False)
+        assert page.mark(2) == pytest.approx((x + 40, y - 30), abs=2)
+    wait_for("it is gone", lambda: "length A" not in page.text())
+    page.let_go()
+    wait_for("told", lambda: page.told("hint") == CHANGED)
+    page.settled()
+    assert page.text().endswith("length B 40\nlength C 40\n")
+    assert page.mark(1) == pytest.approx((x, y), abs=2)
+
+
 EDITS = """
 window.edits_ = [];
 const { fetch: before } = window;

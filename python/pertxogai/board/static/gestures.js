@@ -99,6 +99,7 @@ export class Gestures extends Work {
     const thing = this.touched(event.target, at);
     const pans = event.button > 0 || this.pans;
     const boxes = !pans && !thing && !this.hand.draws;
+    this.labels.take(typeof thing === 'number' ? thing : null);
     this.pressed = { at, last: at, thing, pans, boxes, moved: false, edit: null, guesses: [] };
   }
 
@@ -152,7 +153,7 @@ export class Gestures extends Work {
     } else if (!this.hand.draws && typeof pressed.thing === 'string') {
       this.drag(pressed, pressed.thing, at, heldOf(event));
     } else if (!this.hand.draws && typeof pressed.thing === 'number') {
-      this.labels.hold(pressed.thing, at, pressed.at);
+      this.labels.hold(at, pressed.at);
     } else this.hover(at, heldOf(event));
   }
 
@@ -242,11 +243,12 @@ export class Gestures extends Work {
   release({ thing, at: from, moved }, to, held) {
     const { plane } = this.board;
     const [first, last] = [plane.toPlane(from), plane.toPlane(to)];
+    const grip = this.labels.letGo();
     this.sequence.do(() => {
       const [start, end] = [plane.toScreen(first), plane.toScreen(last)];
       if (this.hand.draws) return this.drafting.act(end, held);
       if (!moved) return this.select(thing, held.shiftKey || held.ctrlKey);
-      if (typeof thing === 'number') return this.labels.put(thing, end, start);
+      if (typeof thing === 'number') return this.labels.put(grip, end, start);
       if (typeof thing !== 'string') return null;
       const aim = this.moving.drop(thing, end, held);
       if (this.dragging.begin(thing, start, held.altKey)) {

@@ -5,54 +5,79 @@ import { Work } from './work.js';
 
 /** @typedef {import('./page').Place} Place */
 
+/**
+ * The dimension whose label a hand holds, where that stood in millimetres, and the text in which
+ * the dimension has its number.
+ * @typedef {{ number: number, from: Place, text: string | undefined }} Grip
+ */
+
 /** Moves labels, and has the drawing keep where they stand. */
 export class Labels extends Work {
-  /**
-   * The dimension whose label a hand holds, and where that stood in pixels.
-   * @type {{ number: number, from: Place } | null}
-   */
+  /** @type {Grip | null} */
   grip = null;
 
   /**
-   * Holds the label of a dimension at a place in pixels.
-   * @param {number} number
-   * @param {Place} at
-   * @param {Place} from
+   * Takes hold of the label of a dimension; of none, where there is no number.
+   * @param {number | null} number
    */
-  hold(number, at, from) {
-    const label = this.labelAt(number, at, from);
-    this.board.dragged = new Map(label ? [[number, label]] : []);
-    this.board.draw();
+  take(number) {
+    const { board, paper } = this;
+    const from = number === null ? undefined : board.markPlace(number);
+    this.grip = number === null || !from ? null
+      : { number, from: board.plane.toPlane(from), text: paper.answer?.text };
   }
 
   /**
-   * How far the label of a dimension stands from where it is measured, in millimetres, once it was
+   * The label that is held goes with the hand from one place in pixels to another, as long as its
+   * dimension has its number.
+   * @param {Place} at
+   * @param {Place} from
+   */
+  hold(at, from) {
+    const { board, grip, paper } = this;
+    const isIt = grip && grip.text === paper.answer?.text;
+    const label = isIt && this.labelAt(grip, at, from);
+    board.dragged = new Map(label ? [[grip.number, label]] : []);
+    board.draw();
+  }
+
+  /**
+   * How far a label stands from where its dimension is measured, in millimetres, once it was
    * dragged from one place in pixels to another; null of a sign.
-   * @param {number} number
+   * @param {Grip} grip
    * @param {Place} at
    * @param {Place} from
    * @returns {Place | null}
    */
-  labelAt(number, [x, y], [u, v]) {
+  labelAt({ number, from: [x, y] }, at, from) {
     const { board, board: { plane } } = this;
     const base = board.markOf(number)?.base;
     if (!base) return null;
-    this.grip ??= { number, from: /** @type {Place} */ (board.markPlace(number)) };
-    const [a, b] = plane.toPlane([this.grip.from[0] + x - u, this.grip.from[1] + y - v]);
-    return [rounded(a - base[0], 1000), rounded(b - base[1], 1000)];
+    const [[a, b], [u, v]] = [plane.toPlane(at), plane.toPlane(from)];
+    return [rounded(x + a - u - base[0], 1000), rounded(y + b - v - base[1], 1000)];
+  }
+
+  /** The hand lets go of a label. */
+  letGo() {
+    const { grip } = this;
+    this.grip = null;
+    return grip;
   }
 
   /**
-   * The label of a dimension is let go where it is held.
-   * @param {number} number
+   * A label that was let go is put where it was held; by the number of its dimension only in the
+   * text in which that has it.
+   * @param {Grip | null} grip
    * @param {Place} at
    * @param {Place} from
    */
-  async put(number, at, from) {
+  async put(grip, at, from) {
     const { board, paper } = this;
-    const label = this.labelAt(number, at, from);
-    this.grip = null;
-    if (label) await paper.edit({ do: 'label', number, x: label[0], y: label[1] });
+    const label = grip && this.labelAt(grip, at, from);
+    if (label) {
+      const [x, y] = label;
+      await paper.edit({ do: 'label', number: grip.number, x, y }, grip.text);
+    }
     board.dragged = new Map();
     board.draw();
   }
