@@ -4,6 +4,7 @@ from __future__ import annotations
 
 from collections.abc import Collection, Iterator, Sequence
 from dataclasses import dataclass
+from fractions import Fraction
 from itertools import combinations
 from math import atan2, ceil, cos, hypot, pi, sin
 from typing import TypeAlias
@@ -13,7 +14,7 @@ from numpy.typing import NDArray
 
 from pertxogai.drawing import (
     ORIGIN, X_AXIS, Y_AXIS, Arc, Circle, Constraint, Distance, Drawing, PointLineDistance, PointOn,
-    PointRef, Segment, Tangent, Which)
+    PointRef, Segment, ShapeRef, Symmetric, Tangent, Which)
 from pertxogai.exact import between, cross, dot
 from pertxogai.judging.departures import Departure, DepartureKind, Warned
 from pertxogai.judging.edge_points import AT_END_NM, EdgePoint, edge_points, is_beyond, touching
@@ -41,8 +42,8 @@ CHORD_TURN = pi / 24
 class Placement:
     """One placement. ends: of each piece the two ends, in nm; radius, bulge: as a Piece has them.
     runs: how far each edge runs its drawn way, in nm; how far each two straight things that go
-    through one point are from one line; and how far each point that lies on an edge is from being
-    beyond either end."""
+    through one point, or a mirror and the way to what it mirrors, are from one line; and how far
+    each point that lies on an edge is from being beyond either end."""
 
     ends: Array
     radius: Array
@@ -149,6 +150,17 @@ def _meeting(drawing: Drawing, segments: Sequence[Segment]) -> Iterator[tuple[St
                 through.setdefault(leader(point), {})[line] = lines[line]
     for met in through.values():
         yield from combinations(met.values(), 2)
+    yield from _mirrors(drawing)
+
+
+def _mirrors(drawing: Drawing) -> Iterator[tuple[Straight, Straight]]:
+    """Each line that two points are symmetric to, and the way to one of them: where the way is
+    along the line, the two points are one."""
+    for each in drawing.constraints:
+        if isinstance(each, Symmetric) and isinstance(each.about, ShapeRef):
+            line = drawing.shape(each.about.name)
+            if isinstance(line, Segment):
+                yield line, Distance(PointRef(line.name, Which.START), each.first, Fraction(1))
 
 
 def _lines_by_points(said: Constraint) -> Iterator[tuple[str, PointRef]]:
