@@ -19,18 +19,18 @@ PAGE = TOP / "python" / "GALLERY-RANGES.md"
 DRAWINGS = sorted((TOP / "python" / "tests" / "drawings").glob("*.drawing"))
 NOT_GOOD = ("hole-without-size", "off-triangle-too-wide")
 """These are fully constrained, and not good."""
-LINE = re.compile(r"  (.*): from (\S+) to (\S+)(?: mm| deg)?, now (\S+); below: (.*); above: (.*)")
+LINE = re.compile(r"  (.*): from (\S+) to (\S+?)( mm| deg)?, now \S+; below: .*; above: .*")
 
 
 @dataclass(frozen=True)
 class Row:
-    """A line of the page: what it is the range of, both ends, and the reasons."""
+    """A line of the page: what it is the range of, and both ends. step: to what the ends are
+    exact."""
 
     called: str
     low: float
     high: float
-    below: str
-    above: str
+    step: float
 
 
 @cache
@@ -41,8 +41,9 @@ def page() -> dict[str, list[Row]]:
     for line in shown.splitlines():
         match = LINE.fullmatch(line)
         if match:
-            called, low, high, _, below, above = match.groups()
-            found[name].append(Row(called, float(low), float(high), below, above))
+            called, low, high, unit = match.groups()
+            step = .0001 if unit == " deg" else .001
+            found[name].append(Row(called, float(low), float(high), step))
         else:
             assert not line.startswith(" ")
             name = line.split(":")[0]
@@ -70,6 +71,7 @@ def row_of(name: str, words: str) -> Row:
 
 
 NO_LEAST, NO_MOST = 0.001, 1e6
+LEAST_ANGLE, MOST_ANGLE = .0001, 179.9999
 
 
 @pytest.mark.parametrize(("name", "words", "low", "high"), [
@@ -101,6 +103,8 @@ NO_LEAST, NO_MOST = 0.001, 1e6
     ("chamfered-and-filleted", "Width", 24.001, NO_MOST),
     ("chamfered-and-filleted", "Height", 22.001, NO_MOST),
     ("chamfered-and-filleted", "x Bottom.end Chamfer.end", NO_LEAST, 37.999),
+    # The right side comes to nothing where the chamfer rises 38 over 10.
+    ("chamfered-and-filleted", "angle Bottom Chamfer", 180 - degrees(atan(3.8)), MOST_ANGLE),
     # The ring of 30 holds both coins beside each other: 2 * 30 is more than 2 * 15 + 2 * 10.
     ("coins-in-a-ring", "radius Ring", 25.001, NO_MOST),
     ("coins-in-a-ring", "radius A", NO_LEAST, 19.999),
@@ -132,6 +136,9 @@ NO_LEAST, NO_MOST = 0.001, 1e6
     ("dovetail", "length LandL", 15 / sqrt(3), 70 - 15 / sqrt(3)),
     ("dovetail", "distance LandL.start LandR.end", NO_LEAST, 65 - 15 / sqrt(3)),
     ("dovetail", "distance Floor LandR", NO_LEAST, 40),
+    # The floor reaches the right side 35 beyond the land's end; a flank as drawn, 7 by 16, is
+    # square to -240/7 by 15.
+    ("dovetail", "angle FlankR Floor", degrees(atan(15 / 35)), 180 - degrees(atan(15 * 7 / 240))),
     # The bore of 6 lies 3 off the middle of a disc of 20.
     ("eccentric", "radius Disc", 8.999, NO_MOST), ("eccentric", "radius Bore", NO_LEAST, 17.001),
     ("eccentric", "distance Disc.centre Bore.centre", NO_LEAST, 14.001),
@@ -159,6 +166,8 @@ NO_LEAST, NO_MOST = 0.001, 1e6
     # A hexagon's sides lie cos 30 of its corners' radius from the middle.
     ("hexagon-nut", "radius Around", 7.999 / cos(pi / 6), NO_MOST),
     ("hexagon-nut", "diameter Bore", NO_LEAST, 2 * (30 * cos(pi / 6) + .001)),
+    # The other rafter rises at 45 degrees, and meets a line at any other angle.
+    ("house", "angle RoofR", LEAST_ANGLE, MOST_ANGLE),
     # The side goes from where the head is 4 wide to 30 below its middle.
     ("keyhole", "radius Head", 4, sqrt(30 ** 2 + 4 ** 2)),
     # Twice 29, and twice 52, are more than 40.
@@ -170,6 +179,10 @@ NO_LEAST, NO_MOST = 0.001, 1e6
     # Each hole of 6 has a diameter of its own; they are 50 apart.
     ("mirrored-holes", "x Left.centre", 5.999, NO_MOST),
     ("mirrored-holes", "diameter Left", NO_LEAST, 94.002),
+    # The mirror is drawn 39 over 40, and square to that it runs neither way.
+    ("mirrored-in-a-slanted-line", "angle Mirror", LEAST_ANGLE, 90 + degrees(atan(39 / 40))),
+    # At 50 beside 50 the point lies on the mirror, and is its own image.
+    ("mirrored-in-a-slanted-line", "y P", 0, 49.999),
     # A side as long as the height is square to the base.
     ("parallelogram-by-height", "distance South", NO_LEAST, 30),
     ("parallelogram-by-height", "length East", 24, None),
@@ -189,6 +202,8 @@ NO_LEAST, NO_MOST = 0.001, 1e6
     # The joints stay on rafters of 4000 / cos 30.
     ("roof-truss", "distance West", NO_LEAST, 4000 / cos(pi / 6)),
     ("roof-truss", "length Tie", 4600 * cos(pi / 6), NO_MOST),
+    # At 90 degrees a rafter is parallel to the post.
+    ("roof-truss", "angle Tie RafterW", None, 89.9999),
     # A slot of 8 in a plate of 100 by 50, from 35 to 65 at 25: a cut of a micrometre is a touch.
     ("slotted-plate", "length PlateBottom", 72.999, NO_MOST),
     ("slotted-plate", "length PlateRight", 32.999, NO_MOST),
@@ -224,28 +239,12 @@ NO_LEAST, NO_MOST = 0.001, 1e6
 ])
 def test_ends_are_those_by_hand(name: str, words: str, low: float | None,
                                 high: float | None) -> None:
-    """An end that is no whole number of micrometres is the one next to it, within the range."""
+    """An end that is no whole number of steps is the one next to it, within the range."""
     row = row_of(name, words)
     if low is not None:
-        assert -1e-9 <= row.low - low < .001
+        assert -1e-9 <= row.low - low < row.step
     if high is not None:
-        assert -1e-9 <= high - row.high < .001
-
-
-def chamfer_low() -> float:
-    """The right side comes to nothing where the chamfer rises 38 over 10."""
-    return 180 - degrees(atan(3.8))
-
-
-@pytest.mark.parametrize(("name", "words", "low", "high"), [
-    ("chamfered-and-filleted", "angle Bottom Chamfer", chamfer_low(), 179.9999),
-    # The floor reaches the right side 35 beyond the land's end; a flank as drawn, 7 by 16, is
-    # square to -240/7 by 15.
-    ("dovetail", "angle FlankR Floor", degrees(atan(15 / 35)), 180 - degrees(atan(15 * 7 / 240))),
-])
-def test_ends_of_angles_are_those_by_hand(name: str, words: str, low: float, high: float) -> None:
-    row = row_of(name, words)
-    assert abs(row.low - low) < .0002 and abs(row.high - high) < .0002
+        assert -1e-9 <= high - row.high < row.step
 
 
 @pytest.mark.parametrize("name", ["washer", "d-shaft", "plate-by-values", "open-hinge"])
