@@ -145,6 +145,16 @@ def test_what_is_moved_past_the_origin_is_not_mirrored(kind: Kind, found: set[Ca
     assert causes(plate_of(text, kind), places={"S1": ends}) == found
 
 
+@pytest.mark.parametrize("more, found", [
+    ("", set()), ("y L1.end 10.276\n", {Cause.GOOD_BUT_TURNED_OVER})])
+def test_what_words_do_not_tell_from_the_origin_is_not_mirrored(more: str, found: set[Cause]) -> None:
+    """The line of an edge is drawn below the origin, and lies above it: nothing tells how high."""
+    text = "segment L1 1 0 27 10\nangle L1 21deg\nx L1.end 26.927637885\nlength L1 29\n" + more
+    ends = {"start": {"x_nm": -146194, "y_nm": 0}, "end": {"x_nm": 26927638, "y_nm": 10392671}}
+    plate = plate_of(text)
+    assert causes(plate, places={"L1": ends}) - {Cause.GOOD_BUT_OFF} == found
+
+
 def test_a_verdict_that_is_not_so_is_found() -> None:
     whole, loose = plate_of(), plate_of(PLATE.replace("x Hole 45\n", ""))
     twice = plate_of(PLATE + "length PlateTop 120\n", Kind.REPEATED)

@@ -154,14 +154,38 @@ def _excess(blocks: list[Matrix], number: int) -> int:
 def _moves(model: Model, at: Vector, whole: Matrix) -> int:
     """In how many ways the whole may be moved and turned: where a drawn point is the origin, it
     may be turned alone."""
+    moves = _motions(model, at)
+    return rank(moves) - rank(_changes(whole, moves))
+
+
+def shifts_of_the_whole(model: Model, at: Vector) -> Matrix:
+    """How the ways in which the whole may be moved and turned shift what is the origin: a row of x
+    and y for each way; of a turn about the origin nothing."""
+    moves = _motions(model, at)
+    sizes = np.linalg.norm(moves, axis=1, keepdims=True)
+    if not sizes[:2].all():
+        return np.zeros((0, 2))
+    changes = _changes(np.concatenate(model.slopes(at)), moves / np.where(sizes > ZERO, sizes, 1))
+    _, left, ways = np.linalg.svd(np.vstack([changes.T, np.zeros((3, 3))]))
+    found: Matrix = ways[left < SOME][:, :2]
+    return found
+
+
+def _motions(model: Model, at: Vector) -> Matrix:
+    """Two shifts of all points, and a turn about the origin."""
     moves = np.zeros((3, model.index.size))
     is_pinned = any(unknown == "Origin" != name for name, unknown in model.sheet.unknown.items())
     for place in model.index.points.values():
         moves[0, place] = moves[1, place + 1] = int(not is_pinned)
         moves[2, place], moves[2, place + 1] = -at[place + 1].real, at[place].real
+    return moves
+
+
+def _changes(whole: Matrix, moves: Matrix) -> Matrix:
+    """How each row changes, of length 1, with each of some motions."""
     sizes = np.linalg.norm(whole, axis=1, keepdims=True)
-    turned = (whole / np.where(sizes > ZERO, sizes, 1)) @ moves.T
-    return rank(moves) - (rank(turned.T) if turned.size else 0)
+    found: Matrix = ((whole / np.where(sizes > ZERO, sizes, 1)) @ moves.T).T
+    return found
 
 
 def _sizeless(model: Model, whole: Matrix, full: int) -> frozenset[str]:

@@ -13,7 +13,7 @@ from .making import Kind, Made, turns
 from .plane import Plane, Vector, real, size
 from .reading import LEVELS, Spot, Word, read
 from .rows import Row
-from .truth import Model, Untold, truth
+from .truth import Matrix, Model, Untold, shifts_of_the_whole, truth
 
 LIMIT_NM = LIMIT_PPB = 1000.0
 SLACK, SLACK_NM = 1.01, 3.0
@@ -115,17 +115,29 @@ def _good(made: Made, answer: Answer) -> Iterator[Found]:
 
 def _is_turned_over(made: Made, places: dict[str, Any]) -> bool:
     """Whether each three points that don't lie on one line go round the other way than they are
-    drawn; of what is tied elsewhere than it is drawn without the origin, on whose other side it may
-    come to lie."""
+    drawn; without the origin where the words don't tell from it, or tell elsewhere than it is drawn,
+    what lies on which side of it."""
     model = Model.of(read(made.text))
     at = model.index.vector(model.sheet.drawn, model.sheet.radii), _vector(model, places)
     drawn, placed = (turns(model, each) for each in at)
     flat = [FLAT_MM * np.ptp(np.append(each.real, 0)) for each in at]
     told = (np.abs(drawn) > flat[0]) & (np.abs(placed) > flat[1])
-    if made.kind is Kind.ELSEWHERE:
-        own = np.array([name != "Origin" for name in model.sheet.drawn])
-        told &= own[:, None, None] & own[None, :, None] & own[None, None, :]
+    origin, sided = list(model.sheet.drawn).index("Origin"), _are_sided(made, model)
+    for triples in (told, told.swapaxes(0, 1), told.swapaxes(0, 2)):
+        triples[origin] &= sided
     return bool(told.any()) and not (drawn * placed > 0)[told].any()
+
+
+def _are_sided(made: Made, model: Model) -> Matrix:
+    """Whether words tell on which side of the way from one point to another the origin lies: not
+    where a motion of the whole takes it across."""
+    plane = model.plane(made.exact)
+    spots = np.array([complex(x.real, y.real) for x, y in map(plane.spot, model.sheet.drawn)])
+    ways = spots[None, :] - spots[:, None]
+    across = [np.abs(x * ways.imag - y * ways.real)
+              for x, y in shifts_of_the_whole(model, made.exact)]
+    sided: Matrix = np.max([np.zeros(ways.shape), *across], axis=0) < STEP_MM
+    return sided if made.kind is not Kind.ELSEWHERE else np.zeros(ways.shape, dtype=bool)
 
 
 def _well(made: Made, answer: Answer) -> Iterator[Found]:
