@@ -10,6 +10,7 @@ from __future__ import annotations
 from collections import Counter
 from collections.abc import Callable, Collection, Iterator
 from dataclasses import dataclass, field
+from typing import NamedTuple
 
 from pertxogai.drawing import Arc, Drawing, PointRef, Segment, Which
 from pertxogai.exact import Vector, between, cross, dot, square
@@ -41,8 +42,7 @@ class Cusp:
         return f"{told}: are the start and end of {self.swapped} swapped?"
 
 
-@dataclass(frozen=True)
-class _Corner:
+class _Corner(NamedTuple):
     """The ends of two edges in one point. one, other: these edges; at, there: their ends."""
 
     one: Segment | Arc

@@ -2,7 +2,7 @@
 from __future__ import annotations
 
 from collections.abc import Iterator
-from dataclasses import dataclass
+from typing import NamedTuple
 
 from pertxogai.classes import Classes
 from pertxogai.drawing import Collinear, Drawing, Midpoint, PointOn, PointRef, Segment
@@ -13,8 +13,7 @@ AT_END_NM = 500
 """What lies no further beyond an end lies there: in whole micrometres it is 0."""
 
 
-@dataclass(frozen=True)
-class EdgePoint:
+class EdgePoint(NamedTuple):
     """A point that a constraint puts on an edge, and that is drawn between the edge's ends."""
 
     point: PointRef

@@ -4,7 +4,7 @@ from __future__ import annotations
 from collections.abc import Iterator, Sequence
 from dataclasses import dataclass, field
 from itertools import combinations
-from typing import Protocol
+from typing import NamedTuple, Protocol
 
 from pertxogai.drawing import Arc, Distance, Drawing, PointRef, Segment, Which
 from pertxogai.exact import Vector, between, cross, whole_near
@@ -16,8 +16,7 @@ STRAIGHT_NM = 1000
 """A corner in which an end is no further off the line of the other edge is none."""
 
 
-@dataclass(frozen=True)
-class Chord:
+class Chord(NamedTuple):
     """From one end to the other, in one place of an edge, drawn or placed, in nm."""
 
     start: Vector
@@ -43,8 +42,7 @@ class Chord:
         return self.parts(other) and other.parts(self)
 
 
-@dataclass(frozen=True)
-class Edge:
+class Edge(NamedTuple):
     """A segment, an arc from its start to its end, or the way that a distance is told of, as it is
     drawn, and as it is placed."""
 

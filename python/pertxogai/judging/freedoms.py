@@ -14,6 +14,7 @@ from decimal import Decimal, localcontext
 from enum import Enum
 from functools import cached_property
 from itertools import islice
+from typing import NamedTuple
 
 from pertxogai.cached import cached_on
 from pertxogai.drawing import Distance, Drawing, PointRef
@@ -27,8 +28,7 @@ NONE, SOME = Decimal("1e-30"), Decimal("1e-14")
 Row = Mapping[int, Decimal]
 
 
-@dataclass(frozen=True)
-class Whole:
+class Whole(NamedTuple):
     """How the whole may still be moved against the datum: along x, along y, in how many ways that
     differ by where they take a point, of three, and whether one of these is a turn."""
 
@@ -47,8 +47,7 @@ class Whole:
         return " and ".join([*found, *(["turned"] if self.turns else [])])
 
 
-@dataclass(frozen=True)
-class Loose:
+class Loose(NamedTuple):
     """A point that its own dimensions leave free, wherever all others are: along x, along y, both,
     or another way."""
 

@@ -3,7 +3,7 @@ from __future__ import annotations
 
 from bisect import bisect_left, bisect_right
 from collections.abc import Iterable, Iterator, Sequence
-from dataclasses import dataclass
+from typing import NamedTuple
 
 from pertxogai.classes import Classes
 from pertxogai.drawing import PointRef
@@ -12,8 +12,7 @@ from pertxogai.judging.edges import Edge, Ends
 from pertxogai.judging.rims import TOUCHING_NM, Rim, Round
 
 
-@dataclass(frozen=True)
-class Loop:
+class Loop(NamedTuple):
     """A closed outline by its edges and arcs, or a circle."""
 
     name: str

@@ -7,8 +7,8 @@ by itself, since each may be turned over about it."""
 from __future__ import annotations
 
 from collections.abc import Collection, Iterable, Iterator, Sequence
-from dataclasses import dataclass
 from functools import cached_property
+from typing import NamedTuple
 
 from pertxogai.drawing import X_AXIS, Arc, Distance, Drawing, PointRef, Segment
 from pertxogai.exact import dot
@@ -30,16 +30,14 @@ def mirrored(drawing: Drawing, solution: Solution) -> Iterator[tuple[str, ...]]:
     return Pieces.of(drawing).mirrored(Edges(drawing, solution))
 
 
-@dataclass(frozen=True)
-class Piece:
+class Piece(NamedTuple):
     """What has its edges, and the places of each two of them that end in one point."""
 
     sides: tuple[Side, ...]
     corners: tuple[tuple[int, int], ...]
 
 
-@dataclass(frozen=True)
-class Pieces:
+class Pieces(NamedTuple):
     """The pieces of a drawing, whatever its dimensions are."""
 
     pieces: tuple[Piece, ...]

@@ -3,9 +3,9 @@ nanometres."""
 from __future__ import annotations
 
 from collections.abc import Sequence
-from dataclasses import dataclass
 from fractions import Fraction
 from math import cos, sin
+from typing import NamedTuple
 
 from pertxogai.exact import Vector, root, square, whole_near
 from pertxogai.judging.turning import KnownSum, axis_of, drawn_axis, known_sum
@@ -17,8 +17,7 @@ from pertxogai.spelling.linear import Number, small
 from pertxogai.spelling.writing import Heading, Spelled
 
 
-@dataclass(frozen=True)
-class PrintedPlaces:
+class PrintedPlaces(NamedTuple):
     """Printed points and lines by their names, in micrometres of the drawing."""
 
     points: dict[str, PointUm]

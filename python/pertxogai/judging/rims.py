@@ -3,8 +3,8 @@ nanometres."""
 from __future__ import annotations
 
 from collections.abc import Iterator
-from dataclasses import dataclass
 from math import isqrt
+from typing import NamedTuple
 
 from pertxogai.drawing import Arc, Circle, Drawing, PointRef, Which
 from pertxogai.exact import Vector, between, cross, dot, square, whole_near
@@ -15,8 +15,7 @@ TOUCHING_NM = 1000
 """What cuts no deeper than this touches, and what ends no further behind a rim ends on it."""
 
 
-@dataclass(frozen=True)
-class Round:
+class Round(NamedTuple):
     """A circle, or an arc counter-clockwise from the first of its ends to the second, in one place,
     in nm."""
 
@@ -86,8 +85,7 @@ def _is_apart(first: Vector, second: Vector) -> bool:
     return square(between(first, second)) > TOUCHING_NM ** 2
 
 
-@dataclass(frozen=True)
-class Rim:
+class Rim(NamedTuple):
     """A circle or an arc as it is drawn, and as it is placed."""
 
     name: str

@@ -3,8 +3,8 @@ frame."""
 from __future__ import annotations
 
 from collections.abc import Callable
-from dataclasses import dataclass
 from functools import cache, partial
+from typing import NamedTuple
 
 from pertxogai.drawing import ORIGIN, Arc, Circle, Drawing, PointRef
 from pertxogai.exact import whole_near
@@ -16,8 +16,7 @@ from pertxogai.program.reports import Shape
 from pertxogai.spelling.facts import ORIGIN_KNOT, RadiusOf
 
 
-@dataclass(frozen=True)
-class Settled:
+class Settled(NamedTuple):
     """The places of a drawing, and the circles of which nothing tells the size, which are as they
     are drawn."""
 

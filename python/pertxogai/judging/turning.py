@@ -7,10 +7,10 @@ from __future__ import annotations
 
 from collections import defaultdict
 from collections.abc import Collection, Hashable, Iterator, Mapping
-from dataclasses import dataclass
 from fractions import Fraction
 from itertools import chain, combinations
 from math import cos, sin
+from typing import NamedTuple
 
 from pertxogai.exact import Vector, between, dot, root, square
 from pertxogai.spelling.axes import Axes, Coordinate
@@ -19,8 +19,7 @@ from pertxogai.spelling.lean import Lean
 from pertxogai.spelling.linear import Form, Number
 
 
-@dataclass(frozen=True)
-class KnownRun:
+class KnownRun(NamedTuple):
     """How far the drawing says that a way between two points runs along the datum's x axis, or to
     its left where `upwards`, in micrometres."""
 
@@ -30,8 +29,7 @@ class KnownRun:
     run: Number
 
 
-@dataclass(frozen=True)
-class KnownDirection:
+class KnownDirection(NamedTuple):
     """How the drawing says that a way between two points lies to the datum's x axis."""
 
     first: Knot
@@ -64,8 +62,7 @@ def drawn_axis(axes: Axes, spots: Mapping[Knot, Vector]) -> Vector | None:
     return None
 
 
-@dataclass(frozen=True)
-class KnownSum:
+class KnownSum(NamedTuple):
     """A sum of coordinates of placed points, each times a number, that the drawing says, in
     micrometres. It changes as all are shifted, since the numbers don't come to 0."""
 

@@ -2,7 +2,7 @@
 from __future__ import annotations
 
 from collections.abc import Sequence
-from dataclasses import dataclass
+from typing import NamedTuple
 
 from pertxogai.judging.measure.limit import DEFAULT, MOST, Limit
 from pertxogai.program import Answer, Solver
@@ -17,8 +17,7 @@ def within(spelled: Spelled) -> str:
     return f"{KEY}{min(MOST, DEFAULT * spelled.scale)}"
 
 
-@dataclass(frozen=True)
-class Wider:
+class Wider(NamedTuple):
     """A program that is asked with as many times each limit as one is greater than the language's
     own; a smaller one is a matter of what is measured alone."""
 

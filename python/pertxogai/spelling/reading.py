@@ -2,8 +2,7 @@
 from __future__ import annotations
 
 from collections.abc import Iterator, Sequence
-from dataclasses import replace
-from typing import NamedTuple
+from dataclasses import dataclass, replace
 
 from pertxogai.drawing import Drawing
 from pertxogai.spelling.axes import Axes
@@ -29,7 +28,8 @@ def spell(drawing: Drawing, style: Style) -> Spelled:
     return written(axes, Rails(axes, style), style)
 
 
-class Reading(NamedTuple):
+@dataclass(frozen=True)
+class Reading:
     """How a drawing's words are interpreted. slots: distances between centres along a line are
     given for radii. middles: regular polygons are given by the midpoints of opposite corners. ways:
     a midpoint of two points is given along the line through them."""

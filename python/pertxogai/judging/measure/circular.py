@@ -2,9 +2,9 @@
 
 from __future__ import annotations
 
-from dataclasses import dataclass
 from fractions import Fraction
 from functools import cache
+from typing import NamedTuple
 
 _ONE = 10 ** 60
 _SLACK = 1000
@@ -12,8 +12,7 @@ _SLACK = 1000
 is rounded by at most two units, and pi by fewer than 200."""
 
 
-@dataclass(frozen=True)
-class Enclosed:
+class Enclosed(NamedTuple):
     """A number that is at least `low` and at most `high`."""
 
     low: Fraction

@@ -2,8 +2,8 @@
 
 from __future__ import annotations
 
-from dataclasses import dataclass
 from fractions import Fraction
+from typing import NamedTuple
 
 from pertxogai.drawing import Slope, Turn
 from pertxogai.exact import Number, Root, Vector, cross, dot, least, square
@@ -13,8 +13,7 @@ PPB = 10 ** 9
 """Parts of a radian."""
 
 
-@dataclass(frozen=True)
-class Line:
+class Line(NamedTuple):
     """A placed line: a place on it, its way, and whether it ends where the way ends; an axis is
     endless."""
 
@@ -23,8 +22,7 @@ class Line:
     ends: bool
 
 
-@dataclass(frozen=True)
-class Bend:
+class Bend(NamedTuple):
     """How far two lines are off a turn: by the sine of the angle that is too much, squared, and
     whether the second runs the other way than it should."""
 
@@ -66,8 +64,7 @@ def bend(first: Line, second: Line, turn: Turn) -> Bend:
     return Bend(over * over / squares, not ahead)
 
 
-@dataclass(frozen=True)
-class _Wanted:
+class _Wanted(NamedTuple):
     """A direction by its cosine and sine, times the root of `square`."""
 
     cosine: Enclosed
