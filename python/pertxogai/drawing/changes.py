@@ -2,7 +2,8 @@
 
 from __future__ import annotations
 
-from dataclasses import dataclass
+from typing import NamedTuple
+
 
 from pertxogai.cached import cached_on
 from pertxogai.drawing.constraints import (
@@ -33,8 +34,7 @@ def moved(drawing: Drawing, before: Drawing) -> frozenset[str] | None:
     return frozenset(found)
 
 
-@dataclass(frozen=True)
-class Redrawing:
+class Redrawing(NamedTuple):
     """A drawing `new` in which the same points are one as in a drawing `old`, and the shapes that
     are drawn elsewhere in it, as `moved` tells them. The constraints may differ."""
 

@@ -3,7 +3,6 @@
 from __future__ import annotations
 
 from collections.abc import Sequence
-from dataclasses import replace
 from fractions import Fraction
 
 from pertxogai.drawing.checks import check_point, points_told, standing
@@ -75,13 +74,13 @@ class Cursor:
         """A number of millimetres, or an expression, and its tolerance, to the end of the line."""
         text, word = split_tolerance(self.rest("a number of millimetres"))
         tolerance = read_tolerance(word, of_angle=False)
-        return replace(read_length(text, self.scene.values), tolerance=tolerance)
+        return read_length(text, self.scene.values)._replace(tolerance=tolerance)
 
     def angle(self) -> WrittenAngle:
         """An angle, or an expression, and its tolerance, to the end of the line."""
         text, word = split_tolerance(self.rest("an angle, such as 60deg,"))
         tolerance = read_tolerance(word, of_angle=True)
-        return replace(read_written_angle(text, self.scene.values), tolerance=tolerance)
+        return read_written_angle(text, self.scene.values)._replace(tolerance=tolerance)
 
     def place(self) -> Place:
         """A place, by two numbers."""

@@ -4,9 +4,8 @@ constraint takes one, an expression may stand instead."""
 from __future__ import annotations
 
 import re
-from dataclasses import dataclass
 from fractions import Fraction
-from typing import TYPE_CHECKING
+from typing import TYPE_CHECKING, NamedTuple
 
 from pertxogai.drawing.constraints import AngleValue, Degrees, Ratio, Sense
 from pertxogai.drawing.names import nearest
@@ -48,8 +47,7 @@ def has_sign(word: str) -> bool:
     return word[:1] in "+-"
 
 
-@dataclass(frozen=True)
-class WrittenLength:
+class WrittenLength(NamedTuple):
     """A length as it is written: its micrometres, who says its sign, its expression where it is
     one, and its tolerance where it has one."""
 
@@ -59,8 +57,7 @@ class WrittenLength:
     tolerance: Tolerance | None = None
 
 
-@dataclass(frozen=True)
-class WrittenAngle:
+class WrittenAngle(NamedTuple):
     """An angle as it is written: what it is, who says its sign, its expression where it is one, and
     its tolerance where it has one."""
 

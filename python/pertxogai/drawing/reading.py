@@ -9,8 +9,8 @@ width: length Bottom 120`. The first line may be `drawing 1`.
 from __future__ import annotations
 
 from collections.abc import Sequence
-from dataclasses import dataclass
 from enum import Enum
+from typing import NamedTuple
 
 from pertxogai.drawing.constraint_checks import check_constraint
 from pertxogai.drawing.constraint_lines import ConstraintWord, read_constraints
@@ -78,8 +78,7 @@ class _Kind(Enum):
     CONSTRAINT = "constraint"
 
 
-@dataclass(frozen=True)
-class _Mark:
+class _Mark(NamedTuple):
     """What a note stands at: the value, class of tolerances, check, shape or constraint of this
     place among its own."""
 

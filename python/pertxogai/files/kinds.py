@@ -4,6 +4,7 @@ from __future__ import annotations
 from collections.abc import Callable, Mapping
 from dataclasses import dataclass
 from pathlib import Path
+from typing import NamedTuple
 
 from pertxogai.drawing import Drawing, DrawingRefusal, read_drawing, write_drawing
 from pertxogai.files.atomic import written_whole
@@ -46,8 +47,7 @@ Input = SketchText | DesignerDrawing
 """A sketch of a file."""
 
 
-@dataclass(frozen=True)
-class Kind:
+class Kind(NamedTuple):
     """A kind of file: the ending of its name, what it is, what reads it, what copies it with good
     sketches, what copies it with more constraints and the places that meet them, and what copies it
     with other values of its dimensions. What reads it has the limits of `limits`."""

@@ -2,7 +2,7 @@
 from __future__ import annotations
 
 from collections.abc import Callable, Container, Iterator, Mapping, Sequence
-from dataclasses import dataclass
+from typing import NamedTuple
 
 from pertxogai.language.encoding import as_bytes
 from pertxogai.language.refusal import Code, Faulty, Refusal, Refused
@@ -11,8 +11,7 @@ MOST_TEXT = 1_048_576
 MOST_LINE = 200
 
 
-@dataclass(frozen=True)
-class Row:
+class Row(NamedTuple):
     """A line of a text: its number, from 1, and its bytes without the line feed and one
     carriage return."""
 

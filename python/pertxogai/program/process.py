@@ -9,8 +9,7 @@ import subprocess
 import time
 from collections.abc import Sequence
 from contextlib import suppress
-from dataclasses import dataclass
-from typing import IO
+from typing import IO, NamedTuple
 
 from pertxogai.program.errors import MissingProgram, ProgramSpoke, ProgramTimedOut
 
@@ -19,8 +18,7 @@ MOST_BYTES = 64 * MEBIBYTE
 CHUNK = 1 << 16
 
 
-@dataclass(frozen=True)
-class Limits:
+class Limits(NamedTuple):
     """seconds: the most that a run may take; memory_mib: the most memory that it may have, None
     for no limit."""
 
@@ -28,8 +26,7 @@ class Limits:
     memory_mib: int | None
 
 
-@dataclass(frozen=True)
-class Ended:
+class Ended(NamedTuple):
     """How a run ended: its exit status, or minus the signal that ended it, and all that it
     wrote."""
 

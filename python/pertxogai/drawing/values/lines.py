@@ -3,7 +3,7 @@
 from __future__ import annotations
 
 from collections.abc import Iterable, Sequence
-from dataclasses import dataclass
+from typing import NamedTuple
 
 from pertxogai.drawing.refusal import WordFault
 from pertxogai.drawing.values.table import Value, Values, check_value_name
@@ -30,8 +30,7 @@ def read_value(words: Sequence[str], called: str | None = None) -> Value:
     return Value(words[1], read_expression(" ".join(words[2:])))
 
 
-@dataclass(frozen=True)
-class WrittenValues:
+class WrittenValues(NamedTuple):
     """The values of a text by the numbers of their lines, from 1; of one that is refused, why."""
 
     lines: tuple[tuple[int, str, Value | WordFault], ...]
