@@ -4,10 +4,12 @@ from __future__ import annotations
 
 from collections.abc import Iterator, Sequence
 from fractions import Fraction
+from math import cos, radians, sin
 from pathlib import Path
 from random import Random
 
 import pytest
+from pytest import approx
 
 from pertxogai.drawing import VALUED, AngleBetween, Drawing, read_drawing
 from pertxogai.fitting.affine import Affine, Probe
@@ -142,3 +144,26 @@ def test_fine_angles_are_asked_for_at_once(program) -> None:
     offs = {3: Fraction(1, 2)}
     asking.lying(moved(drawing, offs), offs)
     assert len(heard.texts) == 1
+
+
+def test_other_lengths_at_the_same_other_angle_are_asked_for_by_one_sketch(program,
+                                                                           monkeypatch) -> None:
+    # A bar of 100 at 30 degrees, and one of 50 from its end at 20 more; here at 30.5, and the bars
+    # 101 and 49: they end at 101 cos 30.5 + 49 cos 50.5 and 101 sin 30.5 + 49 sin 50.5.
+    drawing = read_drawing("segment A 0 0 86.6 50\nsegment B A.end 118.7 88.3\n"
+                           "coincident A.start Origin\nlength A 100\nangle A +30deg\nlength B 50\n"
+                           "angle A B +20deg\n")
+    asking = Asking(drawing, program, Limit())
+    asking.begin(lengths(drawing))
+    ends = [{3: Fraction(1, 2), 2: Fraction(off)} for off in (-1000, 500)]
+    for offs in ends:
+        asking.lying(moved(drawing, offs), offs)
+    encoded = []
+    monkeypatch.setattr("pertxogai.fitting.asking.written", encoded.append)
+    monkeypatch.setattr("pertxogai.fitting.asking.judge_edited", encoded.append)
+    offs = {3: Fraction(1, 2), 2: Fraction(1000), 4: Fraction(-1000)}
+    there = asking.lying(moved(drawing, offs), offs)
+    (spot,) = (spot for ref, spot in there.solution.points.items() if str(ref) == "B.end")
+    x = 101 * cos(radians(30.5)) + 49 * cos(radians(50.5))
+    y = 101 * sin(radians(30.5)) + 49 * sin(radians(50.5))
+    assert spot == (approx(x * 1e6, abs=2), approx(y * 1e6, abs=2)) and not encoded

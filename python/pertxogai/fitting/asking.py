@@ -2,9 +2,11 @@
 where that meets each constraint as well there; else as any drawing."""
 from __future__ import annotations
 
-from collections.abc import Iterable, Sequence
+from collections import Counter
+from collections.abc import Iterable
 from contextlib import suppress
 from dataclasses import dataclass
+from fractions import Fraction
 
 from pertxogai.drawing import Drawing, DrawingUnsound
 from pertxogai.fitting.affine import Probe
@@ -21,6 +23,14 @@ from pertxogai.program import Solver
 from pertxogai.program.reports import Solved, Verdict
 from pertxogai.spelling import Care, Rails, Style, written
 
+Turned = frozenset[tuple[int, Fraction]]
+"""The numbers of angles that lie off, and by how many degrees."""
+ROUNDED_NM = 10
+"""By no more all is met but for the rounding of places."""
+ENOUGH = 2
+"""Once this number of cases with the same angles is asked for, their sketch is kept."""
+MOST_FAILURES = 3
+"""Of a way to ask this number of failures is borne, and one more for each success."""
 STYLE = Style.VALUES
 """The style that is tried first; a drawing that is placed by another is asked for as any."""
 
@@ -40,6 +50,22 @@ class Lying:
     off_nm: int
 
 
+class Luck:
+    """Whether something is still tried, which mostly failed lately."""
+
+    def __init__(self) -> None:
+        self._left = MOST_FAILURES
+
+    @property
+    def is_left(self) -> bool:
+        """Whether it is worth a try."""
+        return self._left > 0
+
+    def note(self, has_succeeded: bool) -> None:
+        """Takes what came of a try."""
+        self._left = min(MOST_FAILURES, self._left + 1) if has_succeeded else self._left - 1
+
+
 class Asking:
     """Asks for a drawing with dimensions off. nominal: what becomes of the drawing itself."""
 
@@ -50,12 +76,14 @@ class Asking:
         asked = first_good(question, spelled=self._known.readings())
         self.nominal: Judgement = judge_trial(self._known, asked, question)
         self._care = FINE if self._needs_fine(asked) else Care()
-        self._most_nm = max(FINE_NM, _greatest(self.nominal.deviations))
+        self._most_nm = max(ROUNDED_NM, _greatest(self.nominal.deviations))
         self._met: Judgement | None = None
         if self._is_plain(asked):
             self._met = self._finely(self._known) if self._care.fine else self.nominal
-        self._is_fine = self._met is not None and self._care.fine
-        self._template: Template | None = None
+        self._fine, self._alike = Luck(), Luck()
+        self._lengths: tuple[int, ...] = ()
+        self._templates: dict[Turned, Template | None] = {}
+        self._seen: Counter[Turned] = Counter()
 
     def _needs_fine(self, asked: Trial) -> bool:
         """Whether the drawing was asked for again with fine angles."""
@@ -68,21 +96,9 @@ class Asking:
                 and asked.axes is self._known.analysis.interpretations[0].axes
                 and not any((asked.grown, asked.frozen, asked.off, asked.spelled.left_out)))
 
-    def begin(self, numbers: Sequence[int]) -> None:
-        """Says which dimensions may be off that are lengths. Raises no exception."""
-        if self._met is not None and numbers:
-            with suppress(DrawingUnsound, NotHeld, Refusal):
-                self._template = self._template_of(self._met.asked, Probe(numbers))
-
-    def _template_of(self, asked: Trial, probe: Probe) -> Template | None:
-        known = self._known
-        there = EditedDrawing(moved(known.drawing, probe.offs()), known)
-        axes = next(there.readings()).axes
-        if axes.surplus() or axes.conflicts():
-            return None
-        rails = Rails(axes, STYLE)
-        encoding = Encoding(axes, rails, written(axes, rails, STYLE, self._care))
-        return Template.of(known.drawing, asked, probe, encoding)
+    def begin(self, numbers: Iterable[int]) -> None:
+        """Says which dimensions may be off that are lengths."""
+        self._lengths = tuple(numbers)
 
     def lying(self, drawing: Drawing, offs: Offs) -> Lying:
         """Where the drawing lies with the dimensions of some numbers off, by so much. Raises
@@ -90,25 +106,69 @@ class Asking:
         found = self._by_template(drawing, offs)
         if found is not None:
             return found
-        edited = EditedDrawing(drawing, self._known)
-        judged = self._finely(edited) if self._is_fine else None
-        self._is_fine = judged is not None
+        edited, judged = EditedDrawing(drawing, self._known), None
+        if self._met is not None and self._care.fine and self._fine.is_left:
+            judged = self._finely(edited)
+            self._fine.note(judged is not None)
         return self._of(judged or judge_edited(edited, self._program, limit=self._limit))
 
     def _by_template(self, drawing: Drawing, offs: Offs) -> Lying | None:
-        """The same by the sketch of the drawing itself, with other lengths; None where not all is
-        met so."""
-        if self._template is None or self._met is None or self._met.measurement is None:
+        """The same by a sketch that is known, with other lengths; None where not all is met so."""
+        lengths = {number: off for number, off in offs.items() if number in self._lengths}
+        template = self._template({number: off for number, off in offs.items()
+                                   if number not in lengths})
+        text = template.text(lengths) if template is not None and self._alike.is_left else None
+        if template is None or text is None:
             return None
-        solution = self._template.solution(offs, self._program)
-        if solution is None:
+        found = self._measured(drawing, template, template.placed(text, lengths, self._program))
+        self._alike.note(found is not None)
+        return found
+
+    def _measured(self, drawing: Drawing, template: Template,
+                  solution: Solution | None) -> Lying | None:
+        """Where a drawing lies, if all is met there as in the drawing itself."""
+        if solution is None or self._met is None or self._met.measurement is None:
             return None
         deviations = self._met.measurement.redrawn(drawing, solution).all
         off_nm = _greatest(deviations)
         if off_nm > self._most_nm or any(self._limit.beyond(deviations)):
             return None
-        is_near = self._met.asked.spelled.near and not _is_exact(deviations)
+        is_near = template.asked.spelled.near and not _is_exact(deviations)
         return None if is_near else Lying(solution, off_nm)
+
+    def _template(self, turned: Offs) -> Template | None:
+        """The sketch of the drawing with angles so far off, once that was asked for a few times;
+        None where there is none."""
+        key = frozenset(turned.items())
+        if key not in self._templates:
+            self._seen[key] += 1
+            if turned and self._seen[key] < ENOUGH:
+                return None
+            self._templates[key] = None
+            with suppress(DrawingUnsound, NotHeld, Refusal):
+                self._templates[key] = self._made(turned)
+        return self._templates[key]
+
+    def _made(self, turned: Offs) -> Template | None:
+        """The sketch of the drawing with angles so far off."""
+        if self._met is None or not self._lengths:
+            return None
+        probe, asked = Probe(self._lengths), self._met.asked
+        there = self._encoded({**turned, **probe.offs()})
+        here = self._encoded(turned) if turned else Encoding(asked.axes, asked.rails, asked.spelled)
+        if here is None or there is None or (turned and here.spelled.near):
+            return None
+        trial = Trial(here.spelled, here.axes, here.rails, place=asked.place)
+        return Template.of(self._known.drawing, trial, probe, there)
+
+    def _encoded(self, offs: Offs) -> Encoding | None:
+        """How the drawing is encoded with dimensions off; None where something is told twice."""
+        edited = EditedDrawing(moved(self._known.drawing, offs), self._known)
+        axes = next(edited.readings()).axes
+        if axes.surplus() or axes.conflicts():
+            return None
+        rails = Rails(axes, STYLE)
+        return Encoding(axes, rails, written(axes, rails, STYLE, self._care))
 
     def _finely(self, edited: EditedDrawing) -> Judgement | None:
         """What becomes of a drawing that is asked for with fine angles at once; None where it isn't

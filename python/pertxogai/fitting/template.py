@@ -67,12 +67,9 @@ class Template:
         return Template(drawing, asked, distances, radii, (shifts[0], shifts[1]),
                         probe.numbers - loose)
 
-    def solution(self, offs: Offs, program: Solver) -> Solution | None:
-        """Where a drawing with these dimensions off is placed; None where it isn't by this sketch.
-        Raises ProgramError, and NotHeld where a length is beyond the language's."""
-        text = self._text(offs) if self.numbers.issuperset(offs) else None
-        if text is None:
-            return None
+    def placed(self, text: str, offs: Offs, program: Solver) -> Solution | None:
+        """Where a drawing with these dimensions off is placed by that sketch; None where it isn't.
+        Raises ProgramError."""
         words = "solve", f"place={self.asked.place.value}", within(self.asked.spelled)
         answer = program.ask(words, text)
         solved = read_answer(words, answer) if answer.status is Status.DONE else None
@@ -80,8 +77,12 @@ class Template:
             return None
         return self._settled(settled(self.drawing, self.asked, solved).solution, offs)
 
-    def _text(self, offs: Offs) -> str | None:
-        """The sketch; None where a value can't be told in whole micrometres, or isn't above 0."""
+    def text(self, offs: Offs) -> str | None:
+        """The sketch with these dimensions off; None where one of them may not be, or where a value
+        can't be told in whole micrometres, or isn't above 0. Raises NotHeld where one is beyond
+        the language's."""
+        if not self.numbers.issuperset(offs):
+            return None
         spelled = self.asked.spelled
         lines, first = spelled.sketch.text().split("\n"), 1 + len(spelled.sketch.elements)
         for place, value in self.distances.items():
