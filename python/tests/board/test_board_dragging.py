@@ -317,8 +317,8 @@ def labels(page: Page) -> dict[str, list[float]]:
     """Where the dimensions stand, by the numbers of their constraints."""
     found = page.driver.execute_script(
         "const all = [...document.querySelectorAll('.marks .value')];"
-        "return all.map((each) => [each.parentNode.dataset.constraint,"
-        "  Number(each.getAttribute('x')), Number(each.getAttribute('y'))]);")
+        "return all.map((each) => { const r = each.getBoundingClientRect();"
+        "  return [each.parentNode.dataset.constraint, r.x + r.width / 2, r.y + r.height / 2]; });")
     return {number: [x, y] for number, x, y in found}
 
 

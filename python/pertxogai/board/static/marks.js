@@ -1,6 +1,6 @@
 // @ts-check
 /** The dimensions and signs of constraints, as what SVG nodes are made of. */
-import { middleOf } from './shapes.js';
+import { middleOf, shifted, spot } from './shapes.js';
 import { Taken, halfWidth } from './taken.js';
 
 /** @typedef {import('./page').Chosen} Chosen */
@@ -180,9 +180,9 @@ export class Marks {
     const [a, b] = label ? beside(label[1] * way[0] - label[0] * way[1])
       : beside(AWAYS[chosen?.place ?? 0]);
     const at = textAt([a, b], bar);
-    const [one, other] = [spot(a), spot(b)];
-    const reach = Math.abs(along) > length / 2 ? `M${one}L${spot(at)}` : '';
-    const path = `M${spot(start)}L${one}M${spot(end)}L${other}M${one}L${other}${reach}`
+    const [one, other] = [from(at, a), from(at, b)];
+    const reach = Math.abs(along) > length / 2 ? `M${one}L0 0` : '';
+    const path = `M${from(at, start)}L${one}M${from(at, end)}L${other}M${one}L${other}${reach}`
       + `${tip(one, way)}${tip(other, [-way[0], -way[1]])}`;
     return { path, text, at, base: middleOf(measured), ends: [a, b], chosen };
   }
@@ -245,8 +245,8 @@ export class Marks {
     const long = Math.hypot(at[0] - foot[0], at[1] - foot[1]) || 1;
     /** @type {Place} */
     const way = [(at[0] - foot[0]) / long, (at[1] - foot[1]) / long];
-    const begin = spot(foot);
-    return { path: `M${begin}L${spot(at)}${tip(begin, way)}`, text, at, base, chosen };
+    const begin = from(at, foot);
+    return { path: `M${begin}L0 0${tip(begin, way)}`, text, at, base, chosen };
   }
 
   /**
@@ -271,7 +271,7 @@ export class Marks {
     /** @type {Place} */
     const at = label ? [corner[0] + label[0], corner[1] + label[1]] : beside(radius);
     const [start, end] = [-first, -(first + sweep)].map(
-      (each) => spot(aboutAt(corner, radius, each)));
+      (each) => from(at, aboutAt(corner, radius, each)));
     const bow = `M${start}A${radius} ${radius} 0 ${sweep > Math.PI ? 1 : 0} 0 ${end}`;
     return { path: `${bow}L${end}`, text, at, base, isOpen: true, chosen };
   }
@@ -353,12 +353,12 @@ function aboutAt([x, y], away, turn) {
 }
 
 /**
- * A place as the path of a mark has it: to a hundredth of a pixel, which is written in half the
- * time of all its digits.
+ * A place as the path of a mark has it, from where the text stands.
+ * @param {Place} at
  * @param {Place} place
  */
-function spot([x, y]) {
-  return `${Math.round(x * 100) / 100} ${Math.round(y * 100) / 100}`;
+function from([x, y], [u, v]) {
+  return spot([u - x, v - y]);
 }
 
 /**
@@ -432,10 +432,11 @@ export function toldPlaces({ at = [0, 0], bar, label }) {
  * @param {string} [told]
  * @returns {import('./page').Keyed}
  */
-export function markMade({ key, number, sign, path, text, at: [x, y], isOpen }, kind, told) {
-  return [key, 'g', { class: kind, 'data-constraint': number }, told && ['title', {}, told],
+export function markMade({ key, number, sign, path, text, at, isOpen }, kind, told) {
+  return [key, 'g', { class: kind, 'data-constraint': number, transform: shifted(at) },
+    told && ['title', {}, told],
     path && ['path', { class: isOpen ? 'mark open' : 'mark', d: path }],
-    ['text', { x, y, class: sign ? 'sign' : 'value' }, text]];
+    ['text', { class: sign ? 'sign' : 'value' }, text]];
 }
 
 /**
@@ -444,12 +445,12 @@ export function markMade({ key, number, sign, path, text, at: [x, y], isOpen }, 
  * @param {number} key
  * @returns {import('./page').Keyed}
  */
-export function proposedMade({ number, sign, path, text, line, at: [x, y] }, key) {
+export function proposedMade({ number, sign, path, text, line, at }, key) {
   return [key, 'g', { class: 'proposedmark', 'data-proposed': number, role: 'button', tabindex: 0,
-    'aria-label': `add ${line}` },
+    transform: shifted(at), 'aria-label': `add ${line}` },
   ['title', {}, `${line}: click adds it, Enter asks for another value`],
   path && ['path', { class: 'mark', d: path }],
-  ['text', { x, y, class: sign ? 'sign' : 'value' }, text]];
+  ['text', { class: sign ? 'sign' : 'value' }, text]];
 }
 
 /**
@@ -460,13 +461,14 @@ export function proposedMade({ number, sign, path, text, line, at: [x, y] }, key
  * @param {boolean} isOpen
  * @returns {import('./page').Keyed}
  */
-export function checkMade({ number, path, text, at: [x, y], isOpen: open }, key, checked, isOpen) {
+export function checkMade({ number, path, text, at, isOpen: open }, key, checked, isOpen) {
   const { name, words, answer, lines } = checked;
   return [key, 'g', { class: `checkmark ${answer}`, 'data-check': number, role: 'button',
-    tabindex: 0, 'aria-expanded': isOpen, 'aria-label': `check ${name}: ${lines.join('; ')}` },
+    tabindex: 0, transform: shifted(at), 'aria-expanded': isOpen,
+    'aria-label': `check ${name}: ${lines.join('; ')}` },
   ['title', {}, `${name}: ${words}\n${lines.join('\n')}`],
   path && ['path', { class: open ? 'mark open' : 'mark', d: path }],
-  ['text', { x, y, class: 'value' }, text]];
+  ['text', { class: 'value' }, text]];
 }
 
 /**

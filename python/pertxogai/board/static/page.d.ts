@@ -37,10 +37,10 @@ export interface Chosen {
 }
 
 /**
- * A mark at its place in pixels; of what is proposed with its line. key: tells it from other marks,
- * also of the same dimension. base: where its dimension is measured, in millimetres. ends: those of
- * its bar, in pixels. isOpen: whether its path has no inside. chosen: undefined where the drawing
- * says its place, or a hand.
+ * A mark, whose text stands at a place in pixels; of what is proposed with its line. key: tells it
+ * from other marks, also of the same dimension. path: about where the text stands. base: where its
+ * dimension is measured, in millimetres. ends: those of its bar, in pixels. isOpen: whether its
+ * path has no inside. chosen: undefined where the drawing says its place, or a hand.
  */
 export interface PlacedMark {
   key: string;

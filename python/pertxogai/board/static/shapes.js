@@ -87,6 +87,23 @@ export function apart([x, y], [u, v]) {
 }
 
 /**
+ * A place in pixels as it is written: to a hundredth, in half the time of all its digits.
+ * @param {Place} place
+ */
+export function spot([x, y]) {
+  return `${Math.round(x * 100) / 100} ${Math.round(y * 100) / 100}`;
+}
+
+/**
+ * The transform by which what is drawn about 0 0 stands at a place. The browser doesn't lay out
+ * anew a text that is shifted so, as it does one that has other coordinates.
+ * @param {Place} place
+ */
+export function shifted(place) {
+  return `translate(${spot(place)})`;
+}
+
+/**
  * A straight path.
  * @param {Place} start
  * @param {Place} end
@@ -168,12 +185,12 @@ export function shapeMade(shape, path, isSelected, colour, isFree) {
  * @param {string} colour
  * @returns {Keyed}
  */
-export function pointMade(name, [cx, cy], isSelected, colour) {
+export function pointMade(name, place, isSelected, colour) {
   const r = name === 'Origin' ? 4.5 : name.endsWith('.centre') ? 2.2 : 3.2;
   const kind = `dot ${isSelected ? 'selected' : ''}`;
-  return [name, 'g', { 'data-name': name, 'data-point': name },
-    ['circle', { class: kind, cx, cy, r, stroke: isSelected ? null : colour }],
-    ['circle', { class: 'dothit', cx, cy, r: 8 }]];
+  return [name, 'g', { 'data-name': name, 'data-point': name, transform: shifted(place) },
+    ['circle', { class: kind, r, stroke: isSelected ? null : colour }],
+    ['circle', { class: 'dothit', r: 8 }]];
 }
 
 /**

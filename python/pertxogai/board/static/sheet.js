@@ -5,7 +5,7 @@
  */
 import { byId, nodeOf, svg } from './nodes.js';
 import { Marks, toldPlaces } from './marks.js';
-import { kindOf, pathOf } from './shapes.js';
+import { kindOf, pathOf, shifted } from './shapes.js';
 import { typed } from './dialogs.js';
 import { View } from './view.js';
 
@@ -67,9 +67,10 @@ export class Sheet {
     plane.y = HEIGHT * MM / 2 + (box.low + box.high) / 2 * plane.scale;
     const edges = drawing.shapes.map((shape) => svg('path', {
       class: kindOf(shape), d: pathOf(shape, shown.viewOf(shape), plane) ?? '' }));
-    const marks = new Marks(plane).all(drawing.marks).map(({ path, text, at: [x, y], sign }) => svg(
-      'g', { class: 'markgroup' }, path && ['path', { class: 'mark', d: path }],
-      ['text', { x, y, class: sign ? 'sign' : 'value' }, text]));
+    const marks = new Marks(plane).all(drawing.marks).map(({ path, text, at, sign }) => svg(
+      'g', { class: 'markgroup', transform: shifted(at) },
+      path && ['path', { class: 'mark', d: path }],
+      ['text', { class: sign ? 'sign' : 'value' }, text]));
     this.node.replaceChildren(...edges, ...marks, ...this.title(scale));
     return true;
   }
