@@ -3,13 +3,17 @@ from __future__ import annotations
 
 import json
 import re
+import subprocess
+import sys
 from fractions import Fraction
 
 import pytest
 
 from conftest import TOP
+from pertxogai import search
 from pertxogai.commands import main
 from pertxogai.drawing import PointRef, Which, read_drawing
+from pertxogai.exits import MissingLibrary
 from pertxogai.judging import Failure, Names
 from pertxogai.language.clusters import ClusterName
 from pertxogai.program import Program
@@ -537,3 +541,19 @@ def test_what_has_no_range_is_told(asked, tmp_path, capsys):
     sketch = TOP / "examples" / "plate.sketch"
     assert main(["range", str(sketch)]) == 2
     assert "a sketch of the language has no ranges" in capsys.readouterr().err
+
+
+def test_without_numpy_the_package_is_imported_and_a_range_says_what_is_missing() -> None:
+    text = ("import sys; sys.modules['numpy'] = None\n"
+            "from pertxogai.ranging import NoRange, Range, Ranging\n"
+            "assert 'pertxogai.ranging.way' not in sys.modules")
+    done = subprocess.run([sys.executable, "-c", text], cwd=TOP / "python", capture_output=True,
+                          text=True, check=False)
+    assert (done.returncode, done.stderr) == (0, "")
+
+
+def test_a_missing_library_is_named(program: Program, monkeypatch: pytest.MonkeyPatch) -> None:
+    monkeypatch.setattr(search, "find_spec", lambda name: None if name == "numpy" else name)
+    plate = read_drawing("rectangle P 0 0 9 9\nlength PBottom 9\nlength PRight 9\n")
+    with pytest.raises(MissingLibrary, match="apt-get install python3-numpy"):
+        Ranging.of(plate, program)

@@ -6,15 +6,15 @@ from typing import TYPE_CHECKING
 
 if TYPE_CHECKING:
     from pertxogai.ranging.faults import Fault, FaultKind
+    from pertxogai.ranging.no_range import NoRange
     from pertxogai.ranging.ranges import End, Range, Ranging
-    from pertxogai.ranging.way import NoRange
 else:
     from pertxogai._later import handed_on
 
     __getattr__, __dir__ = handed_on(__name__, {
         ".faults": "Fault FaultKind",
+        ".no_range": "NoRange",
         ".ranges": "End Range Ranging",
-        ".way": "NoRange",
     })
 
 __all__ = ["End", "Fault", "FaultKind", "NoRange", "Range", "Ranging"]

@@ -1,31 +1,25 @@
 """The range of each value and dimension of a good drawing."""
 from __future__ import annotations
 
-from collections.abc import Iterator, Sequence
+from collections.abc import Iterator
 from dataclasses import dataclass
 from fractions import Fraction
+from typing import TYPE_CHECKING
 
-from pertxogai.drawing import (
-    Drawing, DrawingUnsound, Parameter, Sense, Unit, XDistance, YDistance, parameters)
-from pertxogai.drawing.checks import MOST_UM
-from pertxogai.drawing.numbers import MOST_MM, decimal_text
-from pertxogai.drawing.values.parameters import Dimension, NamedValue
+from pertxogai.drawing import Drawing, DrawingUnsound, Parameter, Unit, parameters
 from pertxogai.judging.measure import Limit
 from pertxogai.program import Solver
-from pertxogai.ranging.faults import Fault, FaultKind, of_rounding
-from pertxogai.ranging.passage import Passage
-from pertxogai.ranging.search import Border, Search
-from pertxogai.ranging.spans import is_smooth
-from pertxogai.ranging.things import Placement
-from pertxogai.ranging.way import Held, Way
+from pertxogai.ranging.faults import Fault, FaultKind
+from pertxogai.ranging.search import Search
+from pertxogai.search import check_libraries
+
+if TYPE_CHECKING:  # It imports numpy: that a library is missing is said once a range is asked for.
+    from pertxogai.ranging.way import Way
 
 STEPS = {Unit.MM: 1_000, Unit.PLAIN: 1_000, Unit.DEGREES: 10_000}
 """Ends are told to so many parts of the unit: to a micrometre, to a ten-thousandth of a degree."""
 MOST_STEPS = 10 ** 9
 """A small value without a unit is told to a thousandth of it, and to no smaller part of one."""
-
-MOST_NUMBER = 9_999_999
-"""No number of an expression is greater."""
 
 
 @dataclass(frozen=True)
@@ -51,7 +45,7 @@ class Range:
     @property
     def step(self) -> Fraction:
         """The step to which the ends are given, in the unit."""
-        return Fraction(1, _steps(self.of))
+        return Fraction(1, steps_of(self.of))
 
 
 @dataclass(frozen=True)
@@ -65,8 +59,11 @@ class Ranging:
     def of(drawing: Drawing, program: Solver, limit: Limit = Limit(),
            not_drawn: tuple[str, ...] = ()) -> Ranging:
         """Of a drawing; not_drawn: what of its file the drawing can't express, besides what it
-        tells itself. Raises NoRange if the drawing isn't good, and the exceptions of
-        `judge_at_once`."""
+        tells itself. Raises NoRange if the drawing isn't good, MissingLibrary without numpy or
+        scipy, and the exceptions of `judge_at_once`."""
+        check_libraries()
+        from pertxogai.ranging.way import Way
+
         return Ranging(drawing, Way.of(drawing, program, limit, not_drawn))
 
     def parameters(self) -> tuple[Parameter, ...]:
@@ -75,7 +72,9 @@ class Ranging:
 
     def range_of(self, of: Parameter) -> Range:
         """The range of one parameter. Raises ProgramError."""
-        numbers = _Numbers(self, of)
+        from pertxogai.ranging.tried_numbers import Numbers
+
+        numbers = Numbers(self, of)
         search = Search(numbers.fault, numbers.present, numbers.low, numbers.high, numbers.beyond,
                         numbers.is_clear, numbers.at_end, numbers.rounding)
         low, high = search.border(False), search.border(True)
@@ -106,104 +105,9 @@ class Ranging:
             return Fault(FaultKind.UNSOUND, str(unsound))
 
 
-class _Numbers:
-    """The numbers that a parameter may have, as whole numbers of steps from the one next to 0 that
-    is a whole number of them away from the present one."""
-
-    def __init__(self, ranging: Ranging, of: Parameter) -> None:
-        self._ranging, self._of = ranging, of
-        self._steps = _steps(of)
-        self.present = round(of.present * self._steps)
-        self._rest = of.present - Fraction(self.present, self._steps)
-        low, high = _limits(ranging.drawing, of)
-        self.low, self.high = min(low, self.present), max(high, self.present)
-        self._things = ranging.way.things
-        self._placements = {self.present: self._things.placed(ranging.way.edges)}
-        self._offs: dict[int, Fault | None] = {}
-        self._ways = [ranging.way]
-
-    def _number(self, steps: int) -> Fraction:
-        return Fraction(steps, self._steps) + self._rest
-
-    def fault(self, number: int) -> Fault | None:
-        """What is wrong with a number, by all ways that are known; the last of them says."""
-        drawing = self._ranging.drawing_with(self._of, self._number(number))
-        if isinstance(drawing, Fault):
-            return drawing
-        fault: Fault | None = None
-        for way in self._ways:
-            found = way.placed(drawing)
-            if isinstance(found, Held):
-                self._placements[number] = self._things.placed(found.edges)
-                self._offs[number] = found.nearly and way.off(found.nearly)
-                return None
-            fault = found
-        self._offs[number] = fault if fault and fault.by_rounding else None
-        return fault
-
-    def rounding(self, number: int) -> Fault | None:
-        """That a constraint is off by more than two thirds of the limit at a number that was
-        tried, so that rounding decides whether it holds near that; None where none is."""
-        off = self._offs.get(number)
-        if off is None:
-            return None
-        unit = f" {self._of.unit.value}" if self._of.unit.value else ""
-        return of_rounding(off, f"{decimal_text(self._number(number))}{unit}")
-
-    def at_end(self, number: int) -> Fault | None:
-        """What is wrong with a number, by whichever way; one that is found is known from now on."""
-        found = self._ranging.found_for(self._of, self._number(number))
-        if isinstance(found, Fault):
-            return found
-        self._ways.append(found)
-        self._offs[number] = None
-        self._placements[number] = self._things.placed(found.edges)
-        return None
-
-    def is_clear(self, numbers: Sequence[int]) -> bool:
-        """Whether by numbers nothing crosses on the way through some good numbers, on which all
-        expressions go smoothly."""
-        if isinstance(self._of, NamedValue):
-            low, high = sorted(map(self._number, (numbers[0], numbers[-1])))
-            if not is_smooth(self._ranging.drawing, self._of.name, low, high):
-                return False
-        placements: list[Placement] = [self._placements[each] for each in numbers]
-        return Passage.of(self._things, numbers, placements).is_clear()
-
-    def beyond(self, number: int) -> Fault:
-        """What is wrong with a number beyond the limits."""
-        if not isinstance(self._of, Dimension):
-            return Fault(FaultKind.LIMIT, f"no value beyond {MOST_NUMBER:,} is tried")
-        if self._of.unit is Unit.DEGREES:
-            return Fault(FaultKind.LIMIT, "at this angle the two lines are parallel")
-        if abs(number) > MOST_UM:
-            return Fault(FaultKind.LIMIT, f"no length goes beyond {MOST_MM:,} mm")
-        return Fault(FaultKind.LIMIT, "no length is below 0.001 mm" if self.low
-                     else "a value without a sign can't be below 0")
-
-    def end(self, border: Border[Fault]) -> End:
-        """An end of the range."""
-        return End(self._number(border.good), border.fault)
-
-
-def _steps(of: Parameter) -> int:
+def steps_of(of: Parameter) -> int:
     """Into how many steps the unit of a parameter is parted."""
     steps = STEPS[of.unit]
     while of.unit is Unit.PLAIN and 0 < abs(of.present) * steps < 1_000 and steps < MOST_STEPS:
         steps *= 10
     return steps
-
-
-def _limits(drawing: Drawing, of: Parameter) -> tuple[int, int]:
-    """The least and the greatest number that a parameter may have, in steps."""
-    steps = _steps(of)
-    if not isinstance(of, Dimension):
-        return -MOST_NUMBER * steps, MOST_NUMBER * steps
-    if of.unit is Unit.DEGREES:
-        half_turn = 180 * steps
-        half_turns = round(of.present * steps) // half_turn
-        return half_turns * half_turn + 1, (half_turns + 1) * half_turn - 1
-    dimension = drawing.constraints[of.number - 1]
-    if not isinstance(dimension, XDistance | YDistance):
-        return 1, MOST_UM
-    return (-MOST_UM if dimension.sense is Sense.SIGNED else 0), MOST_UM

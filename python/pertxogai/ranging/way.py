@@ -27,15 +27,12 @@ from pertxogai.program.reports import Fault as ProgramFault, Solved, read_plan
 from pertxogai.ranging.faults import (
     Fault, FaultKind, of_warnings, of_deviation, of_failure, of_gone, of_mirrored, of_reason,
     of_surplus, of_verdict)
+from pertxogai.ranging.no_range import NoRange
 from pertxogai.ranging.things import Things
 from pertxogai.spelling import READINGS, Interpretation, Reading, Style
 from pertxogai.spelling.reading import interpreted
 
 Found = TypeVar("Found")
-
-
-class NoRange(Exception):
-    """A drawing, or a parameter of it, has no range. The message is one line, and says why."""
 
 
 @dataclass(frozen=True)
