@@ -30,7 +30,8 @@ def write_additions(path: Path, out: Path, additions: Mapping[str, Addition]) ->
 
 
 def with_lines(text: bytes, lines: Iterable[str]) -> bytes:
-    """A text with lines below it, each of which ends as the text's first line does."""
+    """The text of a drawing with more lines below it: every byte stays, and the new lines end as
+    the first one does."""
     end = b"\r\n" if text.partition(b"\n")[0].endswith(b"\r") else b"\n"
     if not text.endswith(b"\n"):
         text += b"\n" if text.endswith(b"\r") else end
