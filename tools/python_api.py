@@ -18,7 +18,7 @@ PACKAGES = [
     "pertxogai.judging.measure", "pertxogai.search", "pertxogai.completing", "pertxogai.ranging",
     "pertxogai.fitting", "pertxogai.output", "pertxogai.output.picture", "pertxogai.output.dxf", "pertxogai.files",
     "pertxogai.files.freecad",
-    "pertxogai.files.solvespace", "pertxogai.files.dxf",
+    "pertxogai.files.solvespace", "pertxogai.files.dxf", "pertxogai.exits",
 ]
 """What has public names, in the order of the reference."""
 Definition = ast.ClassDef | ast.FunctionDef | ast.Assign | ast.AnnAssign

@@ -3,6 +3,8 @@ from __future__ import annotations
 
 from enum import IntEnum
 
+__all__ = ["CommandError", "Exit", "MissingLibrary"]
+
 
 class Exit(IntEnum):
     """The exit statuses of ./pertxogai."""
@@ -22,4 +24,5 @@ class CommandError(Exception):
 
 
 class MissingLibrary(CommandError):
-    """A library of Python is missing. The message is one line, and says how to get it."""
+    """A library of Python is missing: ezdxf, numpy, scipy or flask. The message is one line, and
+    says how to get it."""

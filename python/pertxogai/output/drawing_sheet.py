@@ -45,8 +45,8 @@ class DrawingSheet:
         return picture_of(self._scene())
 
     def dxf(self, release: Release) -> str:
-        """The shapes as placed if it is good, or as drawn if that was asked for. Raises
-        NoPlaces."""
+        """The shapes as placed if it is good, or as drawn if that was asked for. Raises NoPlaces,
+        and MissingLibrary without ezdxf."""
         found = good_of(self.judged)
         if not self.as_drawn and not isinstance(found, GoodJudgement):
             raise NoPlaces(f"{self.judged.name}: no DXF is written of what isn't good: {found}",

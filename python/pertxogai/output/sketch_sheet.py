@@ -32,8 +32,8 @@ class SketchSheet:
         return self.as_drawn or isinstance(good_sketch_of(self.judged), GoodSketch)
 
     def dxf(self, release: Release) -> str:
-        """The program's own points, circles, and lines with their ends. Raises NoPlaces and
-        ProgramError."""
+        """The program's own points, circles, and lines with their ends. Raises NoPlaces,
+        ProgramError, and MissingLibrary without ezdxf."""
         found = good_sketch_of(self.judged)
         if self.as_drawn:
             raise NoPlaces(f"{self.judged.name}: no DXF is written of a sketch as it is drawn")
