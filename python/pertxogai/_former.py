@@ -145,25 +145,26 @@ def new_path(module: str) -> str | None:
     return None
 
 
-def former_names(module: str) -> Callable[[str], object]:
+def former_names(module: str, calls: int = 0) -> Callable[[str], object]:
     """A `__getattr__` for a module that stays, behind `pertxogai.`, by which its former names
-    lead to the new ones, and warn once."""
+    lead to the new ones, and warn once. calls: how many calls stand between it and the line that
+    is warned."""
     def find(name: str) -> object:
         if name not in NAMES.get(module, {}):
             raise AttributeError(f"module 'pertxogai.{module}' has no attribute {name!r}")
-        return _renamed(sys.modules[f"pertxogai.{module}"], module, module, name)
+        return _renamed(sys.modules[f"pertxogai.{module}"], module, module, name, calls)
 
     return find
 
 
-def _renamed(keeper: ModuleType, former: str, module: str, name: str) -> object:
+def _renamed(keeper: ModuleType, former: str, module: str, name: str, calls: int = 0) -> object:
     """What a module at a former path called so, from where it is now; kept by the module that is
     asked, so that it warns once."""
     new = NAMES[former][name]
     home, _, last = (f"{module}.{new}" if "." not in new else new).rpartition(".")
     found: object = getattr(import_module(f"pertxogai.{home}"), last)
     vars(keeper)[name] = found
-    _warn(f"pertxogai.{former}.{name}", f"pertxogai.{home}.{last}", 4)
+    _warn(f"pertxogai.{former}.{name}", f"pertxogai.{home}.{last}", 4 + calls)
     return found
 
 

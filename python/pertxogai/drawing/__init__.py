@@ -57,4 +57,4 @@ else:
     __getattr__, __dir__ = handed_on(__name__, {
         ".values.expression": "Expression",
         ".values.parameters": "Dimension NamedValue Parameter Unit parameters",
-        ".values.parsing": "read_expression"}, former_names("drawing"))
+        ".values.parsing": "read_expression"}, former_names("drawing", calls=1))
