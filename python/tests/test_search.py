@@ -259,6 +259,28 @@ def test_what_is_said_twice_is_named_with_the_latest_first(name, group):
     assert found.contradictions == ()
 
 
+@pytest.mark.parametrize("text", [
+    # A chain of three links of 10 mm that is pulled straight between two points 30 mm apart: to the
+    # first order both joints move aside, and either coordinate of its end follows. Neither is so.
+    "segment A Origin 10 0\nsegment B A.end 20 0\nsegment C B.end 30 0\n"
+    "length A 10\nlength B 10\nlength C 10\nx C.end 30\ny C.end 0\n",
+    # A triangle whose longest side is as long as the two others together.
+    "segment A 0 0 40 0\nsegment B A.end 70 0\nsegment C B.end A.start\n"
+    "length A 40\nlength B 30\nlength C 70\n",
+])
+def test_what_only_seems_to_follow_where_all_is_straight_is_no_repeat(text):
+    found = found_of(text)
+    assert found.is_doubtful and found.repeats == () and found.solution is not None
+
+
+def test_what_is_told_twice_repeats_though_the_rest_moves():
+    # By hand: a four-bar has one freedom; that its crank is 10 mm long is told twice.
+    text = ("segment A Origin 0 10\nsegment B A.end 25 12\nsegment C B.end 30 0\nlength A 10\n"
+            "length B 25\nlength C 13\nx C.end 30\ny C.end 0\ndistance A.end Origin 10\n")
+    found = found_of(text)
+    assert (found.freedoms, found.is_doubtful, len(found.repeats)) == (1, False, 1)
+
+
 def test_all_are_named_that_contradict_in_a_long_chain():
     # By hand: sixteen steps of 10 mm reach 160 and not 175, and do with any one of them longer.
     points = "".join(f"point P{each} {10 * each} {each % 3}\n" for each in range(1, 17))

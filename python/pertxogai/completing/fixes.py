@@ -17,11 +17,12 @@ from pertxogai.judging.measure import Solution
 from pertxogai.search.arrays import Array, Matrix, stacked, unit_rows
 from pertxogai.search.constraint_rows import rows_asked
 from pertxogai.search.equations import Equations, System
+from pertxogai.search.linearization import Linearization
 from pertxogai.search.motions import Motions, motions
 from pertxogai.search.rank import rank_of
 from pertxogai.search.rounding import unknowns_of
 from pertxogai.search.unknowns import Unknowns
-from pertxogai.search.whole import SEEN, Linearization
+from pertxogai.search.whole import SEEN
 
 _DIRECTIONS = Horizontal, Vertical, Parallel, Perpendicular, AngleBetween
 Direction = tuple[float, float]

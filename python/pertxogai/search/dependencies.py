@@ -14,6 +14,8 @@ from pertxogai.search.unknowns import By, Source
 
 SEEN = 1e-6
 """A factor below this part of the greatest is 0."""
+BENT = 1e-3
+"""What bends by less lasts, in parts of the drawing's reach."""
 SAME_NM = 1.0
 """Constraints that are off each other by no more say the same: places are whole nanometres."""
 
@@ -21,28 +23,34 @@ SAME_NM = 1.0
 @dataclass(frozen=True)
 class Dependency:
     """Constraints and shapes of which one follows from the others, or contradicts them: the latest
-    first, and by how many nanometres it is off what the others say."""
+    first, and by how many nanometres it is off what the others say. lasts: whether it still follows
+    where what is free is moved; else it only seems to, as of a chain that is pulled straight."""
 
     sources: tuple[Source, ...]
     off_nm: float
+    lasts: bool = True
 
     def repeats(self, within_nm: float = SAME_NM) -> bool:
         """Whether the latest says what the others do, within so many nanometres."""
         return self.off_nm <= within_nm
 
 
-def dependencies(rows: Sequence[Row], off: Array, dependent: Dependent) -> Iterator[Dependency]:
-    """The dependencies among rows, of which `off` is how far each is off 0. What the shapes
-    themselves ask for is the latest nowhere, and what is only measured wherever it may be: that it
-    follows is what is asked for."""
+def dependencies(rows: Sequence[Row], off: Array, bends: Array,
+                 dependent: Dependent) -> Iterator[Dependency]:
+    """The dependencies among rows, of which `off` is how far each is off 0, and `bends` how it
+    changes along what is free where that has moved. What the shapes themselves ask for is the
+    latest nowhere, and what is only measured wherever it may be: that it follows is what is asked
+    for."""
     sources = [rows[number].source for number in dependent.rows]
     places = sorted(range(len(sources)), key=lambda place: _lateness(sources[place]), reverse=True)
     for place, factors in _reduced(dependent.factors, places):
         seen = np.flatnonzero(np.abs(factors) > SEEN * np.abs(factors).max())
         group = {sources[each] for each in seen} - {sources[place]}
         latest_first = sorted(group, key=_lateness, reverse=True)
-        off_nm = abs(float(factors @ off[dependent.rows])) / max(1.0, float(np.abs(factors).max()))
-        yield Dependency((sources[place], *latest_first), off_nm)
+        greatest = max(1.0, float(np.abs(factors).max()))
+        off_nm, bent = (abs(float(factors @ each[dependent.rows])) / greatest
+                        for each in (off, bends))
+        yield Dependency((sources[place], *latest_first), off_nm, bent <= BENT)
 
 
 def _lateness(source: Source) -> tuple[int, int]:

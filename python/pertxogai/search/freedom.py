@@ -13,10 +13,11 @@ import numpy as np
 from pertxogai.search.arrays import Array, row_factors, rows_times, unit_rows
 from pertxogai.search.dependencies import Dependency, dependencies
 from pertxogai.search.equations import Equations
+from pertxogai.search.linearization import Linearization
 from pertxogai.search.motions import Motions, motions
 from pertxogai.search.rank import Free, rank_of
 from pertxogai.search.unknowns import By
-from pertxogai.search.whole import Linearization, of_the_whole
+from pertxogai.search.whole import of_the_whole
 
 
 @dataclass(frozen=True)
@@ -27,8 +28,8 @@ class Freedom:
     of the constraints from 1, of which nothing else says that the lines are parallel. free: how the
     unknowns may move by piece while these lines stay parallel, and whole: how all of it may be
     moved at once then, as columns of length 1. dependencies: what is said twice and what
-    contradicts. is_sure: False where the rank lies near its cut, as where two solutions meet; there
-    the count may be off."""
+    contradicts. is_sure: False where the rank lies near its cut, as where two solutions meet, or is
+    another as soon as what is free moves; there the count may be off."""
 
     count: int
     motions: Motions
@@ -51,15 +52,17 @@ def freedom(equations: Equations, x: Array) -> Freedom:
     asked = Linearization(unknowns, x, rows_times(jacobian, factors),
                           lambda near: unit_rows(equations.tangents(near).jacobian))
     rank = held = rank_of(asked.jacobian, len(unknowns.points))
+    bends = asked.bends(held.free) if held.dependent else np.zeros(len(off))
     found = [each for dependent in held.dependent
-             for each in dependencies(equations.rows, off * factors, dependent)]
+             for each in dependencies(equations.rows, off * factors, bends, dependent)]
     crooked, whole = _crooked(equations, found), of_the_whole(asked, held.free)
     if crooked:
         asked = _without_measured(equations, asked)
         rank = rank_of(asked.jacobian, len(unknowns.points))
     return Freedom(unknowns.count - rank.rank, motions(asked, rank.free),
                    tuple(each for each in found if each.sources[0].by is By.CONSTRAINT),
-                   held.free, whole, held.is_sure and rank.is_sure, crooked)
+                   held.free, whole, held.is_sure and rank.is_sure
+                   and all(each.lasts for each in found), crooked)
 
 
 def _crooked(equations: Equations, found: list[Dependency]) -> frozenset[int]:

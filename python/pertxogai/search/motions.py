@@ -11,9 +11,10 @@ import numpy as np
 from pertxogai.drawing import PointRef, Segment, Which
 from pertxogai.judging.finding import PointMove
 from pertxogai.search.arrays import Array
+from pertxogai.search.linearization import Linearization
 from pertxogai.search.rank import Free, wide
 from pertxogai.search.unknowns import Unknowns
-from pertxogai.search.whole import SEEN, Linearization, of_the_whole
+from pertxogai.search.whole import SEEN, of_the_whole
 
 MOST_HELD = 40
 """The most segments that are tried as the one that is held still."""

@@ -135,7 +135,8 @@ class Searched:
 
     def _repeats(self) -> tuple[Group, ...]:
         """What says what others do, the latest first."""
-        return self._groups(each for each in self.freedom.dependencies if each.repeats())
+        return self._groups(each for each in self.freedom.dependencies
+                            if each.repeats() and each.lasts)
 
     def _groups(self, repeats: Iterable[Dependency]) -> tuple[Group, ...]:
         groups = map(self._group, sorted(repeats, key=_latest, reverse=True))

@@ -5,32 +5,17 @@ Where two points happen to lie at one height, or in one place, a turn may change
 order, and does so as soon as one of them is moved; that is none."""
 from __future__ import annotations
 
-from collections.abc import Callable, Sequence
-from dataclasses import dataclass
+from collections.abc import Sequence
 
 import numpy as np
 
-from pertxogai.search.arrays import Array, Matrix
+from pertxogai.search.arrays import Array
+from pertxogai.search.linearization import STEP, Linearization, motion
 from pertxogai.search.rank import Free
 from pertxogai.search.unknowns import Unknowns
 
 SEEN = 1e-6
 """Of motions of length 1, what moves by less stays."""
-STEP = 1e-6
-"""How far parts are moved to see what lasts, as a part of the drawing's reach."""
-LEAST_REACH_NM = 1e3
-"""No drawing reaches less far from its middle."""
-
-
-@dataclass(frozen=True)
-class Linearization:
-    """The rows of a drawing where its unknowns are x: their Jacobian, with rows of length 1, and
-    what gives the same near by."""
-
-    unknowns: Unknowns
-    x: Array
-    jacobian: Matrix
-    near: Callable[[Array], Matrix]
 
 
 def of_the_whole(rows: Linearization, free: Sequence[Free]) -> Array:
@@ -40,7 +25,8 @@ def of_the_whole(rows: Linearization, free: Sequence[Free]) -> Array:
     moves = frame.at(rows.x)
     if not rows.jacobian.shape[0] or not moves.shape[1]:
         return moves
-    aside = _aside(rows.x, free, STEP * frame.reach_nm)
+    some = motion(free, len(rows.x), np.random.default_rng(0))
+    aside = STEP * rows.reach_nm() * some
     there, back = (rows.near(each) @ frame.at(each) for each in (rows.x + aside, rows.x - aside))
     found: Array = moves @ _lasting(rows.jacobian @ moves, (there - back) / (2 * STEP))
     return found
@@ -56,7 +42,6 @@ class _Frame:
         places = x[:self._points].reshape(-1, 2)
         middle = places.mean(axis=0) if len(places) else np.zeros(2)
         self._pole = np.array(given[0]) if given else middle
-        self.reach_nm = max(float(np.abs(places - self._pole).max(initial=0.0)), LEAST_REACH_NM)
         lengths = np.linalg.norm(self._all(x), axis=0)
         kept = np.array([not given, not given, len(given) < 2]) & (lengths > SEEN)
         self._kept, self._lengths = kept, lengths[kept]
@@ -73,15 +58,6 @@ class _Frame:
         moves[0:self._points:2, 0], moves[1:self._points:2, 1] = 1.0, 1.0
         moves[0:self._points:2, 2], moves[1:self._points:2, 2] = -aside[:, 1], aside[:, 0]
         return moves
-
-
-def _aside(x: Array, free: Sequence[Free], reach_nm: float) -> Array:
-    """Some motion of all that is free, of which the greatest part is so long."""
-    chance, found = np.random.default_rng(0), np.zeros(len(x))
-    for each in free:
-        found[each.columns] += each.ways @ chance.standard_normal(each.ways.shape[1])
-    aside: Array = found * (reach_nm / max(float(np.abs(found).max(initial=0.0)), SEEN))
-    return aside
 
 
 def _lasting(changes: Array, bends: Array) -> Array:
