@@ -7,14 +7,16 @@ from typing import TYPE_CHECKING
 if TYPE_CHECKING:
     from pertxogai.ranging.faults import Fault, FaultKind
     from pertxogai.ranging.no_range import NoRange
-    from pertxogai.ranging.ranges import End, Range, Ranging
+    from pertxogai.ranging.range import End, Range
+    from pertxogai.ranging.ranges import Ranging
 else:
     from pertxogai._later import handed_on
 
     __getattr__, __dir__ = handed_on(__name__, {
         ".faults": "Fault FaultKind",
         ".no_range": "NoRange",
-        ".ranges": "End Range Ranging",
+        ".range": "End Range",
+        ".ranges": "Ranging",
     })
 
 __all__ = ["End", "Fault", "FaultKind", "NoRange", "Range", "Ranging"]

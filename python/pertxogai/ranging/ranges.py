@@ -1,4 +1,4 @@
-"""The range of each value and dimension of a good drawing."""
+"""The ranges of the values and dimensions of a good drawing."""
 from __future__ import annotations
 
 from collections.abc import Iterator
@@ -6,46 +6,16 @@ from dataclasses import dataclass
 from fractions import Fraction
 from typing import TYPE_CHECKING
 
-from pertxogai.drawing import Drawing, DrawingUnsound, Parameter, Unit, parameters
+from pertxogai.drawing import Drawing, Parameter, parameters
 from pertxogai.judging.measure import Limit
 from pertxogai.program import Solver
-from pertxogai.ranging.faults import Fault, FaultKind
+from pertxogai.ranging.faults import Fault
+from pertxogai.ranging.range import Range, with_number
 from pertxogai.ranging.search import Search
 from pertxogai.search import check_libraries
 
 if TYPE_CHECKING:  # It imports numpy: that a library is missing is said once a range is asked for.
     from pertxogai.ranging.way import Way
-
-STEPS = {Unit.MM: 1_000, Unit.PLAIN: 1_000, Unit.DEGREES: 10_000}
-"""Ends are told to so many parts of the unit: to a micrometre, to a ten-thousandth of a degree."""
-MOST_STEPS = 10 ** 9
-"""A small value without a unit is told to a thousandth of it, and to no smaller part of one."""
-
-
-@dataclass(frozen=True)
-class End:
-    """An end of a range: the last value with which the drawing stays good, in the unit of the
-    parameter, and why the next one doesn't."""
-
-    at: Fraction
-    fault: Fault
-
-
-@dataclass(frozen=True)
-class Range:
-    """How far a value or a dimension can go. tried: how many values were tried. is_clear: whether
-    by numbers nothing crosses between them."""
-
-    of: Parameter
-    low: End
-    high: End
-    tried: int
-    is_clear: bool
-
-    @property
-    def step(self) -> Fraction:
-        """The step to which the ends are given, in the unit."""
-        return Fraction(1, steps_of(self.of))
 
 
 @dataclass(frozen=True)
@@ -74,7 +44,7 @@ class Ranging:
         """The range of one parameter. Raises ProgramError."""
         from pertxogai.ranging.tried_numbers import Numbers
 
-        numbers = Numbers(self, of)
+        numbers = Numbers(self.drawing, self.way, of)
         search = Search(numbers.fault, numbers.present, numbers.low, numbers.high, numbers.beyond,
                         numbers.is_clear, numbers.at_end, numbers.rounding)
         low, high = search.border(False), search.border(True)
@@ -99,15 +69,4 @@ class Ranging:
 
     def drawing_with(self, of: Parameter, number: Fraction) -> Drawing | Fault:
         """The drawing with another value for a parameter, or why there is none."""
-        try:
-            return of.on(self.drawing, number)
-        except DrawingUnsound as unsound:
-            return Fault(FaultKind.UNSOUND, str(unsound))
-
-
-def steps_of(of: Parameter) -> int:
-    """Into how many steps the unit of a parameter is parted."""
-    steps = STEPS[of.unit]
-    while of.unit is Unit.PLAIN and 0 < abs(of.present) * steps < 1_000 and steps < MOST_STEPS:
-        steps *= 10
-    return steps
+        return with_number(self.drawing, of, number)

@@ -11,11 +11,11 @@ from pertxogai.drawing.numbers import MOST_MM, decimal_text
 from pertxogai.drawing.values.parameters import Dimension, NamedValue
 from pertxogai.ranging.faults import Fault, FaultKind, of_rounding
 from pertxogai.ranging.passage import Passage
-from pertxogai.ranging.ranges import End, Ranging, steps_of
+from pertxogai.ranging.range import End, steps_of, with_number
 from pertxogai.ranging.search import Border
 from pertxogai.ranging.spans import is_smooth
 from pertxogai.ranging.things import Placement
-from pertxogai.ranging.way import Held
+from pertxogai.ranging.way import Held, Way
 
 MOST_NUMBER = 9_999_999
 """No number of an expression is greater."""
@@ -25,24 +25,24 @@ class Numbers:
     """The numbers that a parameter may have, as whole numbers of steps from the one next to 0 that
     is a whole number of them away from the present one."""
 
-    def __init__(self, ranging: Ranging, of: Parameter) -> None:
-        self._ranging, self._of = ranging, of
+    def __init__(self, drawing: Drawing, way: Way, of: Parameter) -> None:
+        self._drawing, self._way, self._of = drawing, way, of
         self._steps = steps_of(of)
         self.present = round(of.present * self._steps)
         self._rest = of.present - Fraction(self.present, self._steps)
-        low, high = _limits(ranging.drawing, of)
+        low, high = _limits(drawing, of)
         self.low, self.high = min(low, self.present), max(high, self.present)
-        self._things = ranging.way.things
-        self._placements = {self.present: self._things.placed(ranging.way.edges)}
+        self._things = way.things
+        self._placements = {self.present: self._things.placed(way.edges)}
         self._offs: dict[int, Fault | None] = {}
-        self._ways = [ranging.way]
+        self._ways = [way]
 
     def _number(self, steps: int) -> Fraction:
         return Fraction(steps, self._steps) + self._rest
 
     def fault(self, number: int) -> Fault | None:
         """What is wrong with a number, by all ways that are known; the last of them says."""
-        drawing = self._ranging.drawing_with(self._of, self._number(number))
+        drawing = with_number(self._drawing, self._of, self._number(number))
         if isinstance(drawing, Fault):
             return drawing
         fault: Fault | None = None
@@ -67,7 +67,8 @@ class Numbers:
 
     def at_end(self, number: int) -> Fault | None:
         """What is wrong with a number, by whichever way; one that is found is known from now on."""
-        found = self._ranging.found_for(self._of, self._number(number))
+        drawing = with_number(self._drawing, self._of, self._number(number))
+        found = drawing if isinstance(drawing, Fault) else self._way.found_for(drawing)
         if isinstance(found, Fault):
             return found
         self._ways.append(found)
@@ -80,7 +81,7 @@ class Numbers:
         expressions go smoothly."""
         if isinstance(self._of, NamedValue):
             low, high = sorted(map(self._number, (numbers[0], numbers[-1])))
-            if not is_smooth(self._ranging.drawing, self._of.name, low, high):
+            if not is_smooth(self._drawing, self._of.name, low, high):
                 return False
         placements: list[Placement] = [self._placements[each] for each in numbers]
         return Passage.of(self._things, numbers, placements).is_clear()
