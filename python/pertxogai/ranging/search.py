@@ -104,7 +104,8 @@ class Search(Generic[Fault]):
         good, bad, fault = border.good, border.good, self._broken(border.good)
         if fault is None:
             return border
-        found, step = fault, 1
+        found: Fault | None = fault
+        step = 1
         while found is not None and good != self.present:
             bad, fault, step = good, found, 2 * step
             good = max(good - way * step, self.present, key=lambda it: way * it)
