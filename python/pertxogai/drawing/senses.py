@@ -55,11 +55,11 @@ def way(drawing: Drawing, line: ShapeRef) -> Vector:
 
 def turn(drawing: Drawing, angle: AngleBetween) -> Turn:
     """The turn of an angle, from the first line's direction to the second's."""
+    if isinstance(angle.value, Degrees) and angle.sense is Sense.SIGNED:
+        return Degrees(_within_half_turn(angle.value.value))
     first, second = way(drawing, angle.first), way(drawing, angle.second)
     left, ahead = cross(first, second) >= 0, dot(first, second) >= 0
     match angle.value, angle.sense:
-        case Degrees(value), Sense.SIGNED:
-            return Degrees(_within_half_turn(value))
         case Degrees(value), _:
             return _drawn_degrees(drawing, angle, value, left, ahead)
         case Ratio(p, q), Sense.SIGNED:

@@ -3,6 +3,7 @@
 from __future__ import annotations
 
 from fractions import Fraction
+from functools import lru_cache
 from typing import NamedTuple
 
 from pertxogai.drawing import Slope, Turn
@@ -72,6 +73,7 @@ class _Wanted(NamedTuple):
     square: int
 
 
+@lru_cache(maxsize=256)
 def _direction_of(turn: Turn) -> _Wanted:
     """The direction of the x axis, turned. Whole multiples of 45 degrees, which alone have
     fractions for tangents, are exact."""
