@@ -6,12 +6,16 @@ check is measured on the printed whole nanometres; nothing here decides where so
 from __future__ import annotations
 
 from pertxogai.drawing import Drawing
+from pertxogai.fitting.corners import Worst
 from pertxogai.fitting.fit import fit_of
-from pertxogai.fitting.results import Answer, CheckedFit, Fit, NoFit, Range, Share, UnknownFit
+from pertxogai.fitting.results import (
+    Answer, CheckedFit, Fit, Limits, NoFit, Range, Share, UnknownFit)
+from pertxogai.fitting.toleranced import Dimensions, Toleranced
 from pertxogai.judging.measure import Limit
 from pertxogai.program import Solver
 
-__all__ = ["Answer", "CheckedFit", "Fit", "NoFit", "Range", "Share", "UnknownFit", "fit"]
+__all__ = ["Answer", "CheckedFit", "Dimensions", "Fit", "Limits", "NoFit", "Range", "Share",
+           "Toleranced", "UnknownFit", "Worst", "fit"]
 
 
 def fit(drawing: Drawing, program: Solver, limit: Limit = Limit()) -> Fit | NoFit:

@@ -125,7 +125,7 @@ class CheckedFit:
 
     @property
     def answer(self) -> Answer:
-        """Whether it fits in the worst case."""
+        """Whether it fits in the worst case; where a check has no limits, whether that is known."""
         if not self.placed.lies_within(self.allowed, self.noise):
             return Answer.BEYOND
         if self.has_gap or not self.reckoned.lies_within(self.allowed, self.noise):
