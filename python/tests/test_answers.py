@@ -320,6 +320,19 @@ def test_an_edge_that_turned_about_is_warned_of(program):
             for each in found.warnings] == [(DepartureKind.TURNED, ("Step",))]
 
 
+@pytest.mark.parametrize(("apart", "off_um"), [("5.05", 0), ("5", 50), ("4.95", 100)])
+def test_a_circle_that_would_have_no_radius_is_measured_as_it_is_drawn(program, apart, off_um):
+    # Ball touches Ring, of 5 mm, from outside as it is drawn: its radius would be apart less 5. Where
+    # that is 0 or less, it keeps the drawn 0.05, and the touch is off by 5.05 less apart.
+    drawing = read_drawing("circle Ring 0 0 5\ncoincident Ring.centre Origin\nradius Ring 5\n"
+                           "circle Ball 5.05 0 0.05\ntangent Ball Ring\non Ball.centre XAxis\n"
+                           f"distance Ball.centre Origin {apart}\n")
+    judged = judge(drawing, program)
+    assert judged.verdict is Verdict.WELL
+    assert judged.solution.radii["Ball"] == 50_000
+    assert max(each.amount for each in judged.deviations) == off_um * 1000
+
+
 @pytest.mark.parametrize(("radius", "gone"), [("7", [(DepartureKind.GONE, ("Flat",))]), ("7.001", [])])
 def test_an_edge_that_came_to_nothing_is_warned_of(program, radius, gone):
     """The flat of a shaft, 7 away from the centre: at the radius 7 it is a point of the circle."""

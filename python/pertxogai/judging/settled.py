@@ -16,6 +16,9 @@ from pertxogai.program.reports import Shape
 from pertxogai.spelling.facts import ORIGIN_KNOT, RadiusOf
 
 
+NM_PER_UM = 1000
+
+
 class Settled(NamedTuple):
     """The places of a drawing, and the circles of which nothing tells the size, which are as they
     are drawn."""
@@ -25,7 +28,9 @@ class Settled(NamedTuple):
 
 
 def settled(drawing: Drawing, asked: Trial, shape: Shape) -> Settled:
-    """What was printed for a drawing, carried to the datum's frame and rounded there."""
+    """What was printed for a drawing, carried to the datum's frame and rounded there. A circle whose
+    radius would have to be 0 or less is as it is drawn, so that what tells its radius is measured
+    as off."""
     points = _points(asked, shape)
     radii: dict[str, int] = {}
     unsized = []
@@ -35,7 +40,8 @@ def settled(drawing: Drawing, asked: Trial, shape: Shape) -> Settled:
             radius = _radius(asked, sizes, rim.name)
             if radius is None:
                 unsized.append(rim.name)
-                radius = whole_near(drawing.drawn_radius_um(rim.name) * 1000)
+            if radius is None or radius <= 0:
+                radius = whole_near(drawing.drawn_radius_um(rim.name) * NM_PER_UM)
             radii[rim.name] = radius
     return Settled(Solution(points, radii), tuple(unsized))
 
@@ -64,4 +70,4 @@ def _radius(asked: Trial, sizes: Callable[[], Sizes], name: str) -> int | None:
     """A radius that is told; else the one that the places tell; else None. sizes: what the places
     tell, which few drawings need."""
     told = asked.rails.size(RadiusOf(name))
-    return sizes().radius_nm(name) if told is None else whole_near(told * 1000)
+    return sizes().radius_nm(name) if told is None else whole_near(told * NM_PER_UM)
