@@ -50,7 +50,8 @@ class Numbers:
             found = way.placed(drawing)
             if isinstance(found, Held):
                 self._placements[number] = self._things.placed(found.edges)
-                self._offs[number] = found.nearly and way.off(found.nearly)
+                off = found.nearly
+                self._offs[number] = None if off is None else way.off(off)
                 return None
             fault = found
         self._offs[number] = fault if fault and fault.by_rounding else None
