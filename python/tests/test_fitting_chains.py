@@ -488,3 +488,16 @@ def test_what_may_slide_along_an_axis_has_a_distance_from_it(program) -> None:
     high, level, aside = found.checks
     assert worst(high) == worst(level) == (4.9, 5.1) and high.answer is Answer.FITS
     assert isinstance(aside, UnknownFit) and "moved along x (by rank)" in aside.why
+
+
+def test_a_circle_that_would_have_no_radius_is_not_placed(program) -> None:
+    # A disc of 5, and a circle that touches it from outside, its centre 5.05 away: of a radius of
+    # 0.05. Within 0.03 it has 0.02 to 0.08; 0.1 nearer there is none.
+    text = ("check Size radius Z ..\ncircle K 0 0 5\ncoincident K.centre Origin\nradius K 5\n"
+            "circle Z 5.05 0 0.05\ntangent Z K\non Z.centre XAxis\n"
+            "distance Z.centre Origin 5.05 +-{}\n")
+    (size,) = checks(text.format("0.03"), program)
+    assert worst(size) == (0.02, 0.08)
+    found = fit(read_drawing(text.format("0.1")), program)
+    assert isinstance(found.checks[0], UnknownFit) and found.unplaced
+    assert found.answer is Answer.UNSURE

@@ -95,8 +95,8 @@ class Template:
         return "\n".join(lines)
 
     def _settled(self, found: Solution, offs: Offs) -> Solution | None:
-        """The places and radii with the dimensions off; None where they aren't whole
-        nanometres."""
+        """The places and radii with the dimensions off; None where places aren't whole nanometres,
+        or a radius isn't above 0."""
         by = [(each.value(offs) - each.at) * NM_PER_UM for each in self.shifts]
         if any(each.denominator != 1 for each in by):
             return None
@@ -105,6 +105,8 @@ class Template:
                   {ref: (x + x_nm, y + y_nm) for ref, (x, y) in found.points.items()})
         radii = {name: whole_near(each.value(offs) * NM_PER_UM)
                  for name, each in self.radii.items()}
+        if any(radius <= 0 for radius in radii.values()):
+            return None
         return replace(found, points=points, radii=radii)
 
 
