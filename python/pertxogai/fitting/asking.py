@@ -1,5 +1,5 @@
 """How the program is asked to place a drawing with dimensions off: as it placed the drawing itself,
-where that meets each constraint as well there; else as any drawing."""
+where that meets each constraint there but for rounding; else as any drawing."""
 from __future__ import annotations
 
 from collections import Counter
