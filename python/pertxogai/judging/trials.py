@@ -169,10 +169,11 @@ def finer(question: Question, asked: Trial) -> Trial:
     if not asked.spelled.near:
         return asked
     axes = asked.told or asked.axes
+    before = tuple(each for each in asked.grown if each in axes.equations)
     for care in _fine_cares(question.program, asked):
         fine = placed(ask(question, axes, asked.spelled.style, care), question.program)
         if _worth(question, fine) >= _worth(question, asked):
-            return replace(fine, grown=asked.grown + fine.grown, frozen=asked.frozen)
+            return replace(fine, grown=before + fine.grown, frozen=asked.frozen)
     return asked
 
 
