@@ -17,7 +17,8 @@ if TYPE_CHECKING:
 
 TESTS = Path(__file__).resolve().parent
 TOP = TESTS.parents[1]
-LONGEST = ("board/test_board_browser", "hunt/test_answers_are_so", "test_redrawn", "test_style",
+LONGEST = ("board/test_board_browser", "test_redrawn", "test_style",
+           *(f"hunt/test_seeds_{first:03}" for first in range(0, 300, 60)),
            "test_freecad_commands", "test_freecad_window",
            "board/test_board_hand", "board/test_board_dragging", "board/test_board_guesses",
            "board/test_board_types", "board/test_board_gallery", "board/test_board_random",
