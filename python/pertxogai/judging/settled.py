@@ -15,7 +15,6 @@ from pertxogai.judging.trials import Trial
 from pertxogai.program.reports import Shape
 from pertxogai.spelling.facts import ORIGIN_KNOT, RadiusOf
 
-
 NM_PER_UM = 1000
 
 
@@ -28,9 +27,9 @@ class Settled(NamedTuple):
 
 
 def settled(drawing: Drawing, asked: Trial, shape: Shape) -> Settled:
-    """What was printed for a drawing, carried to the datum's frame and rounded there. A circle whose
-    radius would have to be 0 or less is as it is drawn, so that what tells its radius is measured
-    as off."""
+    """What was printed for a drawing, carried to the datum's frame and rounded there. A circle
+    whose radius would have to be 0 or less is as it is drawn, so that what tells its radius is
+    measured as off."""
     points = _points(asked, shape)
     radii: dict[str, int] = {}
     unsized = []
