@@ -342,6 +342,22 @@ def test_an_edge_that_came_to_nothing_is_warned_of(program, radius, gone):
     assert [(each.departure, each.shapes) for each in found.warnings] == gone
 
 
+def test_a_rest_that_is_well_and_not_good_is_told_as_that(program):
+    # By hand: without its upright Right leans from 100 0 to 105 on the right, so its end is 5 mm too
+    # far from Left. Without the distance, or without the x, it stands upright.
+    text = ("segment Left 0 0 0 40\nsegment Right 100 0 102 40\ncoincident Left.start Origin\n"
+            "vertical Left\nUpright: vertical Right\nlength Left 40\nlength Right 40\n"
+            "Width: distance Left Right 100\ny Right.start 0\nFar: x Right.end 105\n")
+    found = judge(read_drawing(text), program)
+    assert [(each.name, each.then) for each in found.surplus if each.then is not Then.OPEN] == [
+        ("Width", Then.WELL), ("Far", Then.WELL), ("Upright", Then.NOT_GOOD)]
+    beyond = next(each.beyond for each in found.surplus if each.name == "Upright")
+    assert (beyond.called(read_drawing(text)), beyond.amount) == ("Width", 5_000_000)
+    assert ("    'Upright': conflicting, off by 5 mm; without it the rest is well, but "
+            "not good: 'Width' is off by 5 mm") in list(
+                drawing_lines(JudgedDrawing("part", read_drawing(text), found)))
+
+
 @pytest.mark.parametrize("given", [
     # What is given from outside is given once, whichever shapes share its points.
     "outer segment Base 0 0 40 0\nouter segment Side Base.start 0 40\n",

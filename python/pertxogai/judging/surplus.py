@@ -13,9 +13,9 @@ from pertxogai.drawing import ORIGIN, Coincident, Drawing
 from pertxogai.drawing.places import NM_PER_UM
 from pertxogai.exact import whole_up
 from pertxogai.judging.freedoms import Freedoms, Gone, freedoms
-from pertxogai.judging.measure.deviation import Deviation, Unit, worst
+from pertxogai.judging.measure.deviation import Deviation, Unit, greatest, worst
 from pertxogai.judging.measure.limit import Limit
-from pertxogai.judging.measure.measuring import measure_one
+from pertxogai.judging.measure.measuring import measure, measure_one
 from pertxogai.judging.pieces_measured import off_in_pieces
 from pertxogai.judging.remembering import Remembering
 from pertxogai.judging.roundings import (
@@ -42,6 +42,8 @@ class Then(Enum):
     """What the rest is without a dimension."""
 
     WELL = "well"
+    NOT_GOOD = "well, but not good"
+    """A constraint is off where the rest is placed, as a distance of edges that aren't parallel."""
     NO_PLACES = "well, but it has no places"
     OPEN = "open"
     OVER = "over still"
@@ -67,6 +69,8 @@ class Surplus:
     beside: frozenset[int] = frozenset()
     """The places of the others that were left out when it was measured, since more than one has to
     go. Its group is one without these."""
+    beyond: Deviation | None = None
+    """What of the rest is off the most, by its place in the drawing, where the rest isn't good."""
 
     def repeats(self) -> bool | None:
         """Whether it is redundant; None if that can't be told."""
@@ -133,10 +137,12 @@ def _consistent(found: Sequence[Surplus], excess: int) -> Iterator[Surplus]:
         yield replace(each, off=None, rounding=0) if repeats and each.repeats() is False else each
 
 
-def _order(each: Surplus) -> tuple[int, int, int]:
-    """Contradictions, by how far they are off; then what isn't measured; then repeats."""
+def _order(each: Surplus) -> tuple[bool, int, int, int]:
+    """Contradictions, by how far they are off; then what isn't measured; then repeats. Behind all
+    of these what leaves a rest that isn't good."""
     kind = {False: 0, None: 1, True: 2}[each.repeats()]
-    return kind, each.off.amount if each.off is not None and not kind else 0, each.number
+    off = each.off.amount if each.off is not None and not kind else 0
+    return each.then is Then.NOT_GOOD, kind, off, each.number
 
 
 def spare_at_once(drawing: Drawing, asked: Trial, program: Solver) -> list[int]:
@@ -243,8 +249,23 @@ class _Trials:
         off = None
         if asked.verdict is not Verdict.OVER and not self.free.freed(gone):
             off = self._off(number, gone, asked)
-        then = _then(self._without(frozenset({number})))
-        return Surplus(number, self.drawing.called(number), off, then, self.limit, beside=others)
+        alone = self._without(frozenset({number}))
+        beyond = self._beyond(number, alone)
+        then = _then(alone) if beyond is None else Then.NOT_GOOD
+        return Surplus(number, self.drawing.called(number), off, then, self.limit, beside=others,
+                       beyond=beyond)
+
+    def _beyond(self, gone: int, asked: Trial) -> Deviation | None:
+        """What is off the most where the rest without a constraint is placed, by more than the
+        limit: by its place in the drawing."""
+        if asked.verdict is not Verdict.WELL or not isinstance(asked.solved, Solved):
+            return None
+        rest = without(self.drawing, {gone})
+        found = [*self.limit.beyond(measure(rest, solution_of(rest, asked, asked.solved)))]
+        most = greatest(found, Unit.NM) or greatest(found, Unit.PPB)
+        if most is None or most.number is None:
+            return most
+        return replace(most, number=most.number + (most.number >= gone))
 
     def _without(self, gone: frozenset[int]) -> Trial:
         """What the program says of the drawing without some constraints. Raises _Enough."""
