@@ -18,6 +18,7 @@ from pertxogai_freecad.trouble import Trouble, troubles
 
 REST = {
     None: "", Then.WELL: "fully constrained", Then.OPEN: "under-constrained",
+    Then.NOT_GOOD: "fully constrained, but not good",
     Then.NO_PLACES: "fully constrained, but has no places", Then.OVER: "still over-constrained",
 }
 """What the program says of the rest, in the trade's words."""
@@ -135,7 +136,9 @@ def _without(judged: JudgedSketch, index: int) -> Then:
     with troubles():
         found = judge_at_once(rest, judged.program, limit=judged.judged.limit)
     if found.verdict is Verdict.WELL:
-        return Then.WELL if found.solution is not None else Then.NO_PLACES
+        if found.solution is None:
+            return Then.NO_PLACES
+        return Then.NOT_GOOD if any(found.limit.beyond(found.deviations)) else Then.WELL
     return Then.OPEN if found.verdict is Verdict.OPEN else Then.OVER
 
 

@@ -120,6 +120,14 @@ def test_what_says_two_things_is_tried_as_a_whole(told: dict[str, Any]) -> None:
     assert facts["then"] == OPEN
 
 
+def test_a_rest_that_is_not_good_is_told_as_that(told: dict[str, Any]) -> None:
+    """Without its radius the ring would have one of -0.05 mm. Without the distance it touches the
+    disc with its centre 5.05 away."""
+    rest = told["repair_not_good ring"]["rest"]
+    assert rest["Constraint6"] == "fully constrained, but not good"
+    assert rest["Constraint5"] == "fully constrained"
+
+
 def test_a_shape_that_was_drawn_since_keeps_dimensions_from_being_added(
         told: dict[str, Any]) -> None:
     assert told["complete_moved shape"] == {"stale": CHANGED, "same": True}

@@ -83,7 +83,7 @@ def _told(judged: JudgedDrawing, asides: Asides) -> Iterator[Line]:
         case InPieces(missing):
             return _open(judged, missing)
         case WithSurplus():
-            return _over(judgement, asides.left, asides.unweighed)
+            return _over(judged, asides)
         case other:
             assert_never(other)
 
@@ -206,9 +206,9 @@ def _more(count: int, which: str) -> Iterator[Line]:
         yield Line(f"and {count} more", "quiet", list=which)
 
 
-def _over(judgement: Judgement, left: TooMuch | Untold,
-          unweighed: Untold | None) -> Iterator[Line]:
+def _over(judged: JudgedDrawing, asides: Asides) -> Iterator[Line]:
     """What is left out, and what becomes of the others; and what may go instead."""
+    judgement, left = judged.judgement, asides.left
     listed = () if isinstance(left, Untold) else left.dimensions
     numbers = {each.number for each in listed if not each.in_part}
     others = [each for each in judgement.surplus if each.number not in numbers]
@@ -222,10 +222,11 @@ def _over(judgement: Judgement, left: TooMuch | Untold,
         yield Line("Or remove one of these instead:" if len(listed) == 1
                    else "Or remove one of these instead of one of those:")
     for other in others:
-        then = "" if other.then is None else f"; without it the rest is {other.then.value}"
+        rest = other.rest(judged.drawing)
+        then = f"; without it the rest is {rest}" if rest else ""
         yield Line(f"{other.name}: {_surplus(other)}{then}", list="spare constraints",
                    takes=other.number)
-    yield from _beside_over(judgement, left, unweighed)
+    yield from _beside_over(judgement, left, asides.unweighed)
 
 
 def _beside_over(judgement: Judgement, left: TooMuch | Untold,

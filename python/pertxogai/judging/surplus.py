@@ -14,8 +14,9 @@ from pertxogai.drawing.places import NM_PER_UM
 from pertxogai.exact import whole_up
 from pertxogai.judging.freedoms import Freedoms, Gone, freedoms
 from pertxogai.judging.measure.deviation import Deviation, Unit, greatest, worst
-from pertxogai.judging.measure.limit import Limit
+from pertxogai.judging.measure.limit import Limit, amount_text
 from pertxogai.judging.measure.measuring import measure, measure_one
+from pertxogai.judging.naming import quoted
 from pertxogai.judging.pieces_measured import off_in_pieces
 from pertxogai.judging.remembering import Remembering
 from pertxogai.judging.roundings import (
@@ -71,6 +72,13 @@ class Surplus:
     go. Its group is one without these."""
     beyond: Deviation | None = None
     """What of the rest is off the most, by its place in the drawing, where the rest isn't good."""
+
+    def rest(self, drawing: Drawing) -> str:
+        """What the rest is without it, for people to read; empty if it wasn't tried."""
+        if self.then is None or self.beyond is None:
+            return "" if self.then is None else self.then.value
+        off = f"{quoted(self.beyond.called(drawing))} is off by {amount_text(self.beyond)}"
+        return f"{self.then.value}: {off}"
 
     def repeats(self) -> bool | None:
         """Whether it is redundant; None if that can't be told."""

@@ -269,9 +269,8 @@ def _surplus_lines(judged: CountedDrawing) -> Iterator[str]:
 
 def _removable_lines(each: Surplus, drawing: Drawing) -> Iterator[str]:
     """A removable dimension, and its group."""
-    then = "" if each.then is None else f"; without it the rest is {each.then.value}"
-    if each.beyond is not None:
-        then += f": {quoted(each.beyond.called(drawing))} is off by {amount_text(each.beyond)}"
+    rest = each.rest(drawing)
+    then = f"; without it the rest is {rest}" if rest else ""
     name = with_words(each.name, drawing.wordings[each.number - 1])
     yield f"    {name}{_off_text(each)}{then}"
     if each.others:

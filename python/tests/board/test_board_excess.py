@@ -203,6 +203,18 @@ def test_a_way_to_a_line_is_off_by_what_is_measured_of_it(program) -> None:
     assert "Or remove one of these instead:" in [each["text"] for each in lines]
 
 
+def test_of_a_rest_that_is_not_good_it_says_what_is_off(program) -> None:
+    # By hand: without its upright Right leans from 100 0 to 105 on the right, so its end is 5 mm too
+    # far from Left.
+    lines = panel("segment Left 0 0 0 40\nsegment Right 100 0 102 40\n"
+                  "coincident Left.start Origin\nvertical Left\nUpright: vertical Right\n"
+                  "length Left 40\nlength Right 40\nWidth: distance Left Right 100\n"
+                  "y Right.start 0\nFar: x Right.end 105\n", program)
+    (line,) = (each["text"] for each in lines if each.get("takes") == 3)
+    assert line.endswith(
+        "; without it the rest is well, but not good: 'Width' is off by 5 mm")
+
+
 def test_of_several_none_is_told_as_if_it_went_alone(program) -> None:
     """What the line is off, as one that may go, is measured where the point's other x is taken
     away too; and without one of the two that are left out there is still one too many. Of the x it

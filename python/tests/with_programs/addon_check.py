@@ -161,6 +161,22 @@ def check_repair_in_part():
     FreeCAD.closeDocument(sketch.Document.Name)
 
 
+def check_repair_not_good():
+    """A disc of 5 mm, and a ring of 0.05 mm that touches it from outside, its centre 4.95 away."""
+    document = FreeCAD.newDocument()
+    sketch = document.addObject("Sketcher::SketchObject", "Sketch")
+    for at, radius in ((0, 5), (5.05, 0.05)):
+        circle = Part.Circle(FreeCAD.Vector(at, 0, 0), FreeCAD.Vector(0, 0, 1), radius)
+        sketch.addGeometry(circle, False)
+    for said in (("Coincident", 0, CENTRE, -1, START), ("Radius", 0, 5.0),
+                 ("PointOnObject", 1, CENTRE, -1), ("Tangent", 1, 0),
+                 ("Distance", 1, CENTRE, -1, START, 4.95), ("Radius", 1, 0.05)):
+        sketch.addConstraint(Sketcher.Constraint(*said))
+    repair = Repair.of(judged(sketch))
+    yield "ring", {"rest": {each.name: each.rest for each in repair.candidates}}
+    FreeCAD.closeDocument(document.Name)
+
+
 def check_complete_moved():
     """A shape that was drawn since: what is proposed isn't added."""
     sketch = opened("plate-without-height")
@@ -344,7 +360,8 @@ def main():
     """All of it, and the end."""
     told = {}
     for check in (check_judge, check_repair, check_repair_moves, check_repair_followed,
-                  check_repair_in_part, check_complete, check_complete_two, check_complete_moved,
+                  check_repair_in_part, check_repair_not_good, check_complete,
+                  check_complete_two, check_complete_moved,
                   check_complete_outer, check_complete_nothing, check_place, check_place_rough,
                   check_certify, check_construction,
                   check_range, check_program):
