@@ -113,6 +113,24 @@ def test_the_group_is_told_below_the_dimension_and_in_json(program: Program) -> 
     assert spare == {"First": ["Again"], "Again": ["First"]}
 
 
+def test_a_dimension_without_a_group_of_the_program_has_that_of_the_search(
+        program: Program, tmp_path: Path, capsys: pytest.CaptureFixture[str]) -> None:
+    """Two widths and two upright sides contradict: each of the four conflicts with others of them,
+    named by `why`, or else by the search."""
+    path = str(DRAWINGS / "over-plate-contradiction.drawing")
+    assert main(["judge", path, "--program", program.path]) == 1
+    lines = capsys.readouterr().out.splitlines()
+    names = ["constraint 2 (vertical PlateRight)", "constraint 4 (vertical PlateLeft)",
+             "'Bottom width'", "'Top width'"]
+    for name in names:
+        (at,) = (at for at, line in enumerate(lines) if line.startswith(f"    {name}: conflicting"))
+        group = lines[at + 1].partition(": ")
+        assert group[0].strip() in ("conflicts with", "conflicts with (by numbers)")
+        assert group[2] and set(group[2].split(", ")) <= set(names) - {name}
+    assert main(["judge", "--no-search", path, "--program", program.path]) == 1
+    assert "conflicts with (by numbers)" not in capsys.readouterr().out
+
+
 def test_a_repeat_says_that_it_repeats(program: Program, tmp_path, capsys) -> None:
     path = tmp_path / "twice.drawing"
     path.write_text(f"{TRIANGLE}Again: distance A C 5\n")

@@ -15,7 +15,7 @@ from pertxogai.output.verdict_text import verdict_text
 from pertxogai.program.called import COMMAND
 
 if TYPE_CHECKING:  # What isn't well, or isn't met, imports what is told of it alone.
-    from pertxogai.drawing import Drawing
+    from pertxogai.judging.finding import Finding, Group
     from pertxogai.judging.judgement import CountedJudgement, Judgement
     from pertxogai.judging.surplus import Surplus
 
@@ -258,23 +258,36 @@ def _surplus_lines(judged: CountedDrawing) -> Iterator[str]:
     opening = [each for each in judgement.surplus if each.opens()]
     others = [each for each in judgement.surplus if not each.opens()]
     for each in others or opening:
-        yield from _removable_lines(each, judged.drawing)
+        yield from _removable_lines(each, judged)
     if others and opening:
         yield "  removable too, but then a dimension is missing:"
         for each in opening:
-            yield from _removable_lines(each, judged.drawing)
+            yield from _removable_lines(each, judged)
     yield from (f"  a dimension is missing all the same (by rank): {what}"
                 for what in judgement.loose)
 
 
-def _removable_lines(each: Surplus, drawing: Drawing) -> Iterator[str]:
-    """A removable dimension, and its group."""
+def _removable_lines(each: Surplus, judged: CountedDrawing) -> Iterator[str]:
+    """A removable dimension, and its group: that of the program, or else that of the search."""
+    drawing = judged.drawing
     rest = each.rest(drawing)
     then = f"; without it the rest is {rest}" if rest else ""
     name = with_words(each.name, drawing.wordings[each.number - 1])
     yield f"    {name}{_off_text(each)}{then}"
     if each.others:
         yield f"      {FOLLOWS[each.repeats()]}: {listed(each.others)}"
+    elif judged.finding is not None and (others := _group_by_numbers(each, judged.finding)):
+        yield f"      {FOLLOWS[each.repeats()]} (by numbers): {listed(others)}"
+
+
+def _group_by_numbers(each: Surplus, finding: Finding) -> Group:
+    """The others of the first group that the search found with a removable dimension; none of one
+    that wasn't measured."""
+    if each.off is None:
+        return ()
+    groups = {True: finding.repeats, False: finding.contradictions, None: finding.in_doubt}
+    with_it = (group for group in groups[each.repeats()] if each.name in group)
+    return tuple(name for name in next(with_it, ()) if name != each.name)
 
 
 def _off_text(each: Surplus) -> str:
