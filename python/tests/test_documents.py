@@ -2,6 +2,7 @@
 from __future__ import annotations
 
 import re
+import shutil
 import signal
 import subprocess
 from pathlib import Path
@@ -88,6 +89,13 @@ def test_each_call_that_a_crate_shows_is_on_its_page(crate: Path) -> None:
 
 def test_the_first_page_is_short() -> None:
     assert len((TOP / "README.md").read_text().splitlines()) <= 200
+
+
+@pytest.mark.skipif(shutil.which("rt") is None, reason="there is no kit here")
+@pytest.mark.parametrize("page", ["README.md", "CONTRIBUTING.md"])
+def test_a_page_names_the_kit_that_is_here(page: str) -> None:
+    said = subprocess.run(["rt", "version"], capture_output=True, text=True, check=True).stdout
+    assert f"`{said.split()[0]}`" in (TOP / page).read_text()
 
 
 def test_no_page_is_hidden() -> None:
