@@ -36,7 +36,7 @@ def hand_on(python, others, fitting, words):
 
 def run(words):
     """The commands, and their exit status."""
-    gc.disable()  # What is imported stays, so looking through it for rubbish only takes time.
+    gc.disable()  # What is imported stays, so garbage collection would only take time.
     from pertxogai.commands import main as do
 
     gc.enable()
