@@ -267,6 +267,11 @@ def test_what_is_said_twice_is_named_with_the_latest_first(name, group):
     # A triangle whose longest side is as long as the two others together.
     "segment A 0 0 40 0\nsegment B A.end 70 0\nsegment C B.end A.start\n"
     "length A 40\nlength B 30\nlength C 70\n",
+    # The line x = 10 touches the circle about the origin: without either, P moves along the other.
+    "point P 10 0\nx P 10\ndistance P Origin 10\n",
+    # All of a drawing is small beside the way to the origin from which it is told.
+    "circle C 10000 0 3\npoint Q 10000 1\ndistance C.centre Q 1\nx C.centre 10000\n"
+    "distance C.centre Origin 10000\n",
 ])
 def test_what_only_seems_to_follow_where_all_is_straight_is_no_repeat(text):
     found = found_of(text)

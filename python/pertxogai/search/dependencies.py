@@ -15,7 +15,9 @@ from pertxogai.search.unknowns import By, Source
 SEEN = 1e-6
 """A factor below this part of the greatest is 0."""
 BENT = 1e-3
-"""What bends by less lasts, in parts of the drawing's reach."""
+"""What follows lasts where the bends of its rows cancel each other but for this part."""
+LEAST_BEND = 1e-4
+"""What bends by less, in parts of the drawing's size, is straight."""
 SAME_NM = 1.0
 """Constraints that are off each other by no more say the same: places are whole nanometres."""
 
@@ -47,10 +49,14 @@ def dependencies(rows: Sequence[Row], off: Array, bends: Array,
         seen = np.flatnonzero(np.abs(factors) > SEEN * np.abs(factors).max())
         group = {sources[each] for each in seen} - {sources[place]}
         latest_first = sorted(group, key=_lateness, reverse=True)
-        greatest = max(1.0, float(np.abs(factors).max()))
-        off_nm, bent = (abs(float(factors @ each[dependent.rows])) / greatest
-                        for each in (off, bends))
-        yield Dependency((sources[place], *latest_first), off_nm, bent <= BENT)
+        parts = factors / max(1.0, float(np.abs(factors).max()))
+        yield Dependency((sources[place], *latest_first), abs(float(parts @ off[dependent.rows])),
+                         _cancel(parts * bends[dependent.rows]))
+
+
+def _cancel(bends: Array) -> bool:
+    """Whether what rows bend by, each times its factor, comes to nothing."""
+    return abs(float(bends.sum())) <= max(LEAST_BEND, BENT * float(np.abs(bends).sum()))
 
 
 def _lateness(source: Source) -> tuple[int, int]:

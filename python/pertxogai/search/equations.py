@@ -113,18 +113,19 @@ class Equations(System):
         drawn = self.unknowns.drawn()
         rows = (each for each in rows_of(self.unknowns)
                 if each.source.by is By.SHAPE or each.source.number not in left_out)
-        super().__init__(rows, drawn, _size_nm(self.unknowns, drawn))
+        super().__init__(rows, drawn, size_nm(self.unknowns, drawn))
 
     def beside(self, rows: Iterable[Row]) -> System:
         """Rows of other constraints on the same unknowns."""
         return System(rows, self.drawn, self.size_nm)
 
 
-def _size_nm(unknowns: Unknowns, drawn: Array) -> float:
+def size_nm(unknowns: Unknowns, x: Array) -> float:
+    """How large a drawing is where its unknowns are x: the greatest of its width and its height,
+    with what is given, and of the radii."""
     points = 2 * len(unknowns.points)
-    places = np.vstack([drawn[:points].reshape(-1, 2), np.array(list(unknowns.given.values()))])
-    return float(max(np.ptp(places, axis=0).max(), drawn[points:].max(initial=0.0),
-                     LEAST_SIZE_NM))
+    places = np.vstack([x[:points].reshape(-1, 2), np.array(list(unknowns.given.values()))])
+    return float(max(np.ptp(places, axis=0).max(), x[points:].max(initial=0.0), LEAST_SIZE_NM))
 
 
 def _linear_entries(rows: Iterable[Row]) -> Iterator[Entry]:

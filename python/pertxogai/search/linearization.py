@@ -7,13 +7,12 @@ from dataclasses import dataclass
 import numpy as np
 
 from pertxogai.search.arrays import Array, Matrix
+from pertxogai.search.equations import size_nm
 from pertxogai.search.rank import Free
 from pertxogai.search.unknowns import Unknowns
 
 STEP = 1e-6
-"""How far parts are moved to see how the rows bend, as a part of the drawing's reach."""
-LEAST_REACH_NM = 1e3
-"""No drawing reaches less far."""
+"""How far parts are moved to see how the rows bend, as a part of the drawing's size."""
 LEAST_MOTION = 1e-6
 """Of what is free a motion has a greater part than this, or nothing is free."""
 
@@ -28,17 +27,16 @@ class Linearization:
     jacobian: Matrix
     near: Callable[[Array], Matrix]
 
-    def reach_nm(self) -> float:
-        """How far the points reach, along x or along y."""
-        places = self.x[:2 * len(self.unknowns.points)].reshape(-1, 2)
-        return max(float(np.ptp(places, axis=0).max()) if len(places) else 0.0, LEAST_REACH_NM)
+    def step_nm(self) -> float:
+        """How far parts are moved."""
+        return STEP * size_nm(self.unknowns, self.x)
 
     def bends(self, free: Sequence[Free]) -> Array:
-        """How each row would change along one free motion where another has moved the drawing: 0
-        where what is free stays so. Both are by chance."""
+        """How each row would change along one free motion where another has moved the drawing, in
+        parts of its size: 0 where what is free stays so. Both are by chance."""
         chance = np.random.default_rng(1)
         along, aside = (motion(free, len(self.x), chance) for _ in range(2))
-        step = STEP * self.reach_nm() * aside
+        step = self.step_nm() * aside
         found: Array = (self.near(self.x + step) @ along
                         - self.near(self.x - step) @ along) / (2 * STEP)
         return found

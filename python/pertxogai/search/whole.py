@@ -26,7 +26,7 @@ def of_the_whole(rows: Linearization, free: Sequence[Free]) -> Array:
     if not rows.jacobian.shape[0] or not moves.shape[1]:
         return moves
     some = motion(free, len(rows.x), np.random.default_rng(0))
-    aside = STEP * rows.reach_nm() * some
+    aside = rows.step_nm() * some
     there, back = (rows.near(each) @ frame.at(each) for each in (rows.x + aside, rows.x - aside))
     found: Array = moves @ _lasting(rows.jacobian @ moves, (there - back) / (2 * STEP))
     return found
