@@ -42,14 +42,19 @@ def test_the_lines_to_add_and_what_each_fixes(capsys):
     assert lines[2] == "  with these it is well and placed, and meets each constraint exactly"
 
 
-def test_a_value_that_is_not_the_drawn_one_stands_beside_that(capsys, tmp_path):
+@pytest.mark.parametrize("end, drawn", [
     # Drawn from 64, 36 to the origin, which is 73.43; beside 30 and 40 a side is less than 70.
+    ("64 36", "73.43"),
+    # 69.6 makes a triangle with these, and a hundredth more doesn't.
+    ("60.5 34.4", "69.6"),
+])
+def test_a_value_that_is_not_the_drawn_one_stands_beside_that(capsys, tmp_path, end, drawn):
     path = tmp_path / "sides.drawing"
-    path.write_text("segment A 0 0 40 0\nsegment B A.end 64 36\nsegment C B.end A.start\n"
+    path.write_text(f"segment A 0 0 40 0\nsegment B A.end {end}\nsegment C B.end A.start\n"
                     "length A 30\nlength B 40\n")
     _, lines, _ = told(capsys, "complete", path)
     (side,) = [line for line in lines if line.startswith("  length C ")]
-    assert side.endswith("; as drawn it can't be had: length C 73.43")
+    assert not side.startswith(f"  length C {drawn} ") and side.endswith(f"; drawn: length C {drawn}")
 
 
 def test_what_ties_the_whole_stands_apart(capsys):

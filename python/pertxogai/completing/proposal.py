@@ -18,7 +18,7 @@ MOST_SECONDS = 20.0
 @dataclass(frozen=True)
 class Proposal:
     """A constraint to add. fixes: what it fixes of the drawing, wholly or in a direction, in words;
-    found by numbers. drawn: the same as it is drawn, where the drawing can't have that."""
+    found by numbers. drawn: the same as it is drawn, where that isn't what is proposed."""
 
     constraint: Constraint
     fixes: tuple[str, ...] = ()

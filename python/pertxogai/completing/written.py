@@ -1,6 +1,6 @@
 """The numbers that are drawn. The search moves a rough drawing a little, so a value read off where
 it is placed is a number that nobody wrote. Here each dimension gets the value that it has as drawn,
-wherever the program places the drawing with that."""
+where the program places the drawing with that, and with a little more and less."""
 from __future__ import annotations
 
 from collections.abc import Iterator

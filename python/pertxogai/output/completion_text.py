@@ -55,9 +55,8 @@ def _fixes(proposal: Proposal) -> str:
 
 
 def _drawn(proposal: Proposal) -> str:
-    """How it is drawn, where the drawing can't have that."""
-    drawn = proposal.drawn
-    return "" if drawn is None else f"; as drawn it can't be had: {line_of(drawn)}"
+    """How it is drawn, where that isn't proposed."""
+    return "" if proposal.drawn is None else f"; drawn: {line_of(proposal.drawn)}"
 
 
 def _count(number: int, what: str) -> str:
