@@ -39,8 +39,8 @@ class Library:
         if named is None:
             here = (f"{BUILD} isn't built; build it by c/build" if BUILD.parents[1].is_dir()
                     else "install the Debian package libpertxogai-sketch1")
-            raise MissingProgram(
-                f"no library: {here}, name one by {VARIABLE}, or use the program")
+            raise MissingProgram(f"no library: {here}, put the `sketch` of an unpacked release on "
+                                 f"the path, name one by {VARIABLE}, or use the program")
         try:
             call = ctypes.CDLL(named).sketch_answer
         except (OSError, AttributeError) as error:
