@@ -48,7 +48,8 @@ class PrintedPlaces(NamedTuple):
 
     def height(self, line: str, point: str) -> Number:
         """How far a point is from a line, in micrometres."""
-        return abs(self.left_of(line, point))
+        left = self.left_of(line, point)
+        return max(left, -left)
 
     def left_of(self, line: str, point: str) -> Number:
         """How far a point is to the left of a line, in micrometres; below 0 to its right."""

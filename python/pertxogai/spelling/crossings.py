@@ -2,7 +2,7 @@
 is told to lie on both of its edges."""
 from __future__ import annotations
 
-from collections.abc import Hashable
+from collections.abc import Callable, Hashable, Iterable
 from dataclasses import replace
 
 from pertxogai.spelling.facts import Between, Fact, Facts, Knot, Leans, LengthOf, Lies, Line
@@ -74,7 +74,8 @@ class _One:
         """A fact of these points; None of one that says nothing more."""
         if isinstance(fact, Lies | Leans) and self.is_point(_led(fact)):
             return None
-        return fact._make(map(self._value, fact))
+        make: Callable[[Iterable[object]], Fact] = type(fact)._make
+        return make(map(self._value, fact))
 
     def _value(self, value: object) -> object:
         if isinstance(value, Knot):

@@ -11,7 +11,7 @@ from pertxogai.classes import Classes
 from pertxogai.drawing import X_AXIS, Y_AXIS, ShapeRef
 from pertxogai.spelling.directions import Directions
 from pertxogai.spelling.facts import (
-    ORIGIN_KNOT, Apart, Facts, Knot, Leans, Lies, Line, Middle, Mirror, OneLine, Owner, Shift)
+    ORIGIN_KNOT, Apart, Fact, Facts, Knot, Leans, Lies, Line, Middle, Mirror, OneLine, Owner, Shift)
 from pertxogai.spelling.lean import SQUARE, Lean
 from pertxogai.spelling.linear import Number
 
@@ -51,7 +51,7 @@ class Lines:
         while self._merge_sharers():
             pass
 
-    def _take(self, fact: object) -> None:
+    def _take(self, fact: Fact) -> None:
         match fact:
             case Lies(point, line, owner):
                 self._add_member(point, line, owner)
