@@ -358,6 +358,27 @@ def test_a_rest_that_is_well_and_not_good_is_told_as_that(program):
                 drawing_lines(JudgedDrawing("part", read_drawing(text), found)))
 
 
+ROOF = ("segment Floor 0 0 60 0\nsegment Roof Floor.end 0 12\ncoincident Floor.start Origin\n"
+        "horizontal Floor\nWide: length Floor 60\n")
+
+
+def test_a_rest_with_an_angle_near_a_ratio_is_well(program):
+    # 1/5 is 2.3e-4 degrees less than 11.3108: too much where it is told by that ratio. By two that
+    # add up to it each rest meets it, as the whole does.
+    text = ROOF + "x Roof.end 0\nangle Floor Roof 11.3108deg\nAgain: x Floor.end 60\n"
+    found = judge(read_drawing(text), program)
+    assert {each.name: (each.then, each.beyond) for each in found.surplus
+            if each.repeats()} == {"Wide": (Then.WELL, None), "Again": (Then.WELL, None)}
+
+
+def test_an_alternative_solution_meets_an_angle_near_a_ratio(program):
+    # Roof, of 61, leads to the left as it is drawn, and has to lead to the right. By the ratio that
+    # is nearest its angle is off by 2.3e-4 degrees there.
+    drawing = read_drawing(ROOF + "length Roof 61\nangle Floor Roof 168.6892deg\n")
+    lines = [*drawing_lines(JudgedDrawing("roof", drawing, judge(drawing, program)))]
+    assert "    draw Roof.end on the other side of Floor.end, along Roof" in lines
+
+
 @pytest.mark.parametrize("given", [
     # What is given from outside is given once, whichever shapes share its points.
     "outer segment Base 0 0 40 0\nouter segment Side Base.start 0 40\n",

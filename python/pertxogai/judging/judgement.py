@@ -299,7 +299,10 @@ def judge_trial(edited: EditedDrawing, asked: Trial, question: Question) -> Judg
     fine = finer(question, asked)
     if fine is asked:
         return judged
-    return min((judged, _judgement(edited, fine, question)), key=_worst_off)
+    finely = _judgement(edited, fine, question)
+    if any(judged.limit.beyond(judged.deviations)):
+        return finely
+    return min((judged, finely), key=_worst_off)
 
 
 def _judgement(edited: EditedDrawing, asked: Trial, question: Question) -> Judgement:

@@ -205,6 +205,7 @@ class _Trials:
         self.program = _Counted(Remembering(question.program))
         self.found: dict[int, Surplus] = {}
         self._known: dict[frozenset[int], Trial] = {}
+        self._fine: dict[frozenset[int], Trial] = {}
         self._stay: frozenset[int] = frozenset()
         self._work, self._rounding_work = WORK, ROUNDING_WORK
 
@@ -257,33 +258,50 @@ class _Trials:
         off = None
         if asked.verdict is not Verdict.OVER and not self.free.freed(gone):
             off = self._off(number, gone, asked)
-        alone = self._without(frozenset({number}))
-        beyond = self._beyond(number, alone)
-        then = _then(alone) if beyond is None else Then.NOT_GOOD
+        beyond = self._beyond(number)
+        then = _then(self._without(frozenset({number}))) if beyond is None else Then.NOT_GOOD
         return Surplus(number, self.drawing.called(number), off, then, self.limit, beside=others,
                        beyond=beyond)
 
-    def _beyond(self, gone: int, asked: Trial) -> Deviation | None:
+    def _beyond(self, gone: int) -> Deviation | None:
         """What is off the most where the rest without a constraint is placed, by more than the
-        limit: by its place in the drawing."""
-        if asked.verdict is not Verdict.WELL or not isinstance(asked.solved, Solved):
-            return None
-        rest = without(self.drawing, {gone})
-        found = [*self.limit.beyond(measure(rest, solution_of(rest, asked, asked.solved)))]
-        most = greatest(found, Unit.NM) or greatest(found, Unit.PPB)
+        limit: by its place in the drawing. Raises _Enough."""
+        rest, alone = without(self.drawing, {gone}), frozenset({gone})
+        most = self._off_the_most(rest, self._without(alone))
+        if most is not None and self._without(alone).spelled.near:
+            self._spend_on(rest)
+            most = self._off_the_most(rest, self._without_finely(alone))
         if most is None or most.number is None:
             return most
         return replace(most, number=most.number + (most.number >= gone))
+
+    def _off_the_most(self, rest: Drawing, asked: Trial) -> Deviation | None:
+        """What of a rest is off the most where it is placed, by more than the limit."""
+        if asked.verdict is not Verdict.WELL or not isinstance(asked.solved, Solved):
+            return None
+        found = [*self.limit.beyond(measure(rest, solution_of(rest, asked, asked.solved)))]
+        return greatest(found, Unit.NM) or greatest(found, Unit.PPB)
 
     def _without(self, gone: frozenset[int]) -> Trial:
         """What the program says of the drawing without some constraints. Raises _Enough."""
         if gone not in self._known:
             rest = without(self.drawing, gone)
-            self._work -= TRIAL + len(rest.constraints)
-            if self._work < 0 and self._known:
-                raise _Enough
+            self._spend_on(rest)
             self._known[gone] = first_good(Question(rest, self.program, self.limit), quick=True)
         return self._known[gone]
+
+    def _without_finely(self, gone: frozenset[int]) -> Trial:
+        """The same with its angles told as finely as can be. Raises _Enough."""
+        if gone not in self._fine:
+            rest = Question(without(self.drawing, gone), self.program, self.limit)
+            self._fine[gone] = finer(rest, self._without(gone))
+        return self._fine[gone]
+
+    def _spend_on(self, rest: Drawing) -> None:
+        """Counts a rest that is tried. Raises _Enough where they are too many."""
+        self._work -= TRIAL + len(rest.constraints)
+        if self._work < 0 and self._known:
+            raise _Enough
 
     def _off(self, number: int, gone: frozenset[int], asked: Trial) -> Deviation | None:
         """How far a constraint is off on the places of the rest, or of a piece of it."""
@@ -316,7 +334,7 @@ class _Trials:
         if set(asked.spelled.near).isdisjoint(self._rounded_lines(asked.spelled, gone)):
             return asked, off
         self._spend_on_rounding(1)
-        fine = finer(Question(without(self.drawing, gone), self.program, self.limit), asked)
+        fine = self._without_finely(gone)
         there = self._off(number, gone, fine)
         return (asked, off) if there is None else (fine, there)
 
