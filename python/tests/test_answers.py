@@ -333,6 +333,17 @@ def test_a_circle_that_would_have_no_radius_is_measured_as_it_is_drawn(program, 
     assert max(each.amount for each in judged.deviations) == off_um * 1000
 
 
+@pytest.mark.parametrize("line", ["circle Ball 20 5 5\ntangent Ball XAxis\n",
+                                  "segment Edge 0 0 40 0\nfixed Edge\ncircle Ball 20 5 5\n"
+                                  "tangent Edge Ball\n"])
+def test_a_circle_dimensioned_across_the_line_that_it_touches_has_a_radius(program, line):
+    # It is drawn above the line, and its centre lies 8 below: so the radius is 8.
+    judged = judge(read_drawing(line + "x Ball 20\ny Ball -8\n"), program)
+    assert judged.verdict is Verdict.WELL
+    assert judged.solution.radii["Ball"] == 8_000_000
+    assert not any(each.amount for each in judged.deviations)
+
+
 @pytest.mark.parametrize(("radius", "gone"), [("7", [(DepartureKind.GONE, ("Flat",))]), ("7.001", [])])
 def test_an_edge_that_came_to_nothing_is_warned_of(program, radius, gone):
     """The flat of a shaft, 7 away from the centre: at the radius 7 it is a point of the circle."""

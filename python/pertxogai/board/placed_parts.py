@@ -148,5 +148,5 @@ def _radii(judgement: Judgement, points: dict[PointRef, PointMm]) -> dict[str, f
 
 def _radius(judgement: Judgement, name: str) -> float:
     told = judgement.asked.rails.number(Form.of(RadiusOf(name)))
-    um = told if told is not None else judgement.names.drawing.drawn_radius_um(name)
+    um = told if told is not None and told > 0 else judgement.names.drawing.drawn_radius_um(name)
     return float(um) / 1e3

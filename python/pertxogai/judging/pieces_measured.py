@@ -71,13 +71,13 @@ class _Piece:
         found = {}
         for ref, knot in self.asked.axes.facts.refs.items():
             name = self.asked.spelled.points.get(knot)
-            if name in self.plate.points and name is not None:
+            if name in self.plate.points and name is not None and ref != ORIGIN:
                 x, y = self.plate.points[name]
                 found[ref] = x * 1000, y * 1000
         return found
 
     def _radii(self) -> Mapping[str, Number]:
-        """The radii that are told."""
+        """The radii that are told, and above 0."""
         rims = [each.name for each in self.drawing.geometry if isinstance(each, (Circle, Arc))]
         sizes = {name: self.asked.rails.size(RadiusOf(name)) for name in rims}
-        return {name: size * 1000 for name, size in sizes.items() if size is not None}
+        return {name: size * 1000 for name, size in sizes.items() if size is not None and size > 0}

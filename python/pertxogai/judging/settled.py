@@ -28,8 +28,8 @@ class Settled(NamedTuple):
 
 def settled(drawing: Drawing, asked: Trial, shape: Shape) -> Settled:
     """What was printed for a drawing, carried to the datum's frame and rounded there. A circle
-    whose radius would have to be 0 or less is as it is drawn, so that what tells its radius is
-    measured as off."""
+    whose radius would have to be 0 or less by what is told, and that the places tell no other, is
+    as it is drawn, so that what tells its radius is measured as off."""
     points = _points(asked, shape)
     radii: dict[str, int] = {}
     unsized = []
@@ -66,7 +66,11 @@ def _sizes(asked: Trial, points: dict[PointRef, PointNm]) -> Sizes:
 
 
 def _radius(asked: Trial, sizes: Callable[[], Sizes], name: str) -> int | None:
-    """A radius that is told; else the one that the places tell; else None. sizes: what the places
-    tell, which few drawings need."""
+    """A radius that is told; else, or where that is 0 or less since the centre lies across a line
+    that it touches, the one that the places tell; else None. sizes: what the places tell, which
+    few drawings need."""
     told = asked.rails.size(RadiusOf(name))
-    return sizes().radius_nm(name) if told is None else whole_near(told * NM_PER_UM)
+    if told is not None and told > 0:
+        return whole_near(told * NM_PER_UM)
+    placed = sizes().radius_nm(name)
+    return 0 if placed is None and told is not None else placed
