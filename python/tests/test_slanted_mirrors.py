@@ -9,7 +9,10 @@ import pytest
 
 from pertxogai.drawing import PointRef, Which, read_drawing
 from pertxogai.judging import JudgedDrawing, Judgement, judge_at_once, reasons_against
+from pertxogai.judging.trials import Question, ask
 from pertxogai.program import Solver
+from pertxogai.program.reports import Verdict
+from pertxogai.spelling import Care, Style, axes_of
 
 DRAWINGS = Path(__file__).parent / "drawings"
 MIRRORED = (DRAWINGS / "mirrored-in-a-slanted-line.drawing").read_text()
@@ -55,3 +58,13 @@ def test_a_roof_meets_each_angle(degrees: float, program: Solver) -> None:
     x, y = placed(text, PointRef("RoofR", Which.START), program)
     run = 60e6 * tan(radians(degrees)) / (1 + tan(radians(degrees)))
     assert abs(x - run) < 20 and abs(y - 40e6 - run) < 20
+
+
+def test_two_angles_that_lead_to_one_line_are_both_told_finely(program: Solver) -> None:
+    """Both are told of B, each by a line of help of its own."""
+    drawing = read_drawing(
+        "segment A 0 0 40 0\nsegment B A.end 60 30\nsegment C B.end 10 40\nhorizontal A\n"
+        "coincident A.start Origin\nlength A 40\nlength B 36\nlength C 50\n"
+        "angle A B 123.6877deg\nangle C B 64.7777deg\n")
+    asked = ask(Question(drawing, program), axes_of(drawing), Style.VALUES_NEAR, Care(fine=True))
+    assert asked.verdict is Verdict.WELL and not asked.spelled.near

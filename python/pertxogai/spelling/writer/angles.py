@@ -103,7 +103,7 @@ class Angles:
             layout.sheet.drafts.append(
                 Draft(*names, said, ratio=lean.ratio(), is_near=not lean.exact()))
             return
-        between = f"H{names[1]}"
+        between = self._free_name(f"H{names[1]}")
         knot = self._point_between(names, second)
         (x, y), (u, v) = layout.sheet.lines[names[1]]
         c, s = Fraction(cos(halves[1].radians())), Fraction(sin(halves[1].radians()))
@@ -113,6 +113,11 @@ class Angles:
         layout.say(layout.points[knot], between, said)
         layout.sheet.drafts.append(Draft(names[0], between, said, ratio=halves[0].ratio()))
         layout.sheet.drafts.append(Draft(between, names[1], said, ratio=halves[1].ratio()))
+
+    def _free_name(self, name: str) -> str:
+        """A name of a line of help that no other has: two angles may lead to one line."""
+        lines = self.layout.sheet.lines
+        return name if name not in lines else self._free_name(f"H{name}")
 
     def _point_between(self, names: tuple[str, str], second: Track) -> Knot:
         """The point through which the line of help between two tracks runs."""
