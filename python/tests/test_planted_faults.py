@@ -7,7 +7,9 @@ are measured on these places."""
 from __future__ import annotations
 
 import re
+from collections.abc import Callable
 from dataclasses import dataclass
+from fractions import Fraction
 from pathlib import Path
 
 import pytest
@@ -33,11 +35,19 @@ class Slip:
 
     name: str
     pattern: str
-    becomes: str
+    becomes: str | Callable[[re.Match[str]], str]
+
+
+def halved(found: re.Match[str]) -> str:
+    """A distance's line with half the value."""
+    return f"{found[1]} {float(Fraction(found[2]) / 2):.3f}"
 
 
 SLIPS = [
     Slip("another length", r"distance (\w+) (\w+) \S+", r"distance \1 \2 3.17"),
+    Slip("half a length", r"(distance \w+ \w+) (\S+)", halved),
+    Slip("the other axis", r"(distance|on) (\w+) Y( \S+)?", r"\1 \2 X\3"),
+    Slip("the one axis", r"(distance|on) (\w+) X( \S+)?", r"\1 \2 Y\3"),
     Slip("an angle's sign", r"angle (\w+) (\w+) ([1-9]\d*)/([1-9]\d*)", r"angle \1 \2 -\3/\4"),
     Slip("a slanted right angle", r"angle (\w+) (\w+) 1/0", r"angle \1 \2 1000/1"),
     Slip("another radius", r"circle (\w+) (\S+) (\S+) \S+", r"circle \1 \2 \3 3.17"),
@@ -53,14 +63,16 @@ class Case:
 
     def seen(self, program, text: str) -> int | None:
         """The greatest deviation in nm where this text is placed; None where it isn't, or
-        where it is placed as the drawing's own text is."""
+        where it is placed as the drawing's own text is, but for rounding."""
         answer = program.ask(["solve"], text)
         if answer.status is not Status.DONE:
             return None
-        solved = read_solve(answer.text)
-        if solved.places == self.asked.solved.places:
+        solution = solution_of(self.drawing, self.asked, read_solve(answer.text))
+        own = solution_of(self.drawing, self.asked, self.asked.solved)
+        if solution.radii == own.radii and all(
+                abs(solution.spot(ref)[axis] - spot[axis]) <= SEEN_NM
+                for ref, spot in own.points.items() for axis in (0, 1)):
             return None
-        solution = solution_of(self.drawing, self.asked, solved)
         return greatest(measure(self.drawing, solution), Unit.NM).amount
 
 
@@ -103,3 +115,15 @@ def test_exchanged_names_are_seen(case, program):
         lines = [exchanged(line, first, second) for line in text.splitlines()]
         seen = case.seen(program, "\n".join(lines) + "\n")
         assert seen is None or seen > SEEN_NM, (first, second)
+
+
+def test_an_end_on_the_circle_of_another_centre_is_seen(case, program):
+    lines = case.asked.spelled.sketch.text().splitlines()
+    points = re.findall(r"^point (\w+)", "\n".join(lines), re.M)
+    for place, line in enumerate(lines):
+        word, *names = line.split()
+        if word == "distance" and {*names[:2]} <= {*points}:
+            other = next(each for each in points if each not in names)
+            told = [*lines[:place], f"distance {other} {names[1]} {names[2]}", *lines[place + 1:]]
+            seen = case.seen(program, "\n".join(told) + "\n")
+            assert seen is None or seen > SEEN_NM, line
