@@ -14,6 +14,7 @@ from pertxogai.drawing import PointRef, Which, read_drawing
 from pertxogai.judging import DepartureKind, DrawingRefused, Then, Tie, judge
 from pertxogai.judging.as_drawn import frozen_choices
 from pertxogai.judging.departures import warnings
+from pertxogai.judging.edge_points import Endings
 from pertxogai.judging.faults import Unit as Measure
 from pertxogai.judging.freedoms import freedoms
 from pertxogai.judging.measure import Limit, Solution, Unit
@@ -459,6 +460,18 @@ def test_an_edge_on_the_line_of_another_does_not_cross_it(program, text, digits)
     found = judge(read_drawing(text.format(digits)), program)
     assert found.solution is not None
     assert not [each for each in found.warnings if "cross" in each.text()]
+
+
+def test_which_edges_end_on_the_line_of_another():
+    # B and C lie on the line of A; D ends in the end of C, E in the middle of B, and F nowhere.
+    drawing = read_drawing(
+        "segment A 0 0 10 0\nsegment B 20 0 30 0\nsegment C 40 0 50 0\nsegment D C.end 50 9\n"
+        "segment E 25 0 25 9\nsegment F 5 5 5 9\ncollinear A B\ncollinear B C\nmidpoint E.start B\n")
+    met = Endings(drawing)
+    pairs = {one + other for one in "ABCDEF" for other in "ABCDEF" if one < other
+             and met.meet(one, other)}
+    assert pairs == {"AB", "AC", "BC", "AD", "BD", "CD", "AE", "BE", "CE"}
+    assert all(met.meet(one, other) == met.meet(other, one) for one in "ABC" for other in "DEF")
 
 
 def test_the_shortest_edge_has_a_length(program):

@@ -14,7 +14,7 @@ from functools import cached_property
 from pertxogai.drawing import Arc, Circle, Drawing, Segment
 from pertxogai.exact import Vector, cross, dot, square
 from pertxogai.judging.cusps import Corners, Cusp
-from pertxogai.judging.edge_points import edge_points, is_beyond, touching
+from pertxogai.judging.edge_points import Endings, edge_points, is_beyond
 from pertxogai.judging.edges import (
     LEAST_NM, Chord, Edge, Edges, boxes_meet, corners, leaders_of)
 from pertxogai.judging.insides import Loops
@@ -76,7 +76,7 @@ class Comparison:
         self._rims = [each for each in drawing.geometry if isinstance(each, Circle | Arc)
                       and not each.construction and each.name in sized]
         self._edge_points = [*edge_points(drawing)]
-        self._touching = touching(drawing)
+        self._endings = Endings(drawing)
         self._ends = [leaders_of(drawing, each) for each in self._outline]
         self._corners = corners(self._ends)
         self._loops = Loops([*self._ends, *(leaders_of(drawing, each) if isinstance(each, Arc)
@@ -116,7 +116,7 @@ class Comparison:
             if one.placed.crosses(other.placed) and not one.drawn.crosses(other.drawn):
                 names = one.name, other.name
                 if (set(self._ends[first]).isdisjoint(self._ends[second])
-                        and frozenset(names) not in self._touching):
+                        and not self._endings.meet(*names)):
                     yield Departure(DepartureKind.CROSSES, names)
 
     def _beyond(self, edges: Edges) -> Iterator[Departure]:

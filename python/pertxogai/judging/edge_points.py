@@ -7,7 +7,7 @@ from typing import NamedTuple
 from pertxogai.classes import Classes
 from pertxogai.drawing import Collinear, Drawing, Midpoint, PointOn, PointRef, Segment
 from pertxogai.exact import Vector, between, dot, square
-from pertxogai.judging.edges import Chord, ends_of, leaders_of
+from pertxogai.judging.edges import Chord, Ends, ends_of, leaders_of
 
 AT_END_NM = 500
 """What lies no further beyond an end lies there: in whole micrometres it is 0."""
@@ -32,25 +32,31 @@ def edge_points(drawing: Drawing) -> Iterator[EdgePoint]:
                 yield found
 
 
-def touching(drawing: Drawing) -> frozenset[frozenset[str]]:
-    """The names of each two segments of which the one ends on the line of the other, as the
-    constraints say: they can't cross but in that end."""
-    segments = [each for each in drawing.geometry if isinstance(each, Segment)]
-    lines = _lines(drawing)
-    points: dict[str, list[PointRef]] = {}
-    ending: dict[PointRef, list[str]] = {}
-    for each in segments:
-        for end in leaders_of(drawing, each):
-            points.setdefault(lines.leader(each.name), []).append(end)
-            ending.setdefault(end, []).append(each.name)
-    for said in drawing.constraints:
-        if isinstance(said, PointOn | Midpoint):
-            line = said.curve if isinstance(said, PointOn) else said.segment
-            end = drawing.meetings.leader(said.point)
-            points.setdefault(lines.leader(line.name), []).append(end)
-    return frozenset(frozenset((name, each.name)) for each in segments
-                     for end in points[lines.leader(each.name)] for name in ending.get(end, ())
-                     if name != each.name)
+class Endings:
+    """Which segments end on the lines of others, as the constraints say."""
+
+    def __init__(self, drawing: Drawing) -> None:
+        self._lines = _lines(drawing)
+        self._ends: dict[str, Ends] = {}
+        self._points: dict[str, set[PointRef]] = {}
+        for each in drawing.geometry:
+            if isinstance(each, Segment):
+                self._ends[each.name] = leaders_of(drawing, each)
+                self._points_on(each.name).update(self._ends[each.name])
+        for said in drawing.constraints:
+            if isinstance(said, PointOn | Midpoint):
+                line = said.curve if isinstance(said, PointOn) else said.segment
+                self._points_on(line.name).add(drawing.meetings.leader(said.point))
+
+    def _points_on(self, line: str) -> set[PointRef]:
+        """The points on the line of a segment, by those that stand for all that are one."""
+        return self._points.setdefault(self._lines.leader(line), set())
+
+    def meet(self, first: str, second: str) -> bool:
+        """Whether one of two segments ends on the line of the other: they can't cross but in that
+        end."""
+        return not (self._points_on(first).isdisjoint(self._ends[second])
+                    and self._points_on(second).isdisjoint(self._ends[first]))
 
 
 def _lines(drawing: Drawing) -> Classes[str]:
