@@ -17,11 +17,6 @@ from pertxogai.drawing.values.words import NAME, RESERVED, UNITS, Function
 MOST_DEPTH = 20
 """No brackets stand deeper in one another, and no more signs stand behind one another."""
 
-_ONE = dict(zip(UNITS, (
-    Quantity(Fraction(1), length=1), Quantity(Fraction(127, 5), length=1),
-    Quantity(Fraction(1), angle=1), Quantity(Fraction(1), angle=1)), strict=True))
-"""What one of each unit is."""
-
 _FUNCTIONS = {each.value: each for each in Function}
 _TOKEN = re.compile(rf"(?P<blank> *)(?:(?P<number>[0-9.][0-9.]*)|(?P<name>{NAME})"
                     r"|(?P<sign>[-+−*/×·÷(),°])|(?P<other>.))")
@@ -121,9 +116,9 @@ class _Parser:
             raise WordFault(token.text, "is no number: write one to seven digits, and up to twenty "
                                         "behind a point")
         one = Quantity(Fraction(1))
-        if unit is not None and unit.text in _ONE:
+        if unit is not None and unit.text in UNITS:
             self._taken += 1
-            one = _ONE[unit.text]
+            one = UNITS[unit.text]
         elif unit is not None and unit.kind == "name" and not unit.behind_blank:
             raise WordFault(token.text + unit.text, "has a unit that isn't read: write mm, in or "
                                                     "deg")

@@ -3,6 +3,9 @@
 from __future__ import annotations
 
 from enum import Enum
+from fractions import Fraction
+
+from pertxogai.drawing.values.quantity import Quantity
 
 
 class Function(Enum):
@@ -13,8 +16,9 @@ class Function(Enum):
     SQRT = "sqrt"
 
 
-UNITS = ("mm", "in", "deg", "°")
-"""The units."""
+UNITS = {"mm": Quantity(Fraction(1), length=1), "in": Quantity(Fraction(127, 5), length=1),
+         "deg": Quantity(Fraction(1), angle=1), "°": Quantity(Fraction(1), angle=1)}
+"""What one of each unit is."""
 
 RESERVED = frozenset(UNITS) | frozenset(each.value for each in Function)
 """All words of expressions, so no value is called so."""
