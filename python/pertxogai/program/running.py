@@ -7,6 +7,7 @@ whole.
 from __future__ import annotations
 
 import os
+import shutil
 from collections.abc import Sequence
 from dataclasses import dataclass
 from enum import IntEnum
@@ -78,7 +79,7 @@ class Program:
         named = path or os.environ.get(VARIABLE)
         if named is None and os.access(BUILD, os.X_OK):
             named = str(BUILD)
-        found = _runnable(named or "sketch")
+        found = shutil.which(named or "sketch")
         if found is None and named is None:
             raise MissingProgram(f"no program: {_where_to_get_it()}, or name one by {VARIABLE}")
         if found is None:
@@ -103,15 +104,6 @@ class Program:
                 f"{self.path} {' '.join(words)} {ended.how()}: it isn't the program `sketch`, or"
                 f" ran into a limit ({self.memory_mib} MiB)"
             ) from None
-
-
-def _runnable(named: str) -> str | None:
-    """The file of that name that can be run: without a folder in front, one on the path."""
-    if os.path.dirname(named):
-        return named if os.path.isfile(named) and os.access(named, os.X_OK) else None
-    import shutil  # It imports all that packs files.
-
-    return shutil.which(named)
 
 
 def _where_to_get_it() -> str:
