@@ -4,7 +4,6 @@ from __future__ import annotations
 
 from typing import NamedTuple
 
-
 from pertxogai.cached import cached_on
 from pertxogai.drawing.constraints import (
     Coincident, Concentric, Constraint, Perpendicular, PointOn, Tangent)

@@ -6,7 +6,6 @@ from __future__ import annotations
 
 from typing import NamedTuple
 
-
 from pertxogai.spelling.facts import Leans, Line, Owner
 from pertxogai.spelling.lean import Lean
 
