@@ -17,8 +17,7 @@ if TYPE_CHECKING:
 
 TESTS = Path(__file__).resolve().parent
 TOP = TESTS.parents[1]
-LONGEST = ("board/test_board_browser", "test_redrawn", "test_style",
-           *(f"hunt/test_seeds_{first:03}" for first in range(0, 300, 60)),
+LONGEST = ("board/test_board_browser", "hunt/test_answers_are_so", "test_redrawn", "test_style",
            "test_freecad_commands", "test_freecad_window",
            "board/test_board_hand", "board/test_board_dragging", "board/test_board_guesses",
            "board/test_board_types", "board/test_board_gallery", "board/test_board_random",
@@ -26,6 +25,9 @@ LONGEST = ("board/test_board_browser", "test_redrawn", "test_style",
            "test_hostile_files", "test_release", "board/test_board_measured",
            "board/test_board_labels", "board/test_board_selecting", "test_claims", "test_search")
 """The files of tests that take longest, the longest first."""
+SHARED = ("hunt/test_answers_are_so", "test_redrawn")
+"""The long files of which each test is run by whichever processor is free; any other file is run by
+one processor, which makes its fixtures once."""
 KINDS = {"window": "browser", "dist": "release"}
 """The kind of the tests that take a fixture, which `python/tests/run --without` leaves out."""
 
@@ -91,12 +93,17 @@ FRAME_ROWS = read_rows("frame/*.row")
 EXAMPLES = sorted((TOP / "examples").rglob("*.sketch"))
 
 
-def pytest_collection_modifyitems(items: list[pytest.Item]) -> None:
+@pytest.hookimpl(tryfirst=True)  # xdist reads the groups in the same hook.
+def pytest_collection_modifyitems(config: pytest.Config, items: list[pytest.Item]) -> None:
     """Has the files that take longest begin first, so that none of them is left for one processor
-    at the end, and marks the kinds of tests that a fixture tells."""
+    at the end, keeps the tests of a file that isn't shared on one processor, and marks the kinds of
+    tests that a fixture tells."""
     place_of = {TESTS / f"{name}.py": place for place, name in enumerate(LONGEST)}
     items.sort(key=lambda item: place_of.get(item.path, len(LONGEST)))
+    shared = {TESTS / f"{name}.py" for name in SHARED}
     for item in items:
+        if config.pluginmanager.hasplugin("xdist") and item.path not in shared:
+            item.add_marker(pytest.mark.xdist_group(item.path.stem))
         names = item.fixturenames if isinstance(item, pytest.Function) else ()
         for kind in {KINDS[name] for name in names if name in KINDS}:
             item.add_marker(kind)

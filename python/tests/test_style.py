@@ -11,7 +11,7 @@ from pathlib import Path
 
 import pytest
 
-from conftest import LONGEST, TESTS, TOP
+from conftest import LONGEST, SHARED, TESTS, TOP
 
 PYTHON = TOP / "python"
 SOURCES = sorted((PYTHON / "pertxogai").rglob("*.py")) + sorted((TOP / "freecad").rglob("*.py"))
@@ -36,8 +36,8 @@ def test_every_name_stands_and_is_used() -> None:
     assert [line for line in told.splitlines() if not line.endswith(allowed)] == []
 
 
-def test_the_files_that_begin_first_stand() -> None:
-    assert [name for name in LONGEST if not (TESTS / f"{name}.py").is_file()] == []
+def test_the_files_that_begin_first_or_are_shared_stand() -> None:
+    assert [name for name in LONGEST + SHARED if not (TESTS / f"{name}.py").is_file()] == []
 
 
 @pytest.mark.types
