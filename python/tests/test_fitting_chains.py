@@ -501,3 +501,22 @@ def test_a_circle_that_would_have_no_radius_is_not_placed(program) -> None:
     found = fit(read_drawing(text.format("0.1")), program)
     assert isinstance(found.checks[0], UnknownFit) and found.unplaced
     assert found.answer is Answer.UNSURE
+
+
+@pytest.mark.parametrize("angle, drawn, end, side", [("100deg", "149.2 8.7", "140 0", -1),
+                                                     ("+80deg", "141.2 28.3", "125 0", 1)])
+def test_a_bar_that_is_drawn_far_off_its_angle_stays_on_its_side(angle, drawn, end, side,
+                                                                 program) -> None:
+    # A bar of 50 that stands at 80 degrees, within 1, and a rod of 120 from its end to the axis, on
+    # the left or on the right. The first bar is drawn 70 degrees off; the second 45.5, and so less
+    # than half a right angle off 79 degrees, and more off 80 and 81.
+    def slider(turn: float) -> float:
+        x, y = 100 + 50 * cos(radians(turn)), 50 * sin(radians(turn))
+        return x + side * sqrt(120 ** 2 - y ** 2)
+
+    (found,) = checks("check End x C.end -10 .. +300\nsegment A 0 0 100 0\n"
+                      f"segment B A.end {drawn}\nsegment C B.end {end}\n"
+                      "coincident A.start Origin\nhorizontal A\nlength A 100\nlength B 50\n"
+                      f"angle A B {angle} +-1deg\nlength C 120\non C.end XAxis\n", program)
+    assert worst(found) == rounded(*sorted((slider(79), slider(81))))
+    assert found.worst.is_one_way and found.nominal == pytest.approx(slider(80) * 1e6, abs=2)

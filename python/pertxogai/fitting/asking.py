@@ -5,8 +5,9 @@ from __future__ import annotations
 from collections import Counter
 from collections.abc import Iterable
 from contextlib import suppress
-from dataclasses import dataclass
+from dataclasses import dataclass, replace
 from fractions import Fraction
+from functools import cached_property
 
 from pertxogai.drawing import Drawing, DrawingUnsound
 from pertxogai.fitting.affine import Probe
@@ -22,6 +23,7 @@ from pertxogai.language import NotHeld, Refusal
 from pertxogai.program import Solver
 from pertxogai.program.reports import Solved, Verdict
 from pertxogai.spelling import Care, Rails, Style, written
+from pertxogai.spelling.facts import Facts
 
 Turned = frozenset[tuple[int, Fraction]]
 """The numbers of angles that lie off, and by how many degrees."""
@@ -48,6 +50,21 @@ class Lying:
 
     solution: Solution
     off_nm: int
+
+
+class OffDrawing(EditedDrawing):
+    """A drawing with dimensions off. It counts as drawn where the drawing itself does, also where
+    a segment is drawn far off its angle: else it could take another side."""
+
+    def __init__(self, drawing: Drawing, itself: EditedDrawing) -> None:
+        super().__init__(drawing, itself)
+        self._drawn = itself.facts.drawn
+
+    @cached_property
+    def facts(self) -> Facts:
+        """All that it says."""
+        self.analysis.facts = replace(super().facts, drawn=self._drawn)
+        return self.analysis.facts
 
 
 class Luck:
@@ -106,7 +123,7 @@ class Asking:
         found = self._by_template(drawing, offs)
         if found is not None:
             return found
-        edited, judged = EditedDrawing(drawing, self._known), None
+        edited, judged = OffDrawing(drawing, self._known), None
         if self._met is not None and self._care.fine and self._fine.is_left:
             judged = self._finely(edited)
             self._fine.note(judged is not None)
@@ -163,7 +180,7 @@ class Asking:
 
     def _encoded(self, offs: Offs) -> Encoding | None:
         """How the drawing is encoded with dimensions off; None where something is told twice."""
-        edited = EditedDrawing(moved(self._known.drawing, offs), self._known)
+        edited = OffDrawing(moved(self._known.drawing, offs), self._known)
         axes = next(edited.readings()).axes
         if axes.surplus() or axes.conflicts():
             return None
