@@ -520,3 +520,19 @@ def test_a_bar_that_is_drawn_far_off_its_angle_stays_on_its_side(angle, drawn, e
                       f"angle A B {angle} +-1deg\nlength C 120\non C.end XAxis\n", program)
     assert worst(found) == rounded(*sorted((slider(79), slider(81))))
     assert found.worst.is_one_way and found.nominal == pytest.approx(slider(80) * 1e6, abs=2)
+
+
+def test_what_moves_nothing_by_itself_is_worst_at_the_end_that_others_make_so(program) -> None:
+    # A hook, 20 up, 100 along and 100 down, on which a row of 120 lies. The first bar moves x only
+    # where it leans: by -20 sin t, and the hook's arm by 100 sin t. So it is shortest in the worst
+    # case to both sides, and no single dimension says so.
+    row = "".join(f"segment R{n} {'R' + str(n - 1) if n else 'C'}.end {120 + 20 * n} -80\n"
+                  f"horizontal R{n}\nlength R{n} 20 +-0.1\n" for n in range(6))
+    (aside,) = checks("check Aside x R5.end ..\nsegment A 0 0 0 20\nsegment B A.end 100 20\n"
+                      "segment C B.end 100 -80\ncoincident A.start Origin\nlength A 20 +-0.3\n"
+                      "angle A +90deg +-0.5deg\nlength B 100\nangle A B -90deg\nlength C 100\n"
+                      f"angle B C -90deg\n{row}", program)
+    lean = radians(0.5)
+    arm, along = (100 - 19.7) * sin(lean), 100 * cos(lean)
+    assert worst(aside) == rounded(along - arm + 119.4, along + arm + 120.6)
+    assert aside.turning_numbers == (2,)

@@ -86,7 +86,7 @@ class Corners:
         unsure = self._unsure(starts)
         (at_least, low), (at_greatest, high) = (
             self._extreme(starts[side], unsure, side) for side in (-1, 1))
-        turning = low | high | self._turning()
+        turning = low | high | self._turning() | self._both_ways((at_least, at_greatest), unsure)
         least, greatest = self._at(at_least), self._at(at_greatest)
         below, above = self._beyond(least, greatest, len(unsure)) if turning else (0, 0)
         loose = self._placer.loose_nm
@@ -120,7 +120,7 @@ class Corners:
         if bend > self._noise:
             still = [place for place in gives
                      if gives[place] <= self._noise and place not in unsure]
-            unsure += still if self._move_together(starts[-1], still) else []
+            unsure += self._moving(starts, still)
             unsure += [place for place in gives
                        if self._noise < gives[place] <= TIMES * bend and place not in unsure
                        and (len(gives) <= MANY or self._is_doubtful(starts, place))]
@@ -144,13 +144,23 @@ class Corners:
                 return True
         return False
 
+    def _moving(self, starts: Mapping[int, Offs], still: Sequence[int]) -> Sequence[int]:
+        """Those of the dimensions that don't move the check by themselves which do at one of the
+        worst corners; all where they do so only together."""
+        corners = starts.values()
+        if not any(self._move_together(corner, still) for corner in corners):
+            return []
+        alone = [place for place in still
+                 if any(self._move_together(corner, [place]) for corner in corners)]
+        return alone or still
+
     def _move_together(self, corner: Offs, places: Sequence[int]) -> bool:
-        """Whether dimensions that don't move the check by themselves do so together: each two of
-        them are put to unlike ends in one of a few cases."""
+        """Whether dimensions at their other ends move the check from a corner: each of them is put
+        there in one of a few cases, and each two of them are at unlike ends in one."""
         value = self._at(corner)
         for bit in range(len(places).bit_length()):
             others = {place: self._other_end(place, corner[place])
-                      for index, place in enumerate(places) if index >> bit & 1}
+                      for index, place in enumerate(places, start=1) if index >> bit & 1}
             if abs(self._at(_with(corner, others)) - value) > self._noise:
                 return True
         return False
@@ -245,6 +255,14 @@ class Corners:
         moving = [place for place in other
                   if abs(self._at(_with(best, {place: start[place]})) - value) > self._noise]
         return frozenset(moving or other)
+
+    def _both_ways(self, corners: Sequence[Offs], unsure: Sequence[int]) -> frozenset[int]:
+        """The dimensions that don't move the check by themselves, and lie at the same end where it
+        is least and where it is greatest: more of them is less at the one, and more at the
+        other."""
+        return frozenset(place for place in unsure if self._effects[place].gives() <= self._noise
+                         and len({corner[place] for corner in corners}) == 1
+                         and all(self._move_together(corner, [place]) for corner in corners))
 
     def _turning(self) -> frozenset[int]:
         """The dimensions in which the check turns by itself; and where it is the distance of two
