@@ -203,6 +203,9 @@ length B 40
     # A plate that is drawn 100 wide and told to be 120: its height and the hole are as drawn.
     ("rectangle P 0 0 100 60\ncircle H 25 30 6\nlength PBottom 120\ndiameter H 12\n"
      "distance H PLeft 30\n", ["length PRight 60", "y PBottom.start H.centre 30"]),
+    # The hole is drawn at the origin, and the whole is as it is drawn.
+    ("rectangle P -20 -20 20 20\nx PBottom.start -20\ny PBottom.start -20\nlength PBottom 40\n"
+     "length PRight 40\ncircle H 0 0 5\ndiameter H 10\n", ["coincident H.centre Origin"]),
     # Drawn at a tenth of its size: no number of it is that of the part.
     ("rectangle P 0 0 12 8\ncoincident PBottom.start Origin\nlength PBottom 120\n",
      ["length PRight 80"])])

@@ -57,13 +57,12 @@ def room_of(drawing: Drawing, choice: Choice, trials: Trials, only: int | None =
 
 def with_drawn_values(slack: Slack, placed: Choice, trials: Trials) -> Iterator[Choice]:
     """A choice whose values are those of a placed drawing, with the drawn ones: all of them where
-    that leaves room; otherwise those that do, each beside the ones before it. Nothing where none
-    does, or none differs. Raises ProgramError."""
+    that leaves room; otherwise those that do, each beside the ones before it. What lies on both
+    axes is told to be the origin, where that leaves room. Nothing where none of it does, or none
+    differs. Raises ProgramError."""
     drawn = as_written(slack, placed)
-    if drawn == placed:
-        return
     for choice in dict.fromkeys((_joined_to_the_origin(drawn), drawn)):
-        if room_of(slack.drawing, choice, trials).is_enough():
+        if choice != placed and room_of(slack.drawing, choice, trials).is_enough():
             yield choice
             return
     some = _some_as_drawn(slack.drawing, placed, drawn, trials)
