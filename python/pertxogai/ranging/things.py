@@ -17,7 +17,7 @@ from pertxogai.drawing import (
     PointRef, Segment, ShapeRef, Symmetric, Tangent, Which)
 from pertxogai.exact import between, cross, dot
 from pertxogai.judging.departures import Departure, DepartureKind, Warned
-from pertxogai.judging.edge_points import AT_END_NM, EdgePoint, edge_points, is_beyond, touching
+from pertxogai.judging.edge_points import AT_END_NM, EdgePoint, Endings, edge_points, is_beyond
 from pertxogai.judging.edges import Chord, Edge, Edges, leaders_of, name_of
 from pertxogai.judging.rims import Rim, Round
 
@@ -77,9 +77,9 @@ class Things:
         rims = tuple(each for each in shapes
                      if isinstance(each, Circle | Arc) and not each.construction)
         things = _placed(edges, outline, rims)
-        touch = touching(edges.drawing)
+        endings = Endings(edges.drawing)
         pairs = [(one, other) for one, other in combinations(range(len(things)), 2)
-                 if frozenset((things[one].name, things[other].name)) not in touch
+                 if not _meet(endings, things[one], things[other])
                  and _may_cross(edges, things[one], things[other], known)]
         return Things(outline, rims, tuple(_count(each.drawn) for each in things),
                       np.array(pairs, np.intp).reshape(-1, 2), () if is_free else segments,
@@ -177,6 +177,11 @@ def _turn(one: Edge, other: Edge) -> float:
     """How far the end of the shorter of two edges that meet lies aside of the longer one."""
     longest = max(hypot(*one.placed.way), hypot(*other.placed.way)) or 1
     return float(cross(one.placed.way, other.placed.way)) / longest
+
+
+def _meet(endings: Endings, one: Edge | Rim, other: Edge | Rim) -> bool:
+    """Whether one of two edges ends on the line of the other."""
+    return isinstance(one, Edge) and isinstance(other, Edge) and endings.meet(one.name, other.name)
 
 
 def _may_cross(edges: Edges, one: Edge | Rim, other: Edge | Rim,
