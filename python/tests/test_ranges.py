@@ -435,14 +435,22 @@ def test_a_range_ends_before_rounding_breaks_what_is_small():
     assert 20 <= border.good <= 60  # At 19 it may be off by 1,010.
 
 
+@pytest.mark.parametrize("size", [113, 197, 299])
+def test_what_rounding_breaks_is_told_beyond_the_end(size):
+    border = searched(*rounded(lambda it: (it * 7919 % size) * 20_000 // size // it)).border(False)
+    assert int(border.fault.split()[-1]) < border.good
+
+
 def test_an_end_at_which_nothing_is_rounded_stays():
     border = searched(*rounded(lambda it: 0 if it <= 70_000 else 5_000)).border(True)
     assert (border.good, border.fault) == (70_000, "off")
 
 
-def test_what_is_nearly_off_at_present_ends_no_range():
-    border = searched(*rounded(lambda it: 600)).border(True)
-    assert (border.good, border.fault) == (10 ** 9, "beyond")
+def test_a_gap_that_is_found_on_the_way_to_what_rounding_breaks_ends_the_range():
+    fault, rounding = rounded(lambda it: 1_001 if it > 125_000_000 and it % 2 else 1)
+    gap = range(110_000_000, 120_000_000)
+    border = searched(lambda it: "gap" if it in gap else fault(it), rounding).border(True)
+    assert (border.good, border.fault) == (109_999_999, "gap")
 
 
 def test_each_failure_is_told_in_the_designers_names():

@@ -16,9 +16,9 @@ DIGITS = 9
 class RangeJson(TypedDict):
     """A range, as JSON. of: the name of the value, or what the constraint is called; unit: `mm`,
     `deg`, or nothing; low, high: the last numbers with which the drawing stays as it is; low_why,
-    high_why: why it doesn't one step beyond, a micrometre or a ten-thousandth of a degree; sampled:
-    how many values were tried; clear_by_numbers: whether by numbers no shape crosses another or
-    turns about between these."""
+    high_why: why it doesn't one step beyond, a micrometre or a ten-thousandth of a degree, or that
+    rounding may break a constraint further on; sampled: how many values were tried;
+    clear_by_numbers: whether by numbers no shape crosses another or turns about between these."""
 
     of: str
     present: float

@@ -16,7 +16,7 @@ MOST_STEPS = 10 ** 9
 @dataclass(frozen=True)
 class End:
     """An end of a range: the last value with which the drawing stays good, in the unit of the
-    parameter, and why the next one doesn't."""
+    parameter, and why the next one doesn't; or one before which rounding breaks nothing."""
 
     at: Fraction
     fault: Fault

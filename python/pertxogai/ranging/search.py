@@ -83,10 +83,14 @@ class Search(Generic[Fault]):
             if fault is None:
                 good, bad = self._apart(bad, way)
                 continue
+            border = Border(good, fault, is_clear)
             gap = self._gap_before(good) if rounds < MOST_ROUNDS else None
-            if gap is None:
-                return self._before_rounding(Border(good, fault, is_clear), way)
-            good, bad = self._last_good_before(gap), gap
+            found = self._before_rounding(border, way) if gap is None else gap
+            if isinstance(found, Border):
+                return found
+            if rounds >= MOST_ROUNDS:
+                return border
+            good, bad = self._last_good_before(found), found
 
     def _gap_before(self, good: int) -> int | None:
         """A number without round digits before a good one that isn't good, and not by rounding;
@@ -96,40 +100,41 @@ class Search(Generic[Fault]):
                 return each
         return None
 
-    def _before_rounding(self, border: Border[Fault], way: int) -> Border[Fault]:
-        """The border; or one nearer to the present number, up to which rounding breaks nothing."""
+    def _before_rounding(self, border: Border[Fault], way: int) -> Border[Fault] | int:
+        """The border; or one nearer to the present number, up to which rounding breaks nothing; or
+        a number before it that isn't good, and not by rounding, if one is found."""
         near = [border.good + way, *self._rough(border.good, ROUGH)]
-        if not any(map(self.rounding, near)) or self.rounding(self.present) is not None:
+        broken = self._broken(border.good) if any(map(self.rounding, near)) else None
+        if broken is None:
             return border
-        good, bad, fault = border.good, border.good, self._broken(border.good)
-        if fault is None:
-            return border
-        found: Fault | None = fault
-        step = 1
-        while found is not None and good != self.present:
-            bad, fault, step = good, found, 2 * step
-            good = max(good - way * step, self.present, key=lambda it: way * it)
-            found = self._broken(good)
-        return Border(*self._narrowed(good, bad, fault), border.is_clear)
+        good, broken = self._whole_before(broken, way)
+        fault = self.rounding(broken)
+        return broken if fault is None else Border(good, fault, border.is_clear)
 
-    def _narrowed(self, good: int, bad: int, fault: Fault) -> tuple[int, Fault]:
-        """About the last number up to which rounding breaks nothing, between one of which that is
-        so and one at which it does. fault: what it breaks there."""
-        while abs(bad - good) > max(1, min(abs(good), abs(bad)) // BLUNT):
-            middle = _middle_by_size(good, bad)
+    def _whole_before(self, broken: int, way: int) -> tuple[int, int]:
+        """About the last number up to which rounding breaks nothing, before one at which it does;
+        and the first at which it is found to."""
+        good, step, found = broken, 1, self._broken(broken)
+        while found is not None:
+            broken, step = found, 2 * step
+            good = max(broken - way * step, self.present, key=lambda it: way * it)
+            found = self._broken(good) if good != self.present else None
+        while abs(broken - good) > max(1, min(abs(good), abs(broken)) // BLUNT):
+            middle = _middle_by_size(good, broken)
             found = self._broken(middle)
-            good, bad, fault = (middle, bad, fault) if found is None else (good, middle, found)
-        rounder, way = _rounder(good, bad), 1 if bad > good else -1
-        is_beyond_present = way * rounder > way * self.present
-        is_held = is_beyond_present and self._broken(rounder) is None
-        return rounder if is_held else good, fault
+            if found is not None and way * found <= way * good:
+                return self._whole_before(found, way)
+            good, broken = (middle, broken) if found is None else (good, found)
+        rounder = _rounder(good, broken)
+        is_held = way * rounder > way * self.present and self._broken(rounder) is None
+        return rounder if is_held else good, broken
 
-    def _broken(self, number: int) -> Fault | None:
-        """What rounding breaks, or nearly does, at a number or somewhat before it; else None."""
+    def _broken(self, number: int) -> int | None:
+        """A number, or one somewhat before it, at which rounding breaks something or nearly does,
+        or which isn't good; else None."""
         for each in (number, *self._rough(number, MANY_ROUGH)):
-            fault = self._fault(each)
-            if self.rounding(each) is not None or fault is not None:
-                return self.rounding(each) or fault
+            if self._fault(each) is not None or self.rounding(each) is not None:
+                return each
         return None
 
     def _rough(self, number: int, count: int) -> list[int]:
