@@ -6,9 +6,9 @@ from fractions import Fraction
 
 import pytest
 
-from pertxogai.drawing import read_drawing
+from pertxogai.drawing import Parameter, read_drawing
 from pertxogai.program.library import quickest
-from pertxogai.ranging import Range, Ranging
+from pertxogai.ranging import FaultKind, Range, Ranging
 
 FOUR_BAR = """point B 60 0
 on B XAxis
@@ -233,6 +233,22 @@ on Bar2.end WindowTop
 First: distance Bar1 WindowLeft 30
 Second: distance Bar2 Bar1 20
 """
+SHORT_BASE = """value W 151
+segment Base 0 0 72 1
+segment Side Base.start 29 41
+segment Far Side.end Base.end
+Short: length Base 70
+length Side W/3
+distance Side.end Base 40
+"""
+FLAT_RHOMBUS = """segment South 0 0 31 0
+segment East South.end 44 27
+segment North East.end 14 26
+segment West North.end South.start
+equal South East North West
+Side: length South 30
+angle South West 151.6992deg
+"""
 STEM = "value V 45\nsegment S Origin 40 0\nhorizontal S\nlength S "
 ARM = """segment S Origin 40 0
 segment T Origin -20 20
@@ -243,9 +259,14 @@ Turn: angle S T 135deg
 """
 
 
-def range_of(text: str, name: str) -> Range:
+def parameter_of(text: str, name: str) -> tuple[Ranging, Parameter]:
     ranging = Ranging.of(read_drawing(text), quickest())
-    of = next(each for each in ranging.parameters() if each.called(ranging.drawing) == name)
+    return ranging, next(each for each in ranging.parameters()
+                         if each.called(ranging.drawing) == name)
+
+
+def range_of(text: str, name: str) -> Range:
+    ranging, of = parameter_of(text, name)
     return ranging.range_of(of)
 
 
@@ -333,6 +354,22 @@ def test_ends_of_angles_are_those_by_hand(text: str, name: str, low: str, high: 
     assert abs(found.low.at - Fraction(low)) <= Fraction("0.0001")
     assert abs(found.high.at - Fraction(high)) <= Fraction("0.0001")
     assert found.is_clear
+
+
+def test_what_is_nearly_off_at_present_ends_no_range() -> None:
+    """The angle is off by 763 parts of 1,000 million, of 1,000 that are allowed, at any size."""
+    found = range_of(FLAT_RHOMBUS, "Side")
+    assert (found.low.at, found.high.at) == (Fraction("0.001"), 1_000_000)
+
+
+def test_a_value_that_is_rounded_hides_no_other_constraint() -> None:
+    """No sketch holds a third of 151 mm. The height's foot is 30.6 mm along Base, whose ends are
+    whole nanometres: where Base is 30 micrometres long, the height may be off by one."""
+    ranging, of = parameter_of(SHORT_BASE, "Short")
+    low = ranging.range_of(of).low
+    assert low.fault.kind is FaultKind.ROUNDING and low.at <= Fraction("0.031") * 33 / 32
+    for number in range(int(low.at * 1000), 46):
+        assert ranging.fault(of, Fraction(number, 1000)) is None
 
 
 @pytest.mark.parametrize(("text", "name", "why"), [

@@ -7,14 +7,14 @@ from dataclasses import dataclass, replace
 from functools import partial
 from typing import TypeVar
 
-from pertxogai.drawing import Drawing, Segment
+from pertxogai.drawing import Constraint, Drawing, Segment
 from pertxogai.judging import (
     DrawingRefused, JudgedDrawing, Judgement, Names, Question, Trial, judge_at_once,
     reasons_against)
 from pertxogai.judging.departures import Comparison, Warned
 from pertxogai.judging.edges import Edges
 from pertxogai.judging.faults import failure
-from pertxogai.judging.measure import Deviation, Limit
+from pertxogai.judging.measure import Deviation, Implied, Limit
 from pertxogai.judging.measure.measuring import measure
 from pertxogai.judging.mirrored import Pieces
 from pertxogai.judging.printed import is_tied
@@ -29,17 +29,20 @@ from pertxogai.ranging.faults import (
     of_surplus, of_verdict)
 from pertxogai.ranging.no_range import NoRange
 from pertxogai.ranging.things import Things
-from pertxogai.spelling import READINGS, Interpretation, Reading, Style
+from pertxogai.spelling import READINGS, Interpretation, Reading, Spelled, Style
 from pertxogai.spelling.reading import interpreted
 
 Found = TypeVar("Found")
+Key = int | Constraint | Implied
+"""The number of a constraint, which it has with any value; or what the shapes imply."""
 
 
 @dataclass(frozen=True)
 class Held:
     """Where the edges of a drawing lie in which each constraint holds. nearly: the first that is
-    off by more than two thirds of the limit, while no value is rounded for the program: a rounded
-    one is off by the same wherever it is; None where none is."""
+    off by more than two thirds of the limit, and neither is so at the present number nor has a
+    value that is rounded for the program, which is off by the same wherever it is; None where none
+    is."""
 
     edges: Edges
     nearly: Deviation | None = None
@@ -50,8 +53,9 @@ class Way:
     """A good drawing, its edges as they are placed, what is warned of in it, what may depart from
     the drawing, lie mirrored, and come to cross, and how it is told: by which reading and style.
     reading: None where no single one will do, as where a value was read off a placed part, so that
-    all ways are tried for each number. before: how the reading spells it. is_rounded: whether a
-    value of the drawing is rounded for the program."""
+    all ways are tried for each number. before: how the reading spells it. always: what is off by
+    more than two thirds of the limit at the present number. rounded: the constraints of which a
+    value is rounded for the program."""
 
     drawing: Drawing
     program: Solver
@@ -64,7 +68,8 @@ class Way:
     style: Style
     reading: Reading | None
     before: Interpretation | None
-    is_rounded: bool = False
+    always: frozenset[Key]
+    rounded: frozenset[Key] = frozenset()
 
     @staticmethod
     def of(drawing: Drawing, program: Solver, limit: Limit = Limit(),
@@ -80,7 +85,8 @@ class Way:
         edges, known = Edges(drawing, judged.solution), frozenset(judged.warnings)
         things = Things.of(edges, known, _is_free(judged.asked))
         way = Way(drawing, program, limit, edges, known, Comparison(drawing, judged.solution.radii),
-                  Pieces.of(drawing), things, judged.style, *_reading(judged))
+                  Pieces.of(drawing), things, judged.style, *_reading(judged),
+                  frozenset(map(_key, _less(limit).beyond(judged.deviations))))
         return replace(way, reading=None) if isinstance(way.placed(drawing), Fault) else way
 
     def placed(self, drawing: Drawing) -> Held | Fault:
@@ -100,14 +106,15 @@ class Way:
         if isinstance(found, Fault):
             return found
         deviations = measure(drawing, found.edges.solution)
-        return self._held(found.edges, deviations, found.is_rounded)
+        return self._held(found.edges, deviations, found.rounded)
 
-    def _held(self, edges: Edges, deviations: Sequence[Deviation], is_rounded: bool) -> Held:
-        """Edges that are placed so that each constraint holds. is_rounded: whether values are."""
-        if is_rounded:
-            return Held(edges)
-        less = Limit(max(1, 2 * self.limit.amount // 3))
-        return Held(edges, next(less.beyond(deviations), None))
+    def _held(self, edges: Edges, deviations: Sequence[Deviation],
+              rounded: frozenset[Key]) -> Held:
+        """Edges that are placed so that each constraint holds. rounded: the constraints of which a
+        value is rounded."""
+        nearly = (each for each in _less(self.limit).beyond(deviations)
+                  if _key(each) not in self.always | rounded)
+        return Held(edges, next(nearly, None))
 
     def _by_one(self, drawing: Drawing, reading: Reading) -> Held | Fault:
         spellings = interpreted(drawing, reading, self.before)
@@ -150,7 +157,7 @@ class Way:
         turned = next(self.pieces.mirrored(edges), None)
         if turned is not None:
             return of_mirrored(turned)
-        return self._held(edges, deviations, bool(trial.spelled.rounded))
+        return self._held(edges, deviations, _rounded(trial.spelled))
 
     def _of_deviation(self, off: Deviation, edges: Edges) -> Fault:
         """That a constraint isn't met, or that there are edges without a length there."""
@@ -187,7 +194,7 @@ class Way:
             return self._of_deviation(off, edges) if off else of_reason(reasons[0])
         reading, before = _reading(judged)
         return replace(self, edges=edges, style=judged.style, reading=reading, before=before,
-                       is_rounded=bool(judged.asked.spelled.rounded))
+                       rounded=_rounded(judged.asked.spelled))
 
 
 def _unless_refused(act: Callable[[], Found | Fault]) -> Found | Fault:
@@ -200,6 +207,21 @@ def _unless_refused(act: Callable[[], Found | Fault]) -> Found | Fault:
         return Fault(FaultKind.UNSOUND, f"a sum of dimensions is out of range: {refused}")
     except Refusal as refused:
         return Fault(FaultKind.LIMIT, f"the program rejects the encoded sketch ({refused})")
+
+
+def _less(limit: Limit) -> Limit:
+    """Two thirds of a limit."""
+    return Limit(max(1, 2 * limit.amount // 3))
+
+
+def _key(off: Deviation) -> Key:
+    return off.of if off.number is None else off.number
+
+
+def _rounded(spelled: Spelled) -> frozenset[Key]:
+    """The constraints of which a value is rounded for the program."""
+    return frozenset(owner.number for each in spelled.rounded
+                     for owner in spelled.owners[each.number - 1])
 
 
 def _is_free(trial: Trial) -> bool:
