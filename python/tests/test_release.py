@@ -133,6 +133,15 @@ def test_each_link_of_a_release_leads_to_what_is_in_it(tmp_path: Path) -> None:
     assert (tmp_path / "crates/sk_laws/src/law.rt").is_file()
 
 
+def test_a_release_has_each_drawing_that_a_command_of_a_page_reads(tmp_path: Path) -> None:
+    stage_pages(tmp_path, TOP)
+    for page in sorted(tmp_path.rglob("*.md")):
+        shown = re.findall(r"^\$ .*$", page.read_text(), re.MULTILINE)
+        files = re.findall(r"(?<!\S)(?:examples|python|c)/[\w/-]+\.\w+", " ".join(shown))
+        read = {it for it in files if (TOP / it).exists()}
+        assert not [it for it in sorted(read) if not (tmp_path / it).exists()], page
+
+
 def test_a_release_has_a_tarball_a_package_a_wheel_and_checksums(dist: Path) -> None:
     assert sorted(it.name for it in dist.iterdir()) == [
         "GATE", "SHA256SUMS", f"libpertxogai-sketch-dev_{__version__}_amd64.deb",
