@@ -118,6 +118,24 @@ def test_a_key_at_its_mark_opens_it_too(page) -> None:
 
 
 @needs_browser
+@pytest.mark.parametrize("button", [MARK, "#checked button"])
+def test_a_check_keeps_the_focus_while_keys_open_and_close_it(page, button) -> None:
+    """Also with another zoom; and Enter at it doesn't ask for the value of what is selected."""
+    from selenium.webdriver.common.keys import Keys
+
+    page.begin(ROW, "well")
+    wait_for("the check", lambda: page.count(MARK) == 1)
+    page.press(*page.mark(10))
+    page.wait("it is selected", "return document.querySelector('.marks .selectedmark')")
+    page.driver.execute_script("document.querySelector(arguments[0]).focus()", button)
+    for key, count in ((Keys.ENTER, 4), ("+", 4), (Keys.ENTER, 0), ("-", 0), (Keys.ENTER, 4)):
+        page.driver.switch_to.active_element.send_keys(key)
+        wait_for("the dimensions", lambda: page.count("#checked .made li") == count)
+        page.settled()
+        assert page.count(f"{button}:focus") == 1 and page.count("dialog[open]") == 0
+
+
+@needs_browser
 def test_without_checks_nothing_is_shown(page) -> None:
     page.begin(ROW, "well")
     wait_for("the check", lambda: page.count(MARK) == 1)

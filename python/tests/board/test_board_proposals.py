@@ -121,3 +121,23 @@ def test_enter_asks_for_another_value_first(page) -> None:
         page.click("#undo")
         page.verdict("open")
         wait_for("the proposal again", lambda: count(page) == 1)
+
+
+@needs_browser
+@pytest.mark.parametrize("button, then", [
+    ("#proposals [data-proposed]", "#verdict"), ("#board .proposedmark", "#board")])
+def test_the_focus_isnt_lost_with_what_is_taken(page, button, then) -> None:
+    from selenium.webdriver.common.keys import Keys
+
+    page.begin(PLATE, "open")
+    page.wait("a mark", "return document.querySelector('#board .proposedmark text')")
+    page.driver.execute_script("document.querySelector(arguments[0]).focus()", button)
+    page.driver.switch_to.active_element.send_keys("+")
+    page.settled()
+    assert page.count(f"{button}:focus") == 1
+    page.driver.switch_to.active_element.send_keys(Keys.SPACE)
+    page.verdict("well")
+    wait_for("no proposal", lambda: count(page) == 0 and not page.count("#board .proposedmark"))
+    assert page.count(f"{then}:focus") == 1
+    page.driver.switch_to.active_element.send_keys(Keys.CONTROL, "z")
+    page.verdict("open")

@@ -20,8 +20,6 @@ import { awayFrom, kindOf, pathOf, shapeMade, pointMade, stillMade, moveMade, mi
 
 const LAYERS = ['grid', 'drawn', 'edges', 'other', 'proposed', 'checks', 'marks', 'dots', 'moves',
   'names', 'joints', 'faults'];
-/** Those with buttons, which lose the focus once they are others. */
-const PRESSED = ['proposed', 'checks'];
 /** Pixels within which a click is one on the edge itself. */
 const NEAR = 3.5;
 /** Pixels within which an edge is the one that is meant, where no sign lies on it. */
@@ -114,8 +112,8 @@ export class Board {
     this.node = node;
     this.selection = selection;
     this.over = svg('g', { class: 'overlay' });
-    this.layers = Object.fromEntries(LAYERS.map((kind) => [kind, new Layer(
-      svg('g', { class: kind }), svg, PRESSED.includes(kind) ? undefined : fitted)]));
+    this.layers = Object.fromEntries(
+      LAYERS.map((kind) => [kind, new Layer(svg('g', { class: kind }), svg, fitted)]));
     node.replaceChildren(...Object.values(this.layers).map((layer) => layer.node), this.over);
     nodeOf('faint', SVGSVGElement).append(this.layers.drawn.node);
     selection.addEventListener('change', () => this.draw());
@@ -152,9 +150,18 @@ export class Board {
     this.waits = true;
   }
 
-  /** Draws all layers. */
+  /** Draws all layers. The focus goes from a mark that goes to the board. */
   drawNow() {
     this.waits = false;
+    const { activeElement } = document;
+    const focused = this.node.contains(activeElement) ? activeElement : null;
+    this.drawLayers();
+    if (focused && !focused.isConnected) this.node.focus();
+    this.node.dataset.drawn = String(Number(this.node.dataset.drawn ?? 0) + 1);
+  }
+
+  /** Draws each layer, as far as it isn't as it was. */
+  drawLayers() {
     const { drawing: { shapes, marks }, judgement } = this.overlay ? NOTHING : this.answer;
     const { plane } = this;
     /** @type {Record<string, Keyed[] | null>} */
@@ -175,7 +182,6 @@ export class Board {
     const placed = this.marks(marks, judgement);
     if (placed) this.layers.marks.update(placed);
     this.drawHand();
-    this.node.dataset.drawn = String(Number(this.node.dataset.drawn ?? 0) + 1);
   }
 
   /**
@@ -476,8 +482,8 @@ export class Board {
     const places = new Marks(this.plane);
     places.all(drags ? [] : marks);
     const shown = overlay || drags ? [] : checks.flatMap((each) => each.marks);
-    return places.all(shown).map((mark, key) => checkMade(
-      mark, key, checks[mark.number - 1], mark.number === open));
+    return places.all(shown).map((mark) => checkMade(
+      mark, checks[mark.number - 1], mark.number === open));
   }
 
   /**

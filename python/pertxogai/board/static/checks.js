@@ -62,7 +62,9 @@ export class Checks {
     node.addEventListener('keydown', (event) => {
       if (!(event instanceof KeyboardEvent) || (event.key !== 'Enter' && event.key !== ' ')) return;
       const number = event.target instanceof SVGElement ? checkAt(event.target) : 0;
-      if (number) event.preventDefault();
+      if (!number) return;
+      event.preventDefault();
+      event.stopPropagation();
       this.toggle(number);
     });
   }
@@ -88,7 +90,19 @@ export class Checks {
     this.board.check(checks, this.open);
     this.node.hidden = !checks.length && !why.length;
     byId('unchecked').textContent = why.length ? why.join('; ') : '';
+    const { activeElement } = document;
+    const had = this.layer.node.contains(activeElement) ? checkAt(activeElement) : 0;
     this.layer.show(checks.map((each) => row(each, each.number === this.open)));
+    if (had) this.focus(had);
+  }
+
+  /**
+   * The focus stays on a check of the list; where that goes, it goes to the verdict.
+   * @param {number} number
+   */
+  focus(number) {
+    const button = this.layer.node.querySelector(`[data-check="${number}"]`);
+    (button instanceof HTMLElement ? button : byId('verdict')).focus();
   }
 
   /**

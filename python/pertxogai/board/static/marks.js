@@ -440,14 +440,14 @@ export function markMade({ key, number, sign, path, text, at, isOpen }, kind, to
 }
 
 /**
- * A placed mark of what is proposed: a button, with its line where a hand rests on it.
+ * A placed mark of what is proposed: a button, with its line where a hand rests on it. Another line
+ * is another button, without the focus.
  * @param {PlacedMark} mark
- * @param {number} key
  * @returns {import('./page').Keyed}
  */
-export function proposedMade({ number, sign, path, text, line, at }, key) {
-  return [key, 'g', { class: 'proposedmark', 'data-proposed': number, role: 'button', tabindex: 0,
-    transform: shifted(at), 'aria-label': `add ${line}` },
+export function proposedMade({ key, number, sign, path, text, line, at }) {
+  return [`${key} ${line}`, 'g', { class: 'proposedmark', 'data-proposed': number, role: 'button',
+    tabindex: 0, transform: shifted(at), 'aria-label': `add ${line}` },
   ['title', {}, `${line}: click adds it, Enter asks for another value`],
   path && ['path', { class: 'mark', d: path }],
   ['text', { class: sign ? 'sign' : 'value' }, text]];
@@ -456,15 +456,14 @@ export function proposedMade({ number, sign, path, text, line, at }, key) {
 /**
  * A placed mark of what must fit: a button, with what is told of it where a hand rests on it.
  * @param {PlacedMark} mark
- * @param {number} key
  * @param {import('./protocol').Checked} checked
  * @param {boolean} isOpen
  * @returns {import('./page').Keyed}
  */
-export function checkMade({ number, path, text, at, isOpen: open }, key, checked, isOpen) {
+export function checkMade({ key, number, path, text, at, isOpen: open }, checked, isOpen) {
   const { name, words, answer, lines } = checked;
-  return [key, 'g', { class: `checkmark ${answer}`, 'data-check': number, role: 'button',
-    tabindex: 0, transform: shifted(at), 'aria-expanded': isOpen,
+  return [`${key} ${name}`, 'g', { class: `checkmark ${answer}`, 'data-check': number,
+    role: 'button', tabindex: 0, transform: shifted(at), 'aria-expanded': isOpen,
     'aria-label': `check ${name}: ${lines.join('; ')}` },
   ['title', {}, `${name}: ${words}\n${lines.join('\n')}`],
   path && ['path', { class: open ? 'mark open' : 'mark', d: path }],

@@ -58,16 +58,18 @@ export class Proposals {
   }
 
   /**
-   * Shows what was found.
+   * Shows what was found. The focus goes from what is no longer proposed to the verdict.
    * @param {Found} found
    */
   show(found) {
     const { proposals, why } = this.found = found;
+    const had = this.node.contains(document.activeElement);
     this.board.propose(proposals);
     this.node.hidden = !proposals.length && !why;
     byId('complete').hidden = !proposals.length;
     byId('why').textContent = why && `Nothing is proposed: ${why}.`;
     this.layer.show(proposals.map(row));
+    if (had && !proposals.length) byId('verdict').focus();
   }
 
   /**
