@@ -39,7 +39,8 @@ def test_a_check_its_worst_case_and_who_gives_how_much(program) -> None:
 
 
 @pytest.mark.parametrize("text, answer, sign", [
-    (ROW.replace("0.1 .. 0.9", "0.1 .. 1"), "fits", "✓"), (PAST, "unsure", "?")])
+    (ROW.replace("0.1 .. 0.9", "0.1 .. 1"), "fits", "✓"), (PAST, "unsure", "?"),
+    (ROW.replace("0.1 .. 0.9", ".."), "unlimited", "↔")])
 def test_each_answer_has_a_sign(text, answer, sign, program) -> None:
     (only,) = fitted(text, program)["checks"]
     assert (only["answer"], only["sign"]) == (answer, sign)
