@@ -108,7 +108,7 @@ function isFitted(node, before, made) {
   if (Array.isArray(before) && Array.isArray(made)) {
     return fitted(/** @type {Element} */ (node), before, made);
   }
-  if (!before || typeof before !== 'string' || typeof made !== 'string') return false;
+  if (!before || !made || typeof before !== 'string' || typeof made !== 'string') return false;
   if (before !== made) node.nodeValue = made;
   return true;
 }
