@@ -90,6 +90,23 @@ def test_a_label_that_is_held_isnt_put_by_the_number_that_it_had(page: Page) -> 
     assert page.mark(1) == pytest.approx((x, y), abs=2)
 
 
+def test_a_label_goes_with_the_hand_while_another_is_being_put(page: Page) -> None:
+    """Where a dimension has its number in the new text too."""
+    page.begin(MEASURED + "length A 40\nlength C 40\n", "open")
+    places = {number: page.mark(number) for number in (1, -2)}
+    with page.held("edit"):
+        for number, (x, y) in places.items():
+            page.press(x, y, to=(x + 40, y - 30), lets_go=number > 0)
+            assert page.mark(number) == pytest.approx((x + 40, y - 30), abs=2)
+    wait_for("the first", lambda: page.text().count("label") == 1)
+    page.hover(places[-2][0] + 60, places[-2][1] - 30)
+    page.let_go()
+    wait_for("both", lambda: page.text().count("label") == 2)
+    page.settled()
+    x, y = places[-2]
+    assert page.mark(-2) == pytest.approx((x + 60, y - 30), abs=2)
+
+
 EDITS = """
 window.edits_ = [];
 const { fetch: before } = window;

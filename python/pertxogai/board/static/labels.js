@@ -6,9 +6,9 @@ import { Work } from './work.js';
 /** @typedef {import('./page').Place} Place */
 
 /**
- * The dimension whose label a hand holds, where that stood in millimetres, and the text in which
- * the dimension has its number.
- * @typedef {{ number: number, from: Place, text: string | undefined }} Grip
+ * The dimension whose label a hand holds, by its number in a text and by its words; and where the
+ * label stood in millimetres.
+ * @typedef {{ number: number, words: string, from: Place, text: string | undefined }} Grip
  */
 
 /** Moves labels, and has the drawing keep where they stand. */
@@ -23,8 +23,27 @@ export class Labels extends Work {
   take(number) {
     const { board, paper } = this;
     const from = number === null ? undefined : board.markPlace(number);
-    this.grip = number === null || !from ? null
-      : { number, from: board.plane.toPlane(from), text: paper.answer?.text };
+    this.grip = number === null || !from ? null : { number, words: this.wordsOf(number),
+      from: board.plane.toPlane(from), text: paper.answer?.text };
+  }
+
+  /**
+   * The words of the dimension that has a number; none where there is none.
+   * @param {number} number
+   */
+  wordsOf(number) {
+    const { drawing } = this.paper.answer ?? {};
+    if (number > 0) return drawing?.constraints[number - 1]?.words ?? '';
+    const mark = drawing?.marks.find((each) => each.number === number);
+    return mark?.words?.join(' ') ?? '';
+  }
+
+  /**
+   * The last text in which a dimension is known to have its number.
+   * @param {Grip} grip
+   */
+  textOf({ number, words, text }) {
+    return words && words === this.wordsOf(number) ? this.paper.answer?.text : text;
   }
 
   /**
@@ -35,7 +54,7 @@ export class Labels extends Work {
    */
   hold(at, from) {
     const { board, grip, paper } = this;
-    const isIt = grip && grip.text === paper.answer?.text;
+    const isIt = grip && this.textOf(grip) === paper.answer?.text;
     const label = isIt && this.labelAt(grip, at, from);
     board.dragged = new Map(label ? [[grip.number, label]] : []);
     board.draw();
@@ -76,7 +95,7 @@ export class Labels extends Work {
     const label = grip && this.labelAt(grip, at, from);
     if (label) {
       const [x, y] = label;
-      await paper.edit({ do: 'label', number: grip.number, x, y }, grip.text);
+      await paper.edit({ do: 'label', number: grip.number, x, y }, this.textOf(grip));
     }
     board.dragged = new Map();
     board.draw();
