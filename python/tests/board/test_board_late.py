@@ -38,7 +38,7 @@ def hold(page: Page, kind: str, at: tuple[float, float], buttons: int) -> None:
         "return [x, y];")
     page.driver.execute_cdp_cmd("Input.dispatchMouseEvent", {
         "type": kind, "x": x + at[0], "y": y + at[1], "buttons": buttons, "clickCount": 1,
-        "button": "left"})
+        "button": "left" if buttons or kind != "mouseMoved" else "none"})
 
 
 # The number of something in a drawing that has changed.
@@ -105,6 +105,17 @@ def test_a_label_goes_with_the_hand_while_another_is_being_put(page: Page) -> No
     page.settled()
     x, y = places[-2]
     assert page.mark(-2) == pytest.approx((x + 60, y - 30), abs=2)
+
+
+def test_a_label_stands_where_it_stood_once_the_button_is_up_unheard(page: Page) -> None:
+    """As where another window takes the pointer."""
+    page.begin("segment A 0 0 40 0\nlength A 40\n", "well")
+    before, (x, y) = page.text(), page.mark(1)
+    page.press(x, y, to=(x + 60, y - 90), lets_go=False)
+    assert page.mark(1) == pytest.approx((x + 60, y - 90), abs=2)
+    hold(page, "mouseMoved", (x + 62, y - 90), 0)
+    page.settled()
+    assert page.mark(1) == pytest.approx((x, y), abs=1) and page.text() == before
 
 
 EDITS = """

@@ -194,7 +194,7 @@ export class Gestures extends Work {
     else if (pressed.boxes && pressed.moved) this.box(pressed.at, at, heldOf(event));
     else if (event.button === 0 && !(pressed.pans && pressed.moved)) {
       this.release(pressed, at, heldOf(event));
-    }
+    } else this.labels.drop();
     this.clicked = pressed.moved ? null : pressed.thing;
   }
 

@@ -105,5 +105,6 @@ export class Labels extends Work {
   drop() {
     this.grip = null;
     this.board.dragged = new Map();
+    this.board.draw();
   }
 }
