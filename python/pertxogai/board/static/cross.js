@@ -114,7 +114,8 @@ export class Cross extends Work {
     if (name && !more.length && !this.hand.draws && this.board.shown.at(name)) {
       this.tell(`${this.named(name)} selected`);
     }
-  }}
+  }
+}
 
 /**
  * A place in pixels within a size, a little from its borders.
