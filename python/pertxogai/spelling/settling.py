@@ -111,9 +111,10 @@ class Settling:
             if not self.axes.has_rails(frame, upwards):
                 continue
             across, way = (self._run(frame, each, fact) for each in (not upwards, upwards))
-            sign = self._sign(frame, upwards, fact, reduced(way))
+            is_level = reduced(across) == Form()
+            sign = self._sign(number, (frame, upwards), reduced(way), is_level)
             along = way - value.times(sign)
-            if reduced(across) == Form():
+            if is_level:
                 self.level += [(number, each) for each in (across, way) if reduced(each) == Form()]
                 self.steps.append(Step(number, frame.number, upwards, sign))
                 self.axes.tell(along, owners)
@@ -135,12 +136,17 @@ class Settling:
             self.is_by_values = True
         self.is_by_values |= not reduced(across).terms
 
-    def _sign(self, frame: Frame, upwards: bool, fact: Apart, way: Form) -> int:
-        """Which way along an axis a distance runs: as it is told, else as it is drawn."""
+    def _sign(self, number: int, axis: tuple[Frame, bool], way: Form, is_level: bool) -> int:
+        """Which way along an axis a distance runs: as it is told, else as it is drawn. Either, and
+        what is drawn isn't looked at, where nothing hangs on it: what has a value runs along no way
+        that has none."""
         self.is_by_values |= not way.terms and bool(way.number)
-        if way.terms or not way.number:
-            return self.axes.sign(frame, upwards, fact.first, fact.second)
-        return 1 if way.number > 0 else -1
+        if not way.terms and way.number:
+            return 1 if way.number > 0 else -1
+        if not is_level and not self._value(number).terms:
+            return 1
+        fact = self._facts[number]
+        return self.axes.sign(*axis, fact.first, fact.second)
 
     def _length(self, number: int) -> Form:
         """A distance, which is no less than 0: turned where it is known to come out so, as that of
