@@ -370,6 +370,14 @@ def test_a_rest_that_is_well_and_not_good_is_told_as_that(program):
                 drawing_lines(JudgedDrawing("part", read_drawing(text), found)))
 
 
+def test_each_of_many_equal_lines_is_tried(program):
+    # 60 times the same: without one of them 59 are left, of which 58 are too many.
+    text = ("segment A 0 0 40 0\ncoincident A.start Origin\nhorizontal A\n" + "length A 40\n" * 60)
+    found = judge(read_drawing(text), program)
+    assert [each.number for each in found.surplus] == [*range(3, 63)]
+    assert all(each.then is Then.OVER and each.repeats() for each in found.surplus)
+
+
 ROOF = ("segment Floor 0 0 60 0\nsegment Roof Floor.end 0 12\ncoincident Floor.start Origin\n"
         "horizontal Floor\nWide: length Floor 60\n")
 

@@ -50,6 +50,14 @@ def test_an_image_lies_across_the_line_however_it_is_drawn(first: str, second: s
     assert abs(x) < 5 and abs(y - 50e6) < 5
 
 
+def test_an_image_that_has_distances_lies_across_the_line(program: Solver) -> None:
+    """R is drawn to the left of Q, as Q is drawn on the side of P, and lies to its right."""
+    text = MIRRORED.replace("point Q 1 51", "point Q 40 1\npoint R 30 30")
+    text += "distance Q R 20\ndistance R Mirror.start 45\n"
+    x, y = placed(text, PointRef("Q", Which.AT), program)
+    assert abs(x) < 5 and abs(y - 50e6) < 5
+
+
 @pytest.mark.parametrize("degrees", [0.0001, 0.0056, 11.3108, 78.6891, 89.9999])
 def test_a_roof_meets_each_angle(degrees: float, program: Solver) -> None:
     """By 1/5, 0 and 1/0 lies no other ratio. The one rafter rises from 0, 40 at 45 degrees, the

@@ -9,7 +9,7 @@ from dataclasses import dataclass, replace
 from enum import Enum
 from fractions import Fraction
 
-from pertxogai.drawing import ORIGIN, Coincident, Drawing
+from pertxogai.drawing import ORIGIN, Coincident, Constraint, Drawing
 from pertxogai.drawing.places import NM_PER_UM
 from pertxogai.exact import whole_up
 from pertxogai.judging.freedoms import Freedoms, Gone, freedoms
@@ -197,15 +197,15 @@ class _Counted:
 
 
 class _Trials:
-    """A drawing that is over, tried without some of its constraints. found: what may go, by its
-    place."""
+    """A drawing that is over, tried without some of its constraints: each rest once, as that of a
+    line that stands many times. found: what may go, by its place."""
 
     def __init__(self, question: Question, free: Freedoms) -> None:
         self.drawing, self.free, self.limit = question.drawing, free, question.limit
         self.program = _Counted(Remembering(question.program))
         self.found: dict[int, Surplus] = {}
-        self._known: dict[frozenset[int], Trial] = {}
-        self._fine: dict[frozenset[int], Trial] = {}
+        self._known: dict[tuple[Constraint, ...], Trial] = {}
+        self._fine: dict[tuple[Constraint, ...], Trial] = {}
         self._stay: frozenset[int] = frozenset()
         self._work, self._rounding_work = WORK, ROUNDING_WORK
 
@@ -284,18 +284,20 @@ class _Trials:
 
     def _without(self, gone: frozenset[int]) -> Trial:
         """What the program says of the drawing without some constraints. Raises _Enough."""
-        if gone not in self._known:
-            rest = without(self.drawing, gone)
+        rest = without(self.drawing, gone)
+        if rest.constraints not in self._known:
             self._spend_on(rest)
-            self._known[gone] = first_good(Question(rest, self.program, self.limit), quick=True)
-        return self._known[gone]
+            self._known[rest.constraints] = first_good(
+                Question(rest, self.program, self.limit), quick=True)
+        return self._known[rest.constraints]
 
     def _without_finely(self, gone: frozenset[int]) -> Trial:
         """The same with its angles told as finely as can be. Raises _Enough."""
-        if gone not in self._fine:
-            rest = Question(without(self.drawing, gone), self.program, self.limit)
-            self._fine[gone] = finer(rest, self._without(gone))
-        return self._fine[gone]
+        rest = without(self.drawing, gone)
+        if rest.constraints not in self._fine:
+            self._fine[rest.constraints] = finer(
+                Question(rest, self.program, self.limit), self._without(gone))
+        return self._fine[rest.constraints]
 
     def _spend_on(self, rest: Drawing) -> None:
         """Counts a rest that is tried. Raises _Enough where they are too many."""
