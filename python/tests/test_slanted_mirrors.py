@@ -51,8 +51,8 @@ def test_an_image_lies_across_the_line_however_it_is_drawn(first: str, second: s
 
 
 def test_an_image_that_has_distances_lies_across_the_line(program: Solver) -> None:
-    """R is drawn to the left of Q, as Q is drawn on the side of P, and lies to its right."""
-    text = MIRRORED.replace("point Q 1 51", "point Q 40 1\npoint R 30 30")
+    """Q is drawn on the side of P, to the right of R, and lies to its left."""
+    text = MIRRORED.replace("point Q 1 51", "point Q 40 1\npoint R 20 -20")
     text += "distance Q R 20\ndistance R Mirror.start 45\n"
     x, y = placed(text, PointRef("Q", Which.AT), program)
     assert abs(x) < 5 and abs(y - 50e6) < 5
