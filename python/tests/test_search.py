@@ -22,10 +22,13 @@ from pertxogai.judging.finding import Finding, PointMove
 from pertxogai.judging.measure import Unit, greatest
 from pertxogai.judging.measure.limit import Limit
 from pertxogai.search import search
+from pertxogai.search.arrays import unit_rows
 from pertxogai.search.contradictions import has_shrunk
 from pertxogai.search.equations import Equations
+from pertxogai.search.linearization import Linearization
 from pertxogai.search.searched import Searched
 from pertxogai.search.solving import solve
+from pertxogai.search.whole import of_the_whole
 from shared_drawings import SHRUNKEN_TRIANGLE
 from strips import strip
 
@@ -219,6 +222,18 @@ def test_what_turns_about_the_origin_has_one_freedom_of_the_whole():
 def test_a_motion_of_the_whole_lasts_wherever_its_parts_are_moved(text, freedoms, of_the_whole):
     found = found_of(text)
     assert (found.freedoms, found.of_the_whole, found.is_doubtful) == (freedoms, of_the_whole, False)
+
+
+def test_rows_are_not_looked_at_elsewhere_where_the_whole_is_tied():
+    # What completes a drawing asks this once for each line, of which there may be hundreds.
+    tied = Searched(read_drawing("segment A 0 0 40 0\ncoincident A.start Origin\nhorizontal A\n"
+                                 "circle H 5 5 1\nx A.start H.centre 5\n"))
+    unknowns, x = tied.equations.unknowns, tied.found.x
+    jacobian = unit_rows(tied.equations.tangents(x).jacobian)
+    elsewhere: list[object] = []
+    rows = Linearization(unknowns, x, jacobian, elsewhere.append)
+    assert of_the_whole(rows, tied.freedom.free).shape == (unknowns.count, 0)
+    assert not elsewhere
 
 
 @pytest.mark.parametrize("text, freedoms, of_the_whole", [

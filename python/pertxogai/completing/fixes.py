@@ -16,11 +16,12 @@ from pertxogai.drawing.mentions import refs_of
 from pertxogai.judging.measure import Solution
 from pertxogai.search.arrays import Array, Matrix, stacked, unit_rows
 from pertxogai.search.constraint_rows import rows_asked
-from pertxogai.search.equations import Equations, System
+from pertxogai.search.equations import Equations
 from pertxogai.search.linearization import Linearization
 from pertxogai.search.motions import Motions, motions
 from pertxogai.search.rank import rank_of
 from pertxogai.search.rounding import unknowns_of
+from pertxogai.search.row import Row
 from pertxogai.search.unknowns import Unknowns
 from pertxogai.search.whole import SEEN
 
@@ -63,7 +64,8 @@ class Fixing:
     def _begin(self, drawing: Drawing) -> None:
         self.drawing, self._equations = drawing, Equations(drawing)
         self._x = unknowns_of(self._equations.unknowns, self._solution)
-        self._beside: tuple[System, ...] = ()
+        self._jacobian = unit_rows(self._equations.tangents(self._x).jacobian)
+        self._more: list[Row] = []
 
     def add(self, constraint: Constraint) -> None:
         """Adds a constraint. One that makes points one, or puts a point on a shape, changes what
@@ -72,22 +74,24 @@ class Fixing:
         if isinstance(constraint, PointOn) or joins_points(constraint):
             self._begin(drawing)
             return
-        asked = self._equations.beside(rows_asked(self._equations.unknowns, constraint))
-        self.drawing, self._beside = drawing, (*self._beside, asked)
+        self.drawing, rows = drawing, list(rows_asked(self._equations.unknowns, constraint))
+        self._jacobian = self._with_rows(self._jacobian, rows, self._x)
+        self._more += rows
 
     def loose(self) -> Loose:
         """What of it is loose."""
         unknowns = self._equations.unknowns
-        rows = Linearization(unknowns, self._x, self._slopes(self._x), self._slopes)
+        rows = Linearization(unknowns, self._x, self._jacobian, self._near)
         free = rank_of(rows.jacobian, len(unknowns.points)).free
         return Loose.of(self.drawing, unknowns, motions(rows, free))
 
-    def _slopes(self, x: Array) -> Matrix:
+    def _near(self, x: Array) -> Matrix:
         """The Jacobian of all that is asked where the unknowns are x."""
-        found = unit_rows(self._equations.tangents(x).jacobian)
-        for asked in self._beside:
-            found = stacked(found, unit_rows(asked.tangents(x).jacobian))
-        return found
+        return self._with_rows(unit_rows(self._equations.tangents(x).jacobian), self._more, x)
+
+    def _with_rows(self, jacobian: Matrix, rows: Sequence[Row], x: Array) -> Matrix:
+        """A Jacobian with other rows below it."""
+        return stacked(jacobian, unit_rows(self._equations.beside(rows).tangents(x).jacobian))
 
 
 def _turns(whole: Array) -> bool:

@@ -25,10 +25,14 @@ def of_the_whole(rows: Linearization, free: Sequence[Free]) -> Array:
     moves = frame.at(rows.x)
     if not rows.jacobian.shape[0] or not moves.shape[1]:
         return moves
+    reached, staying = _to_the_first_order(rows.jacobian @ moves)
+    if not staying.shape[1]:
+        return moves[:, :0]
     some = motion(free, len(rows.x), np.random.default_rng(0))
     aside = rows.step_nm() * some
     there, back = (rows.near(each) @ frame.at(each) for each in (rows.x + aside, rows.x - aside))
-    found: Array = moves @ _lasting(rows.jacobian @ moves, (there - back) / (2 * STEP))
+    bends = (there - back) / (2 * STEP) @ staying
+    found: Array = moves @ staying @ _to_the_first_order(bends - reached @ (reached.T @ bends))[1]
     return found
 
 
@@ -60,14 +64,9 @@ class _Frame:
         return moves
 
 
-def _lasting(changes: Array, bends: Array) -> Array:
-    """The combinations of motions that change no row, and go on where parts are moved: as they
-    bend then, no row changes. changes, bends: how each row changes with each motion, and how that
-    changes where parts are moved."""
+def _to_the_first_order(changes: Array) -> tuple[Array, Array]:
+    """How rows may be changed, as columns of length 1 that are square to each other, and the
+    combinations of motions that change none. changes: of each row, with each motion."""
     more = np.zeros((changes.shape[1], changes.shape[1]))
     reached, sizes, combinations = np.linalg.svd(np.vstack([changes, more]), full_matrices=False)
-    reached, staying = reached[:, sizes > SEEN], combinations[sizes <= SEEN].T
-    bent = np.vstack([bends, more]) @ staying
-    _, sizes, combinations = np.linalg.svd(bent - reached @ (reached.T @ bent), full_matrices=False)
-    found: Array = staying @ combinations[sizes <= SEEN].T
-    return found
+    return reached[:len(changes), sizes > SEEN], combinations[sizes <= SEEN].T
