@@ -17,15 +17,17 @@ if TYPE_CHECKING:
 
 TESTS = Path(__file__).resolve().parent
 TOP = TESTS.parents[1]
-LONGEST = ("board/test_board_browser", "hunt/test_answers_are_so", "test_redrawn", "test_style",
-           "test_freecad_commands", "test_freecad_window",
-           "board/test_board_hand", "board/test_board_dragging", "board/test_board_guesses",
-           "board/test_board_types", "board/test_board_gallery", "board/test_board_random",
-           "board/test_board_pointing", "board/test_board_room", "board/test_board_again",
-           "test_hostile_files", "test_release", "board/test_board_measured",
-           "board/test_board_labels", "board/test_board_selecting", "test_claims", "test_search")
+LONGEST = ("board/test_board_browser", "test_style", "test_freecad_commands",
+           "test_freecad_window", "board/test_board_hand", "board/test_board_dragging",
+           "board/test_board_guesses", "board/test_board_types", "board/test_board_gallery",
+           "board/test_board_random", "board/test_board_pointing", "board/test_board_room",
+           "board/test_board_again", "test_hostile_files", "test_release", "test_search",
+           "test_ranges_worked", "board/test_board_server", "test_claims", "test_revalued",
+           "test_dragging", "hunt/test_answers_are_so", "test_ranges", "test_fitting",
+           "board/test_board_labels", "board/test_board_selecting")
 """The files of tests that take longest, the longest first."""
-SHARED = ("hunt/test_answers_are_so", "test_redrawn")
+SHARED = ("hunt/test_answers_are_so", "board/test_board_measured", "board/test_board_types",
+          "test_other_numbers", "test_ranges", "test_redrawn")
 """The long files of which each test is run by whichever processor is free; any other file is run by
 one processor, which makes its fixtures once."""
 KINDS = {"window": "browser", "dist": "release"}

@@ -11,6 +11,7 @@ import pytest
 from pertxogai.drawing import ORIGIN, Drawing, Meetings, moved, read_drawing
 from pertxogai.judging.edited import EditedDrawing
 from pertxogai.judging.measure import Frame, Measurement, Solution, measure
+from pertxogai.judging.measure.measuring import Deviations
 from pertxogai.judging.measure.solution import MissingPlace
 from pertxogai.spelling import Style
 from test_board_sight import PATHS, as_drawn, edited
@@ -23,18 +24,35 @@ def apart(drawing: Drawing) -> Drawing:
     return Drawing(drawing.geometry, drawing.constraints, drawing.notes)
 
 
+def measured_before(drawing: Drawing, aside_nm: int) -> EditedDrawing | None:
+    """A drawing that was measured where it is drawn, the last point so far aside; None where a
+    constraint lacks a place."""
+    before = EditedDrawing(drawing)
+    try:
+        before.measured(as_drawn(drawing, aside_nm))
+    except MissingPlace:
+        return None
+    return before
+
+
+def measured_alone(drawing: Drawing, aside_nm: int) -> Deviations | None:
+    """What is measured of the same drawing by itself."""
+    try:
+        return measure(apart(drawing), as_drawn(drawing, aside_nm))
+    except MissingPlace:
+        return None
+
+
 @pytest.mark.parametrize("path", PATHS, ids=lambda path: path.stem)
 def test_an_edit_of_each_kind(path: Path) -> None:
     drawing = read_drawing(path.read_text(encoding="utf-8"))
+    before = {then: measured_before(drawing, then) for then in (0, 9_000_000)}
     for new in edited(drawing):
+        alone = {now: measured_alone(new, now) for now in (0, 9_000_000)}
         for then, now in ((0, 0), (0, 9_000_000), (9_000_000, 0)):
-            before = EditedDrawing(drawing)
-            try:
-                before.measured(as_drawn(drawing, then))
-                alone = measure(apart(new), as_drawn(new, now))
-            except MissingPlace:
-                continue
-            assert EditedDrawing(new, before).measured(as_drawn(new, now)).all == alone
+            known, due = before[then], alone[now]
+            if known is not None and due is not None:
+                assert EditedDrawing(new, known).measured(as_drawn(new, now)).all == due
 
 
 @pytest.mark.parametrize("path", PATHS, ids=lambda path: path.stem)
