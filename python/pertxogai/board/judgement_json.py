@@ -120,7 +120,7 @@ def _missing(judgement: Judgement) -> Missing | None:
         "pieces": [{"number": piece.number, "elements": list(piece.elements)}
                    for piece in found.pieces],
         "joints": [{"first": joint.first.number, "second": joint.second.number,
-                    "tie": joint.tie.name.lower(), "do": joint.tie.value,
+                    "tie": joint.tie.name.lower(), "do": joint.text(),
                     "shared": list(joint.shared)} for joint in found.joints],
     }
 

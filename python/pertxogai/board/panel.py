@@ -140,7 +140,7 @@ def _open(judged: JudgedDrawing, found: Missing) -> Iterator[Line]:
     for joint in found.joints[:MOST_JOINTS]:
         shared = f" share {' '.join(joint.shared)}" if joint.shared else ""
         yield Line(f"clusters {joint.first.number} and {joint.second.number}{shared}: "
-                   f"{joint.tie.value}", list="what to do", selects=joint.shared)
+                   f"{joint.text()}", list="what to do", selects=joint.shared)
     yield from _more(len(found.joints) - MOST_JOINTS, "what to do")
 
 

@@ -54,12 +54,21 @@ class Piece:
 
 @dataclass(frozen=True)
 class Joint:
-    """Two rigid clusters, how they are connected, and the points or segments that they share."""
+    """Two rigid clusters, how they are connected, and the points or segments that they share.
+    along: the segment that they slide along, or x or y; None where it is neither."""
 
     first: Piece
     second: Piece
     tie: Tie
     shared: tuple[str, ...]
+    along: str | None = None
+
+    def text(self) -> str:
+        """How they are connected, and what ties them, for people to read."""
+        if self.along is None:
+            return self.tie.value
+        return (f"they slide along {self.along}: add a distance along {self.along} between points "
+                "of both")
 
 
 @dataclass(frozen=True)
@@ -158,10 +167,11 @@ def _joint(names: Names, parts: tuple[Part, ...], pieces: tuple[Piece, ...], sho
     first = next((other for other in shown if other < place and mine & set(parts[other].elements)),
                  shown[0])
     shared = [name for name in parts[place].elements if name in parts[first].elements]
-    tie = _loose(pieces[first], pieces[place])
+    tie, along = _loose(pieces[first], pieces[place]), None
     if shared:
-        tie = Tie.SLIDE if shared[0] in names.spelled.tracks else Tie.HINGE
-    return Joint(pieces[first], pieces[place], tie, names.elements(shared))
+        is_line = shared[0] in names.spelled.tracks
+        tie, along = (Tie.SLIDE, names.line(shared[0])) if is_line else (Tie.HINGE, None)
+    return Joint(pieces[first], pieces[place], tie, names.elements(shared), along)
 
 
 def _loose(first: Piece, second: Piece) -> Tie:

@@ -81,6 +81,16 @@ class Names:
         found = (self.element(name) for name in names)
         return tuple(each for each in found if each is not None)
 
+    def line(self, name: str) -> str | None:
+        """A line for people to read: the name of its segment, or x or y, along which it runs; None
+        of another."""
+        heading, element = self._headings.get(name), self.element(name)
+        if element is not None or heading is None:
+            return element
+        if heading.frame != DATUM or heading.quarters is None:
+            return None
+        return "y" if heading.quarters % 2 else "x"
+
     def auxiliary(self, names: Iterable[str]) -> tuple[str, ...]:
         """What the encoding adds to some elements, in words, each kind of it once."""
         return tuple(dict.fromkeys(self._auxiliary(name) for name in names

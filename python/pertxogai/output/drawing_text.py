@@ -208,7 +208,7 @@ def _missing_lines(judged: JudgedDrawing) -> Iterator[str]:
     for joint in lacks.joints[:MOST_ADVICE]:
         shared = f" share {' '.join(joint.shared)};" if joint.shared else ":"
         yield (f"  what to do: clusters {joint.first.number} and {joint.second.number}{shared} "
-               f"{joint.tie.value}")
+               f"{joint.text()}")
     if len(lacks.joints) > MOST_ADVICE:
         more = len(lacks.joints) - MOST_ADVICE
         yield f"  and {more} more pair{'s' if more > 1 else ''} of clusters"
