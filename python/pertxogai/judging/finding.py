@@ -1,9 +1,10 @@
 """What the search finds of a drawing that isn't well: by numbers, in floats, and not certified."""
 from __future__ import annotations
 
-from collections.abc import Iterator
+from collections.abc import Iterable, Iterator
 from dataclasses import dataclass
 from enum import Enum
+from itertools import islice
 
 from pertxogai.drawing import Drawing, PointRef
 from pertxogai.judging.measure.deviation import Deviation
@@ -59,6 +60,15 @@ class Finding:
     chosen: tuple[str, ...] = ()
     only_measured: tuple[str, ...] = ()
     in_doubt: tuple[Group, ...] = ()
+
+    def groups_of(self, names: Iterable[str]) -> dict[str, Group]:
+        """Of each of these constraints that repeats others the first group that has it, and none
+        of those before it."""
+        found: dict[str, Group] = {}
+        for name in names:
+            left = (each for each in self.repeats if name in each and each not in found.values())
+            found.update((name, each) for each in islice(left, 1))
+        return found
 
     def free_shapes(self, drawing: Drawing) -> Iterator[str]:
         """The shapes of which a point still moves, or the radius may still change."""

@@ -84,11 +84,20 @@ def _asked_lines(judged: CountedDrawing) -> Iterator[str]:
                 for what in judgement.frozen)
     yield from (f"  passed to the program with a rounded value: {quoted(what)}"
                 for what in judgement.rounded)
-    yield from (f"  redundant, and removable: {quoted(what)}" for what in judgement.repeats)
+    yield from _repeats_lines(judged)
     yield from (f"  not passed to the program, but holds as measured: {quoted(what)}"
                 for what in judgement.held)
     yield from (f"  no size given for {what}: drawn radius kept" for what in
                 judgement.undimensioned)
+
+
+def _repeats_lines(judged: CountedDrawing) -> Iterator[str]:
+    """What says only what others say, and which others, where the search has found these."""
+    groups = judged.finding.groups_of(judged.judgement.repeats) if judged.finding else {}
+    for name in judged.judgement.repeats:
+        others = [each for each in groups.get(name, ()) if each != name]
+        given = f", given {listed(others)} (by numbers)" if others else ""
+        yield f"  redundant, and removable: {quoted(name)}{given}"
 
 
 def _places_lines(judged: CountedDrawing) -> Iterator[str]:

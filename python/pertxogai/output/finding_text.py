@@ -38,7 +38,9 @@ def finding_lines(judged: JudgedDrawing) -> Iterator[str]:
         yield (f"  of the degrees of freedom {finding.of_the_whole} {moves} the whole sketch "
                "(by numbers)")
     yield from _move_lines(finding)
-    yield from (f"  redundant (by numbers): {_group_text(each)}" for each in finding.repeats)
+    told = [*finding.groups_of(judged.judgement.repeats).values()]
+    yield from (f"  redundant (by numbers): {_group_text(each)}" for each in finding.repeats
+                if each not in told)
     yield from (f"  can't all be met (by numbers): {listed(each)}"
                 for each in finding.contradictions)
     yield from (f"  in doubt, redundant or conflicting (by numbers): {listed(each)}"
