@@ -373,14 +373,16 @@ def test_a_picture_tells_what_is_left_out(capsys, tmp_path) -> None:
 
 
 def test_pieces_that_share_a_line_without_a_name(capsys, tmp_path: Path) -> None:
-    """The hole is told from the left edge alone, so it slides along a line that no one drew."""
+    """The hole is told from the left edge alone, so it slides along y, on a line that no one
+    drew."""
     path = tmp_path / "plate.drawing"
     path.write_text(
         "rectangle Plate 0 0 100 60\ncircle Hole 30 20 6\ncoincident PlateBottom.start Origin\n"
         "length PlateBottom 100\nlength PlateRight 60\nradius Hole 6\nx Hole 40\n"
     )
     status, out, _ = judged(capsys, "judge", str(path))
-    assert status == 1 and "clusters 1 and 2: they slide along a line: add a distance" in out
+    assert status == 1 and ("clusters 1 and 2: they slide along y: add a distance along y between "
+                            "points of both\n") in out
 
 
 def test_a_point_in_two_clusters_is_told_with_the_line_of_each(capsys, tmp_path: Path) -> None:
@@ -449,3 +451,29 @@ def test_what_opens_a_drawing_stands_below_what_does_not(capsys, tmp_path: Path)
         for name in ("Wide", "Along", "Across")]
     assert lines[first + 4] == "  removable too, but then a dimension is missing:"
     assert lines[first + 5] == "    constraint 12 (vertical Right); without it the rest is open"
+
+
+def test_what_opens_a_drawing_stands_below_where_two_have_to_go(capsys, tmp_path: Path) -> None:
+    """The top edge has its height twice more: one of these has to go, and one of the three across.
+    Without the direction of the right edge, and that height, the rest is open."""
+    path = tmp_path / "rounded.drawing"
+    path.write_text(ROUNDED + "Twice: y Top.end 50\n")
+    _, out, _ = judged(capsys, "judge", "--no-search", str(path))
+    lines = out.splitlines()
+    below = lines.index("  removable too, but then a dimension is missing:")
+    assert "  what to do: more than one has to go; remove one of these, and judge again" in lines
+    above = [line for line in lines[:below] if line.startswith("    '")]
+    assert [line.split("'")[1] for line in above] == ["Wide", "Along", "Across", "Twice"]
+    assert ("    constraint 12 (vertical Right); without it the rest is over still, and open once "
+            "enough is removed") in lines[below:]
+
+
+def test_one_redundancy_is_told_once(capsys, tmp_path: Path) -> None:
+    """That A is level follows from its line, the x axis; that P lies free is another matter."""
+    path = tmp_path / "level.drawing"
+    path.write_text("segment A 0 0 40 0\npoint P 20 10\nhorizontal A\ncollinear A XAxis\n"
+                    "x A.start 0\nlength A 40\ny P 10\n")
+    _, out, _ = judged(capsys, "judge", str(path))
+    assert [line for line in out.splitlines() if "redundant" in line] == [
+        "  redundant, and removable: constraint 1 (horizontal A), given constraint 2 (collinear A "
+        "XAxis) (by numbers)"]

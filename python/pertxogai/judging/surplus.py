@@ -72,9 +72,13 @@ class Surplus:
     go. Its group is one without these."""
     beyond: Deviation | None = None
     """What of the rest is off the most, by its place in the drawing, where the rest isn't good."""
+    lacks: bool = False
+    """Whether something is missing once those of `beside` have gone with it."""
 
     def rest(self, drawing: Drawing) -> str:
         """What the rest is without it, for people to read; empty if it wasn't tried."""
+        if self.then is Then.OVER and self.lacks:
+            return f"{self.then.value}, and open once enough is removed"
         if self.then is None or self.beyond is None:
             return "" if self.then is None else self.then.value
         off = f"{quoted(self.beyond.called(drawing))} is off by {amount_text(self.beyond)}"
@@ -87,8 +91,8 @@ class Surplus:
         return self.off.amount <= self.limit.amount
 
     def opens(self) -> bool:
-        """Whether something is missing without it."""
-        return self.then is Then.OPEN
+        """Whether something is missing without it, and without what has to go beside it."""
+        return self.then is Then.OPEN or self.lacks
 
     def may_be_rounding(self) -> bool:
         """Whether rounded values move its deviation past the limit, so that it isn't known whether
@@ -261,7 +265,7 @@ class _Trials:
         beyond = self._beyond(number)
         then = _then(self._without(frozenset({number}))) if beyond is None else Then.NOT_GOOD
         return Surplus(number, self.drawing.called(number), off, then, self.limit, beside=others,
-                       beyond=beyond)
+                       beyond=beyond, lacks=asked.verdict is Verdict.OPEN)
 
     def _beyond(self, gone: int) -> Deviation | None:
         """What is off the most where the rest without a constraint is placed, by more than the
