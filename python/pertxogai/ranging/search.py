@@ -125,9 +125,15 @@ class Search(Generic[Fault]):
             if found is not None and way * found <= way * good:
                 return self._whole_before(found, way)
             good, broken = (middle, broken) if found is None else (good, found)
-        rounder = _rounder(good, broken)
-        is_held = way * rounder > way * self.present and self._broken(rounder) is None
-        return rounder if is_held else good, broken
+        rounder = _rounder(good, way, max(abs(broken - good), self._reach(good) // BLUNT))
+        if way * rounder <= way * self.present:
+            return good, broken
+        found = self._broken(rounder)
+        return (rounder, broken) if found is None else self._whole_before(found, way)
+
+    def _reach(self, number: int) -> int:
+        """How far a number is from the present one, or from 0 if that is less."""
+        return min(abs(number), abs(number - self.present))
 
     def _broken(self, number: int) -> int | None:
         """A number, or one somewhat before it, at which rounding breaks something or nearly does,
@@ -257,11 +263,11 @@ def _middle_by_size(good: int, bad: int) -> int:
     return _coarse(min(max(middle, low + 1), high - 1), low, high)
 
 
-def _rounder(good: int, bad: int) -> int:
-    """A number with fewer digits next to a good one, on the side that a bad one isn't on, and
-    nearer to it than that."""
-    part: int = 10 ** (len(str(abs(bad - good))) - 1)
-    return good // part * part if good < bad else -(-good // part) * part
+def _rounder(number: int, way: int, room: int) -> int:
+    """A number with fewer digits next to another, nearer than some room, on the side that the way
+    comes from."""
+    part: int = 10 ** (len(str(room)) - 1)
+    return way * (way * number // part * part)
 
 
 def _coarse_middle(good: int, bad: int) -> int:
