@@ -186,6 +186,8 @@ LEAST_ANGLE, MOST_ANGLE = .0001, 179.9999
     # A side as long as the height is square to the base.
     ("parallelogram-by-height", "distance South", NO_LEAST, 30),
     ("parallelogram-by-height", "length East", 24, None),
+    # A regular pentagon has any size.
+    ("pentagon", "radius Around", NO_LEAST, NO_MOST),
     # Inches: 114.3 by 63.5, the hole of 6.35 at 57.15, 31.75.
     ("plate-in-inches", "length PlateBottom", 60.324, NO_MOST),
     ("plate-in-inches", "length PlateLeft", 34.924, NO_MOST),
