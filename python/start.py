@@ -39,6 +39,7 @@ def run(words):
     gc.disable()  # What is imported stays, so garbage collection would only take time.
     from pertxogai.commands import main as do
 
+    gc.freeze()  # So no later collection, nor that at the end, looks through what was imported.
     gc.enable()
     return do(words)
 
