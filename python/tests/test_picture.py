@@ -336,3 +336,20 @@ def test_the_bar_is_round_and_takes_at_most_a_third(
     (bar,) = [it for it in ElementTree.fromstring(svg).iter(f"{SVG}polyline")]
     spots = [float(it.split(",")[0]) for it in (bar.get("points") or "").split()]
     assert (max(spots) - min(spots)) / 96 * 25.4 == pytest.approx(length * float(scale), abs=0.01)
+
+
+def test_no_name_is_cut_off_at_the_edge_of_the_page() -> None:
+    """The name of a corner of 8 mm, beside which a hole and its dimensions stand, is wider than
+    the margin: it stands within the plate, over other lines where there is no other room."""
+    plate = read_drawing("segment Bottom 8 0 102 0\nsegment Left 0 62 0 8\n"
+                         "arc CornerSW 8 8 Left.end Bottom.start\ncircle H1 10 10 3.25\n"
+                         "circle H2 100 10 3.25\ncircle H4 10 60 3.25\nradius CornerSW 8\n"
+                         "x H1 10\ny H1 10\nx H2 100\ny H2 10\nx H4 10\ny H4 60\ndiameter H1 6.5\n")
+    svg = picture_of_designed(plate, None, "plate", Marking()).to_scale(Fraction(1)).svg
+    root = ElementTree.fromstring(svg)
+    width = float(root.get("viewBox", "").split()[2])
+    names = [it for it in root.iter(f"{SVG}text") if it.get("class") == "name"]
+    assert {"CornerSW", "Bottom", "Left"} <= {it.text for it in names}
+    for it in names:
+        half, x = len(it.text or "") * 14 * 0.58 / 2, float(it.get("x", 0))
+        assert 0 < x - half and x + half < width, it.text

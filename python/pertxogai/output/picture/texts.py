@@ -102,7 +102,7 @@ class Texts:
         strange = named is not None and any(_misleads(place, named, it) for it in figures)
         return (
             5 * texts
-            + 9 * outside
+            + 40 * outside
             + 2 * strokes
             + 3 * strange
             + sum(crosses(*it, box) for it in self.bars.near(box))
