@@ -160,9 +160,14 @@ def test_what_has_changed_is_said_and_no_time(page: Page) -> None:
 
 
 def test_a_point_that_is_selected_is_read_out_with_its_place(page: Page) -> None:
+    """And again once it lies elsewhere, until something else is selected with it."""
     page.begin(PLATE, "well")
     page.select("RRight.end")
-    wait_for("its place", lambda: "RRight.end at 100 60 mm selected" in page.told("hint"))
+    wait_for("its place", lambda: page.told("hint") == "RRight.end at 100 60 mm selected")
+    page.type(PLATE.replace("length RRight 60", "length RRight 50"))
+    wait_for("its new place", lambda: page.told("hint") == "RRight.end at 100 50 mm selected")
+    page.press(*page.at("RBottom"), shift=True)
+    wait_for("no place", lambda: page.told("hint").startswith("Click selects, Shift adds"))
 
 
 def luminance(colour: str) -> float:

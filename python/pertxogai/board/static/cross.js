@@ -3,6 +3,7 @@
  * What the keyboard does on the board: arrows move a cross at which Enter clicks, brackets go from
  * one thing to the next.
  */
+import { byId } from './nodes.js';
 import { rounded } from './tools.js';
 import { NONE_HELD } from './gestures.js';
 import { namesOf } from './selection.js';
@@ -12,6 +13,9 @@ import { Work } from './work.js';
 
 /** The hand of the keyboard. */
 export class Cross extends Work {
+  /** What was told last of a point that is selected. */
+  told = '';
+
   /** @param {import('./gestures.js').Gestures} gestures */
   constructor(gestures) {
     super(gestures);
@@ -108,12 +112,24 @@ export class Cross extends Work {
     return at ? `${name} at ${at.map((each) => rounded(each, 1000)).join(' ')} mm` : name;
   }
 
-  /** Tells the place of a point that is selected alone. */
+  /** Tells the place of a point that is selected alone, and no longer that of another. */
   tellPoint() {
     const [name, ...more] = this.selection.names;
-    if (name && !more.length && !this.hand.draws && this.board.shown.at(name)) {
-      this.tell(`${this.named(name)} selected`);
-    }
+    const isAlone = name && !more.length && !this.hand.draws && this.board.shown.at(name);
+    if (isAlone) {
+      this.told = `${this.named(name)} selected`;
+      this.tell(this.told);
+    } else if (this.isTold()) this.tell(this.hand.hint);
+  }
+
+  /** Tells the place of the point that was told anew: it may lie elsewhere. */
+  tellAgain() {
+    if (this.isTold()) this.tellPoint();
+  }
+
+  /** Whether nothing else was told since a point was. */
+  isTold() {
+    return this.told !== '' && byId('hint').textContent === this.told;
   }
 }
 

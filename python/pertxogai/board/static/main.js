@@ -282,6 +282,7 @@ export class Page {
       this.board.show({ drawing, judgement: answer.refused ? paper.answer?.judgement
         : answer.judgement });
       this.groups.show();
+      this.cross.tellAgain();
     }
     this.verdict.show(answer);
     this.speaking.changed();
