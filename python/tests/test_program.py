@@ -145,6 +145,14 @@ def test_threads_may_share_a_program(program) -> None:
     assert answers_of_threads(program) == [f"point B {it}000000 0" for it in range(1, 65)]
 
 
+def test_a_library_is_made_by_its_path_and_loaded_at_once(built_library: Library) -> None:
+    made = Library(built_library.path)
+    assert made == built_library
+    assert made.ask(["check"], "sketch 1\npoint A 0 0\nend\n").status is Status.DONE
+    with pytest.raises(MissingProgram, match="is no libsketch"):
+        Library(__file__)
+
+
 def test_threads_may_share_a_library(built_library: Library) -> None:
     assert answers_of_threads(built_library) == [f"point B {it}000000 0" for it in range(1, 65)]
 

@@ -8,7 +8,7 @@ import ctypes.util
 import os
 import shutil
 from collections.abc import Callable, Sequence
-from dataclasses import dataclass
+from dataclasses import dataclass, field
 from pathlib import Path
 
 from pertxogai.language.encoding import as_bytes
@@ -25,10 +25,14 @@ _Call = Callable[..., int]
 
 @dataclass(frozen=True)
 class Library:
-    """The library in the file `path`, libsketch.so. Any number of threads may share one."""
+    """The library in the file `path`, libsketch.so, which is loaded at once. Any number of threads
+    may share one. Raises MissingProgram if the file is no libsketch."""
 
     path: str
-    _call: _Call
+    _call: _Call = field(init=False, repr=False, compare=False)
+
+    def __post_init__(self) -> None:
+        object.__setattr__(self, "_call", _call_in(self.path))
 
     @staticmethod
     def find(path: str | None = None) -> Library:
@@ -41,13 +45,7 @@ class Library:
                     else "install the Debian package libpertxogai-sketch1")
             raise MissingProgram(f"no library: {here}, put the `sketch` of an unpacked release on "
                                  f"the path, name one by {VARIABLE}, or use the program")
-        try:
-            call = ctypes.CDLL(named).sketch_answer
-        except (OSError, AttributeError) as error:
-            raise MissingProgram(f"{named} is no libsketch: {error}") from None
-        call.restype = ctypes.c_int32
-        call.argtypes = [_BYTES, _SIZE, _BYTES, _SIZE, _BYTES, _SIZE, ctypes.POINTER(_SIZE)]
-        return Library(named, call)
+        return Library(named)
 
     def ask(self, words: Sequence[str], text: str) -> Answer:
         """Runs a command on the text, as the program does. Other threads run meanwhile. Raises
@@ -76,6 +74,17 @@ class Library:
             raise ProgramCrashed(
                 f"{self.path} answered with the status {code}: is it libsketch?"
             ) from None
+
+
+def _call_in(path: str) -> _Call:
+    """The proved call of a library. Raises MissingProgram."""
+    try:
+        call = ctypes.CDLL(path).sketch_answer
+    except (OSError, AttributeError) as error:
+        raise MissingProgram(f"{path} is no libsketch: {error}") from None
+    call.restype = ctypes.c_int32
+    call.argtypes = [_BYTES, _SIZE, _BYTES, _SIZE, _BYTES, _SIZE, ctypes.POINTER(_SIZE)]
+    return call
 
 
 def _found() -> str | None:
