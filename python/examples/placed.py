@@ -4,7 +4,7 @@ from pathlib import Path
 
 from pertxogai.files.freecad import read_freecad
 from pertxogai.judging import CountedDrawing, GoodJudgement, good_of, judge
-from pertxogai.output import DrawingSheet, Release
+from pertxogai.output import DrawingSheet, Release, drawing_lines
 from pertxogai.program import Program
 
 program, folder = Program.find(), Path(sys.argv[2])
@@ -12,7 +12,7 @@ for sketch in read_freecad(Path(sys.argv[1])):
     judged = CountedDrawing(sketch.label, sketch.drawing, judge(sketch.drawing, program))
     good = good_of(judged)
     if not isinstance(good, GoodJudgement):
-        print(f"{sketch.label} isn't good:", good.reasons[0].text)
+        print(*drawing_lines(judged), sep="\n")
         continue
     for point, (x_nm, y_nm) in good.solution.points.items():
         print(point, x_nm, y_nm)

@@ -35,6 +35,6 @@ def test_of_what_is_left_out_of_the_file_no_dxf_is_written(program: Program, tmp
                                                            ) -> None:
     for name, what in ("ellipse", "Ellipse5: a drawing has no ellipse"), (
             "spline", "BSplineCurve2: a drawing has no spline"):
-        assert told(f"{name}.FCStd", tmp_path, program) == [
-            f"Sketch isn't good: left out of the file: {what}"]
+        lines = told(f"{name}.FCStd", tmp_path, program)
+        assert lines[0].startswith("Sketch: ") and lines[1] == f"  left out of the file: {what}"
     assert [*tmp_path.iterdir()] == []

@@ -41,9 +41,10 @@ class Amount:
 
 @dataclass(frozen=True)
 class Failure:
-    """The program's fault, complete, in the designer's names: the dimensions behind the step or the
-    constraint that it names, the points and segments at which the step meets, and the number that
-    failed."""
+    """The program's fault, complete: the dimensions behind the step or the constraint that it names
+    and the points and segments at which the step meets, in the designer's names, and the number
+    that failed. text: the program's own line, in the names of its sketch; `drawing_lines` of
+    `pertxogai.output` say it in the designer's."""
 
     fault: Fault
     text: str
@@ -64,22 +65,27 @@ def failure(names: Names, fault: Fault, plan: Plan) -> Failure:
         case RangeFault():
             return _of_step(names, fault, plan, fault.at.step, None)
         case FrameFault(_, element):
-            return Failure(fault, fault.text(), (), names.elements([element]), None)
+            return Failure(fault, _line(fault), (), names.elements([element]), None)
         case ConstraintFault(number):
-            return Failure(fault, fault.text(), names.constraint(number), (), None)
+            return Failure(fault, _line(fault), names.constraint(number), (), None)
         case LineFault(name):
-            return Failure(fault, fault.text(), (), names.elements([name]), None)
+            return Failure(fault, _line(fault), (), names.elements([name]), None)
         case TurnedFault(of):
             if of.is_step:
                 return _of_step(names, fault, plan, of.number, None)
-            return Failure(fault, fault.text(), names.constraint(of.number), (), None)
+            return Failure(fault, _line(fault), names.constraint(of.number), (), None)
+
+
+def _line(fault: Fault) -> str:
+    """The program's line, without its line feed."""
+    return fault.text().removesuffix("\n")
 
 
 def _of_step(names: Names, fault: Fault, plan: Plan, step: int, amount: Amount | None) -> Failure:
     found = next(each for each in plan.steps if each.number == step)
     owners = {owner for number in _leaves(plan, step)
               for owner in names.spelled.owners[number - 1]}
-    return Failure(fault, fault.text(), names.owners(owners), names.elements(found.at), amount)
+    return Failure(fault, _line(fault), names.owners(owners), names.elements(found.at), amount)
 
 
 def _leaves(plan: Plan, step: int) -> list[int]:

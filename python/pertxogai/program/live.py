@@ -78,7 +78,7 @@ class LiveProgram:
         value, or a text without a line feed; a text may be rejected, which is a reply. `end` ends
         the session. Raises ProgramTimedOut, ProgramCrashed or ProgramSpoke, after which the session
         is over; LiveEnded if it was over before, or if the program ends; NotAReport if the reply
-        can't be read."""
+        can't be read; ValueError for a text with a line feed."""
         text = line if isinstance(line, str) else line.text()
         given = as_bytes(text)
         if b"\n" in given:
