@@ -211,7 +211,9 @@ class Page:
                     "type": what, "x": x, "y": y, "button": "left", "clickCount": count})
 
     def at(self, name: str) -> tuple[float, float]:
-        """Where a point is, or the middle of what a shape is hit by, in pixels of the board."""
+        """Where a point is, or the middle of what a shape is hit by, in pixels of the board, once
+        it is shown."""
+        self.wait(name, f"return document.querySelector(`[data-name='{name}']`)")
         found = self.driver.execute_script(
             "const b = document.getElementById('board').getBoundingClientRect();"
             "const n = document.querySelector(`[data-name='${arguments[0]}'] .dothit`);"
@@ -222,7 +224,10 @@ class Page:
         return found[0], found[1]
 
     def mark(self, number: int) -> tuple[float, float]:
-        """Where the middle of the text of a dimension is, in pixels of the board."""
+        """Where the middle of the text of a dimension is, in pixels of the board, once it is
+        shown."""
+        self.wait(f"mark {number}",
+                  f"return document.querySelector(`.marks [data-constraint='{number}'] text`)")
         x, y = self.driver.execute_script(
             "const b = document.getElementById('board').getBoundingClientRect();"
             "const r = document.querySelector(`.marks [data-constraint='${arguments[0]}'] text`)"

@@ -53,6 +53,7 @@ def test_a_level_and_an_upright_segment(page: Page, board_of) -> None:
     page.press(*at((10, 10)))
     shows(page, at((60, 10.3)), "horizontal * ―")
     page.press(*at((60, 10.3)))
+    wait_for("a segment", lambda: "S1" in page.text())
     shows(page, at((60.2, 50)), "vertical * |")
     page.press(*at((60.2, 50)))
     text = wait_for("both", lambda: "S2" in page.text() and page.text())

@@ -228,7 +228,9 @@ def test_a_server_that_stops_in_a_drag_leaves_nothing_held(page: Page, board: Se
     board.start_again()
     page.wait("there again", "return document.body.dataset.server === 'there'")
     page.wait("what completes it", "return document.querySelector('#proposals button')")
-    assert page.text() == before and page.at("Crank.end") == pytest.approx((x, y), abs=1)
+    wait_for("it lies as it is drawn",
+             lambda: page.at("Crank.end") == pytest.approx((x, y), abs=1))
+    assert page.text() == before
 
 
 # Another drawing.
