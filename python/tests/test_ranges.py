@@ -435,6 +435,12 @@ def test_a_range_ends_before_rounding_breaks_what_is_small():
     assert 20 <= border.good <= 60  # At 19 it may be off by 1,010.
 
 
+@pytest.mark.parametrize("odd", [12, 13, 15, 16, 19, 26])
+def test_before_a_small_number_each_of_the_nearest_is_tried(odd):
+    border = searched(*rounded(lambda it: 1_001 if it in (*range(11), odd) else 1)).border(False)
+    assert border.good == odd + 1
+
+
 @pytest.mark.parametrize("size", [113, 197, 299])
 def test_what_rounding_breaks_is_told_beyond_the_end(size):
     border = searched(*rounded(lambda it: (it * 7919 % size) * 20_000 // size // it)).border(False)

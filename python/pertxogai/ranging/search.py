@@ -3,8 +3,9 @@ one, and halving between the last that is good and the first that isn't. Some be
 more where something may cross. Where rounding decides what is good, the border lies before that."""
 from __future__ import annotations
 
-from collections.abc import Callable, Iterator, Sequence
+from collections.abc import Callable, Iterable, Iterator, Sequence
 from dataclasses import dataclass, field
+from itertools import islice
 from math import isqrt
 from typing import Generic, TypeVar
 
@@ -138,15 +139,25 @@ class Search(Generic[Fault]):
     def _broken(self, number: int) -> int | None:
         """A number, or one somewhat before it, at which rounding breaks something or nearly does,
         or which isn't good; else None."""
-        for each in (number, *self._rough(number, MANY_ROUGH)):
+        for each in (number, *self._many_rough(number)):
             if self._fault(each) is not None or self.rounding(each) is not None:
                 return each
         return None
 
     def _rough(self, number: int, count: int) -> list[int]:
         """Some numbers without round digits on the way to a number, most of them near it."""
+        return self._before(number, _rough_steps(count))
+
+    def _many_rough(self, number: int) -> list[int]:
+        """More of them. Rounding does less at those that are half as far again from 0: in their
+        place, before a small number, are more of the nearest."""
+        near = [step for step in _rough_steps(MANY_ROUGH) if step <= abs(number) // 2]
+        others = (step for step in range(1, 2 * MANY_ROUGH) if step not in near)
+        return self._before(number, sorted([*near, *islice(others, MANY_ROUGH - len(near))]))
+
+    def _before(self, number: int, steps: Iterable[int]) -> list[int]:
+        """The numbers that lie so many steps before a number, behind the present one."""
         way, room = (1 if number > self.present else -1), abs(number - self.present)
-        steps = (2 ** each + each for each in range(count))
         return [number - way * step for step in steps if step < room]
 
     def _at_end(self, number: int) -> Fault | None:
@@ -249,6 +260,11 @@ class Search(Generic[Fault]):
     def _last_good_before(self, number: int) -> int:
         """The nearest good number between the present one and another."""
         return [self.present, *self._tried_between(self.present, number)][-1]
+
+
+def _rough_steps(count: int) -> list[int]:
+    """Steps that lead from a number with round digits to some without."""
+    return [2 ** each + each for each in range(count)]
 
 
 def _middle_by_size(good: int, bad: int) -> int:
