@@ -241,6 +241,16 @@ Short: length Base 70
 length Side W/3
 distance Side.end Base 40
 """
+GIVEN_BASE = """segment Base 0 0 72 13
+segment Side Base.start 22 45
+outer segment Rim 0 0 72.00012345 0
+segment Far Side.end Base.end
+Short: length Base 70
+length Side 50.3
+distance Side.end Base 40
+coincident Base.start Rim.start
+angle Base +10deg
+"""
 FLAT_RHOMBUS = """segment South 0 0 31 0
 segment East South.end 44 27
 segment North East.end 14 26
@@ -362,12 +372,18 @@ def test_what_is_nearly_off_at_present_ends_no_range() -> None:
     assert (found.low.at, found.high.at) == (Fraction("0.001"), 1_000_000)
 
 
-def test_a_value_that_is_rounded_hides_no_other_constraint() -> None:
-    """No sketch holds a third of 151 mm. The height's foot is 30.6 mm along Base, whose ends are
-    whole nanometres: where Base is 30 micrometres long, the height may be off by one."""
-    ranging, of = parameter_of(SHORT_BASE, "Short")
+@pytest.mark.parametrize(("text", "least"), [
+    # No sketch holds a third of 151 mm. The height's foot is 30.6 mm along Base, whose ends are
+    # whole nanometres: where Base is 30 micrometres long, the height may be off by one.
+    (SHORT_BASE, "0.031"),
+    # The end of Rim, the third shape, is no whole micrometre; the height is the third constraint.
+    # Its foot is 30.5 mm along Base, whose end may lie 0.58 nm beside its line: where Base is 26.5
+    # micrometres long, the height may be off by two thirds of one.
+    (GIVEN_BASE, "0.0265")])
+def test_a_value_that_is_rounded_hides_no_other_constraint(text: str, least: str) -> None:
+    ranging, of = parameter_of(text, "Short")
     low = ranging.range_of(of).low
-    assert low.fault.kind is FaultKind.ROUNDING and low.at <= Fraction("0.031") * 33 / 32
+    assert low.fault.kind is FaultKind.ROUNDING and low.at <= Fraction(least) * 33 / 32
     for number in range(int(low.at * 1000), 46):
         assert ranging.fault(of, Fraction(number, 1000)) is None
 

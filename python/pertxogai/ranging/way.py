@@ -221,7 +221,7 @@ def _key(off: Deviation) -> Key:
 def _rounded(spelled: Spelled) -> frozenset[Key]:
     """The constraints of which a value is rounded for the program."""
     return frozenset(owner.number for each in spelled.rounded
-                     for owner in spelled.owners[each.number - 1])
+                     for owner in spelled.owners[each.number - 1] if not owner.shape)
 
 
 def _is_free(trial: Trial) -> bool:
