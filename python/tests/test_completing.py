@@ -13,10 +13,12 @@ from random import Random
 
 import pytest
 
-from pertxogai.completing import Completion, NoProposal, WhyNot, complete, nearly
+from pertxogai.completing import (
+    Completion, NoProposal, WhyNot, complete, lines_to_add, nearly)
 from pertxogai.completing.trials import Trials
 from pertxogai.completing.choosing import TASTES, choose, with_more
 from pertxogai.completing.figure import Figure
+from pertxogai.completing.fixes import Fixing
 from pertxogai.completing.relations import relations
 from pertxogai.completing.slack import Slack
 from pertxogai.completing.values import round_degrees, round_um
@@ -318,6 +320,15 @@ def test_what_each_line_fixes(program):
     assert [(each.line(), each.fixes) for each in found.proposals] == [
         ("length PlateBottom 80", ("PlateBottom.end", "PlateRight.end along x")),
         ("length PlateRight 50", ("PlateRight.end", "PlateTop.end"))]
+
+
+def test_the_lines_alone_are_told_without_what_each_fixes(program, monkeypatch):
+    # That is ranked once for each line, which takes seconds where hundreds are missing.
+    monkeypatch.setattr(Fixing, "loose", None)
+    assert lines_to_add(read_drawing(PLATE), program) == (
+        "length PlateBottom 80", "length PlateRight 50")
+    whole = PLATE + "length PlateBottom 80\nlength PlateRight 50\n"
+    assert lines_to_add(read_drawing(whole), program) == ()
 
 
 @dataclass

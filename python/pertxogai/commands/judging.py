@@ -85,10 +85,9 @@ def _proposals(judged: JudgedDrawing, program: Solver) -> tuple[str, ...]:
     """The lines with which a drawing that is open is well; none where none are found."""
     if judged.judgement.verdict is not Verdict.OPEN:
         return ()
-    from pertxogai.completing import Completion, complete
+    from pertxogai.completing import lines_to_add
 
-    found = complete(judged.drawing, program, judged.limit, PROPOSING_SECONDS)
-    return tuple(each.line() for each in found.all()) if isinstance(found, Completion) else ()
+    return lines_to_add(judged.drawing, program, judged.limit, PROPOSING_SECONDS)
 
 
 def _judgement(found: DesignerDrawing, program: Solver,

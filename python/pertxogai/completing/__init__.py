@@ -13,7 +13,8 @@ from pertxogai.judging.measure import Limit
 from pertxogai.program import Solver
 from pertxogai.search import check_libraries
 
-__all__ = ["Completion", "NoProposal", "Proposal", "WhyNot", "complete", "nearly"]
+__all__ = ["Completion", "NoProposal", "Proposal", "WhyNot", "complete", "lines_to_add",
+           "nearly"]
 
 
 def complete(drawing: Drawing, program: Solver, limit: Limit = Limit(),
@@ -21,6 +22,23 @@ def complete(drawing: Drawing, program: Solver, limit: Limit = Limit(),
     """The dimensions that a sound drawing lacks, as a designer would give them; or why none are
     proposed. Nothing more is tried once this many seconds of processor time are spent, by default
     20. Raises MissingLibrary without numpy or scipy, and the exceptions of `judge`."""
+    found = _without_fixes(drawing, program, limit, seconds)
+    if isinstance(found, NoProposal):
+        return found
+    from pertxogai.completing.fixes import with_fixes
+    return with_fixes(drawing, found)
+
+
+def lines_to_add(drawing: Drawing, program: Solver, limit: Limit = Limit(),
+                 seconds: float = MOST_SECONDS) -> tuple[str, ...]:
+    """The lines of what `complete` proposes; none where nothing is. What each line fixes isn't
+    asked, which takes longest of a drawing that lacks hundreds. Raises as `complete`."""
+    found = _without_fixes(drawing, program, limit, seconds)
+    return tuple(each.line() for each in found.all()) if isinstance(found, Completion) else ()
+
+
+def _without_fixes(drawing: Drawing, program: Solver, limit: Limit,
+                   seconds: float) -> Completion | NoProposal:
     check_libraries()
     from pertxogai.completing.completion import completion_of
     return completion_of(drawing, program, limit, seconds)

@@ -2,7 +2,7 @@
 program has the last word."""
 from __future__ import annotations
 
-from collections.abc import Iterable, Iterator, Sequence
+from collections.abc import Iterable, Iterator
 from dataclasses import replace
 from functools import cached_property
 
@@ -11,7 +11,6 @@ from pertxogai.completing.choosing import (
     SECONDS, TASTES, Choice, Left, Relate, Taste, candidates, choose, choose_places, tied,
     with_more, with_relations)
 from pertxogai.completing.figure import Figure
-from pertxogai.completing.fixes import proposals
 from pertxogai.completing.proposal import Completion, NoProposal, Proposal, WhyNot
 from pertxogai.completing.slack import Slack, Remaining
 from pertxogai.completing.from_program import Words
@@ -79,23 +78,21 @@ class OpenDrawing:
             added = (*choice.own, *datum)
             judged = self.trials.judged(with_more(self.drawing, added))
             if judged is not None and judged.judgement.solution is not None:
-                found = tuple(proposals(self.drawing, added, judged.judgement.solution))
-                own = len(choice.own)
-                return Completion(tuple(self._beside_drawn(found[:own], choice)), found[own:],
+                return Completion(tuple(self._beside_drawn(choice)), tuple(map(Proposal, datum)),
                                   judged, datum == choice.datum)
         return None
 
-    def _beside_drawn(self, own: Sequence[Proposal], choice: Choice) -> Iterator[Proposal]:
+    def _beside_drawn(self, choice: Choice) -> Iterator[Proposal]:
         """What is proposed by a choice; beside what isn't as drawn stands how it is drawn."""
         assert self.slack is not None
-        for each, there in zip(own, as_written(self.slack, choice).own):
-            yield each if there == each.constraint else replace(each, drawn=there)
+        for each, there in zip(choice.own, as_written(self.slack, choice).own):
+            yield Proposal(each, drawn=None if there == each else there)
 
 
 def completion_of(drawing: Drawing, program: Solver, limit: Limit,
                   seconds: float) -> Completion | NoProposal:
-    """What completes a sound drawing; after these seconds of a processor nothing more is tried.
-    Raises ProgramError, DrawingRefused, Refusal, NotHeld."""
+    """What completes a sound drawing, without what each line fixes; after these seconds of a
+    processor nothing more is tried. Raises ProgramError, DrawingRefused, Refusal, NotHeld."""
     check_fits(drawing)
     whole = OpenDrawing(drawing, program, limit, seconds)
     why = whole.why_not()

@@ -7,7 +7,7 @@ from dataclasses import dataclass, replace
 
 import numpy as np
 
-from pertxogai.completing.proposal import Proposal
+from pertxogai.completing.proposal import Completion, Proposal
 from pertxogai.drawing import (
     ORIGIN, AngleBetween, Constraint, Distance, Drawing, Horizontal, Length, Parallel,
     Perpendicular, PointOn, PointRef, Vertical, Which, XDistance, YDistance)
@@ -100,17 +100,20 @@ def _turns(whole: Array) -> bool:
     return any(bool(np.abs(each).max(initial=0.0) > SEEN) for each in apart)
 
 
-def proposals(drawing: Drawing, added: Sequence[Constraint],
-              solution: Solution) -> Iterator[Proposal]:
-    """What is added to a drawing, each with what it fixes beside those before it; solution: where
-    the drawing with all of them is placed."""
-    fixing = Fixing(drawing, solution)
+def with_fixes(drawing: Drawing, found: Completion) -> Completion:
+    """What completes a drawing, each line with what it fixes beside those before it."""
+    told, own = tuple(_told(drawing, found)), len(found.proposals)
+    return replace(found, proposals=told[:own], datum=told[own:])
+
+
+def _told(drawing: Drawing, found: Completion) -> Iterator[Proposal]:
+    fixing = Fixing(drawing, found.solution)
     before = fixing.loose()
-    for constraint in added:
-        fixing.add(constraint)
+    for each in found.all():
+        fixing.add(each.constraint)
         after = fixing.loose()
-        fixed = tuple(_fixed(fixing.drawing, constraint, before, after))
-        yield Proposal(constraint, fixed or tuple(_against(constraint)))
+        fixed = tuple(_fixed(fixing.drawing, each.constraint, before, after))
+        yield replace(each, fixes=fixed or tuple(_against(each.constraint)))
         before = after
 
 
