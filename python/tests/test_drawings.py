@@ -3,7 +3,8 @@
 A drawing says in notes what was worked out by hand: its verdict (`expect`), where points lie
 (`place A 10 20`), how far apart two are (`span A B 5`), how large rims are (`radius Hole 2.5`),
 all in millimetres and within 2 nm, or as many as `within` says. One that is well is good, but for
-what its note says is off, or without a size. Of one that is over a note says what may go (`spare`),
+what its note says is off, or without a size; or it has no places as it is drawn (`unplaced`), but
+with the named choices turned over. Of one that is over a note says what may go (`spare`),
 how far it is off in millimetres and what the rest is then (`goes A by 5 then open`), and what may
 not (`stays`)."""
 
@@ -71,6 +72,9 @@ def test_drawing_is_judged_as_expected(drawing, program):
     match expected.words:
         case ("well", "off", *names):
             assert lacks(drawing, found, Lack.OFF) == [" ".join(names)]
+        case ("well", "unplaced", *flips):
+            assert found.solution is None and found.failure is not None
+            assert found.tried.found.flip() == " ".join(flips)
         case ("well", *rest):
             assert_placed(drawing, found)
             assert_told(found, tuple(rest))

@@ -17,7 +17,7 @@ from pertxogai.program import Program
 
 PAGE = TOP / "python" / "GALLERY-RANGES.md"
 DRAWINGS = sorted((TOP / "python" / "tests" / "drawings").glob("*.drawing"))
-NOT_GOOD = ("hole-without-size", "off-triangle-too-wide")
+NOT_GOOD = ("hole-without-size", "off-points-too-far-apart", "off-triangle-too-wide")
 """These are fully constrained, and not good."""
 LINE = re.compile(r"  (.*): from (\S+) to (\S+?)( mm| deg)?, now \S+; below: .*; above: .*")
 

@@ -1,0 +1,81 @@
+"""The least drawings of what hunts and readers found answered wrongly and no other test has, each
+with what is true of it by hand."""
+from __future__ import annotations
+
+import pytest
+
+from pertxogai.drawing import read_drawing
+from pertxogai.judging import Then, judge
+from pertxogai.judging.good import Lack, reasons_against
+from pertxogai.judging.judged_drawing import JudgedDrawing
+from pertxogai.program import Program
+from pertxogai.program.reports import Verdict
+from test_answers import ref_of
+
+HALF = "segment Flat -9 0 11 1\narc Round 0 1 Flat.end Flat.start\nlength Flat 20\n"
+TRIANGLE = "segment A {} {}\nsegment B A.end {}\nsegment C B.end A.start\n"
+PLATE = "rectangle P 0 0 31 19\ncoincident PBottom.start Origin\nlength PBottom 30\nlength PRight 20\n"
+
+
+@pytest.mark.parametrize("text, places, radii", [
+    # Its centre is the middle of 20, so the radius is 10.
+    (HALF + "symmetric Round.start Round.end about Round.centre\ncoincident Round Origin\n"
+     "horizontal Flat\n", {"Flat.start": (-10, 0), "Flat.end": (10, 0)}, {"Round": 10}),
+    # The ends are 10 beside the axis and 4 below the centre: root (100 + 16).
+    (HALF + "symmetric Round.start Round.end about YAxis\ny Flat.start -4\ny Round.centre 0\n",
+     {"Flat.end": (10, -4), "Round.centre": (0, 0)}, {"Round": 10.770330}),
+    # Along A lie (40 40 + 45 45 - 30 30) / 80 = 34.0625 of C, and root (45 45 - 34.0625 34.0625)
+    # = 29.406566 over it, all of it 7 m to the right of the origin and 9 m above it.
+    (TRIANGLE.format("7000 9000", "7040 9002", "7038 9030") + "length A 40\nlength B 30\n"
+     "length C 45\nx A.start 7000\ny A.start 9000\nhorizontal A\n",
+     {"A.end": (7040, 9000), "B.end": (7034.0625, 9029.406566)}, {}),
+    # The diagonal of 30 and 20 is root 1300, of which no sketch has all digits.
+    (PLATE + "segment D PBottom.start PRight.end\nsegment E 50 1 86 2\nequal D E\nx E.start 50\n"
+     "y E.start 0\nhorizontal E\n", {"E.end": (86.055513, 0)}, {}),
+])
+def test_what_is_good_lies_where_a_hand_finds_it(
+        text: str, places: dict[str, tuple[float, float]], radii: dict[str, float],
+        program: Program) -> None:
+    drawing = read_drawing(text)
+    found = judge(drawing, program)
+    assert found.verdict is Verdict.WELL
+    assert not list(reasons_against(JudgedDrawing("it", drawing, found)))
+    for name, told in places.items():
+        lies = found.solution.spot(ref_of(name))
+        assert max(abs(nm - mm * 1e6) for nm, mm in zip(lies, told)) <= 2, name
+    for name, mm in radii.items():
+        assert abs(found.solution.radius(name) - mm * 1e6) <= 2, name
+
+
+def test_the_ends_of_an_arc_of_no_radius_lack_that_alone(program: Program) -> None:
+    """Three points have 6 freedoms, less the arc's own, 2 of the centre and an axis for each
+    end."""
+    found = judge(read_drawing("arc A 0 0 10 0 0 10\ncoincident A Origin\non A.start XAxis\n"
+                               "on A.end YAxis\n"), program)
+    assert found.verdict is Verdict.OPEN and found.left_out == ("the ends of A",)
+    assert found.missing.count == 1 and found.whole.text() == ""
+
+
+def test_corners_of_more_than_180_degrees_are_not_good(program: Program) -> None:
+    """No triangle has corners of 100 and 95 degrees; these three lines make one of 80, 85 and
+    15."""
+    drawing = read_drawing(TRIANGLE.format("0 0", "40 0", "30 30") + "coincident A.start Origin\n"
+                           "horizontal A\nlength A 40\nWide: angle A B 100deg\n"
+                           "Wider: angle B C 95deg\n")
+    found = judge(drawing, program)
+    off = {drawing.called(each.constraint) for each in
+           reasons_against(JudgedDrawing("it", drawing, found)) if each.lack is Lack.OFF}
+    assert off and off <= {"Wide", "Wider"}
+
+
+def test_a_hole_between_two_sides_has_no_height(program: Program) -> None:
+    """From the sides 30 and 85 make 115, and the width says 120. Without one of the three nothing
+    is too much, and how high the hole lies is still told by nothing."""
+    found = judge(read_drawing(
+        "rectangle P 0 0 100 60\ncircle H 25 30 6\nWidth: length PBottom 120\nlength PRight 80\n"
+        "diameter H 12\nLeft: distance H PLeft 30\nRight: distance H PRight 85\n"), program)
+    assert found.verdict is Verdict.OVER
+    assert found.loose == ("no dimension gives the y of H.centre",)
+    gone = {each.name: each for each in found.surplus}
+    for name in ("Width", "Left", "Right"):
+        assert gone[name].then is Then.OPEN and gone[name].off.amount == 5_000_000
