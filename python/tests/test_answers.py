@@ -830,6 +830,17 @@ def test_what_is_well_and_says_too_much_by_rank_says_among_what(program):
     assert fewer.verdict is Verdict.WELL and fewer.too_many == ()
 
 
+def test_ends_of_an_arc_that_are_symmetric_about_its_centre_say_more_than_the_arc(program):
+    """An edge and the centre have 6 freedoms, less 2 of the middle, 2 of the centre and a length:
+    the whole turns about the origin. No word may go, though the middle says again that both ends
+    are as far from the centre."""
+    found = judge(read_drawing(
+        "segment Flat -9 0 11 1\narc Round 0 1 Flat.end Flat.start\nlength Flat 20\n"
+        "symmetric Round.start Round.end about Round.centre\ncoincident Round Origin\n"), program)
+    assert found.verdict is Verdict.OPEN and found.too_many == () and found.repeats == ()
+    assert (found.missing.count, found.whole.text()) == (0, "turned")
+
+
 def test_what_is_well_by_its_count_alone_is_over(program):
     """P2's x is told twice, and so L3.end's x is 50.3; nothing tells P2's height. L3 runs 27.03 to
     the left and is 27.03 * hypot(5, 2) / 5 long, so of a triangle of 29.1123, 24.5 and 37 the

@@ -274,6 +274,26 @@ def test_what_is_said_twice_is_named_with_the_latest_first(name, group):
     assert found.contradictions == ()
 
 
+EDGE = "segment S -20 5 21 6\n"
+HALF = "segment S -9 0 11 1\narc A 0 1 S.end S.start\n"
+
+
+@pytest.mark.parametrize("text, groups", [
+    # The middle of an edge lies on it: that it does says nothing more, and the middle does.
+    (EDGE + "point M 0 5\nOn: on M S\nHalf: midpoint M S\n", (("On", "Half"),)),
+    (EDGE + "point M 0 5\nHalf: midpoint M S\nOn: on M S\n", (("On", "Half"),)),
+    # What is mirrored in the y axis is level.
+    (EDGE + "Level: horizontal S\nMirror: symmetric S.start S.end about YAxis\n",
+     (("Level", "Mirror"),)),
+    # A fixed edge has a fixed end, as its x and as its y says.
+    (EDGE + "End: fixed S.end\nAll: fixed S\n", (("End", "All"),)),
+    # The ends are as far from their middle without that they are ends of one arc.
+    (HALF + "symmetric A.start A.end about A.centre\n", ()),
+])
+def test_what_the_others_say_wholly_is_named_before_what_says_more(text, groups):
+    assert found_of(text).repeats == groups
+
+
 @pytest.mark.parametrize("text", [
     # A chain of three links of 10 mm that is pulled straight between two points 30 mm apart: to the
     # first order both joints move aside, and either coordinate of its end follows. Neither is so.

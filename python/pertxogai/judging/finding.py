@@ -11,7 +11,7 @@ from pertxogai.judging.measure.deviation import Deviation
 from pertxogai.judging.measure.solution import Solution
 
 Group = tuple[str, ...]
-"""Constraints by their names, the latest first."""
+"""Constraints by their names, the latest first; before them the one that the others say wholly."""
 
 
 class PlacesBy(Enum):

@@ -215,9 +215,14 @@ class Judgement:
             return ()
         held = {each.owner for each in self.left_out_measured if each.repeats()}
         repeats = {owner.number for owner in self._spelled_repeats() | held if not owner.shape}
-        groups = (self.names.owners(owner for owner in each if not owner.shape)
+        groups = (frozenset(owner for owner in each if not owner.shape)
                   for each in self.free.too_many(repeats))
-        return tuple(filter(None, groups))
+        return tuple(self.names.owners(each) for each in groups if self._may_lose_one(each))
+
+    def _may_lose_one(self, group: frozenset[Owner]) -> bool:
+        """Whether constraints of which one is redundant by rank are no single one that says more
+        besides, as that an arc's ends are symmetric about its centre."""
+        return len(group) > 1 or any(self._twice(each) is not Twice.IN_PART for each in group)
 
     @property
     def held(self) -> tuple[str, ...]:
