@@ -42,6 +42,12 @@ def root(value: Number) -> Fraction:
     return Fraction(isqrt(int(value * DECIMALS ** 2)), DECIMALS)
 
 
+def root_up(value: Number) -> int:
+    """The least whole number that is at least the root of a number that isn't negative."""
+    whole = -(-value.numerator // value.denominator)
+    return isqrt(whole - 1) + 1 if whole > 0 else 0
+
+
 def off_line(way: Vector, step: Vector) -> Fraction:
     """How far the end of a step lies from the line that a way leads along, where both begin in one
     place: from that place where the way is none. Rounded as `root`."""

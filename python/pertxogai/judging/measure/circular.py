@@ -23,14 +23,6 @@ class Enclosed(NamedTuple):
         ends = sorted((self.low * factor, self.high * factor))
         return Enclosed(ends[0], ends[1])
 
-    def plus(self, other: "Enclosed") -> "Enclosed":
-        """The sum of two numbers."""
-        return Enclosed(self.low + other.low, self.high + other.high)
-
-    def size(self) -> Fraction:
-        """A fraction that the number's size doesn't pass."""
-        return max(abs(self.low), abs(self.high))
-
 
 def exactly(value: int | Fraction) -> Enclosed:
     """A number that is known."""

@@ -4,10 +4,11 @@ from __future__ import annotations
 
 from fractions import Fraction
 from functools import lru_cache
+from math import lcm
 from typing import NamedTuple
 
 from pertxogai.drawing import Slope, Turn
-from pertxogai.exact import Number, Root, Vector, cross, dot, least, square
+from pertxogai.exact import Number, Vector, cross, dot, root_up, square
 from pertxogai.judging.measure.circular import Enclosed, cos_sin, exactly
 
 PPB = 10 ** 9
@@ -41,12 +42,10 @@ class Bend(NamedTuple):
         return self._amount(PPB * PPB)
 
     def _amount(self, length_square: Number) -> int:
-        sine = Root(1, self.sine_square * length_square)
+        over = self.sine_square * length_square
         if not self.backward:
-            return least(sine.at_most)
-        twice = Root(1, 4 * length_square)
-        whole = least(twice.at_most)
-        return whole - least(sine.at_most)
+            return root_up(over)
+        return root_up(4 * length_square) - root_up(over)
 
 
 LOST = Bend(1, False)
@@ -60,17 +59,42 @@ def bend(first: Line, second: Line, turn: Turn) -> Bend:
     squares = square(first.way) * square(second.way) * wanted.square
     if squares == 0:
         return LOST
-    over = wanted.cosine.times(aside).plus(wanted.sine.times(-along)).size()
-    ahead = wanted.cosine.times(along).plus(wanted.sine.times(aside)).high >= 0
-    return Bend(over * over / squares, not ahead)
+    low, high = _sum(wanted.cosine, aside, wanted.sine, -along)
+    over = max(-low, high)
+    ahead = _sum(wanted.cosine, along, wanted.sine, aside)[1] >= 0
+    return Bend(Fraction(over * over) / (squares * wanted.below ** 2), not ahead)
+
+
+Ends = tuple[int, int]
+"""Two whole numbers between which a number lies."""
 
 
 class _Wanted(NamedTuple):
-    """A direction by its cosine and sine, times the root of `square`."""
+    """A direction by its cosine and sine, times `below` times the root of `square`."""
 
-    cosine: Enclosed
-    sine: Enclosed
+    cosine: Ends
+    sine: Ends
+    below: int
     square: int
+
+    @staticmethod
+    def of(cosine: Enclosed, sine: Enclosed, square: int) -> _Wanted:
+        """That of a direction of which the cosine and the sine, times the root of `square`, are
+        enclosed by fractions."""
+        below = lcm(*(end.denominator for end in (*cosine, *sine)))
+        return _Wanted(_whole(cosine, below), _whole(sine, below), below, square)
+
+
+def _whole(number: Enclosed, below: int) -> Ends:
+    """The ends of a number, times a common multiple of their denominators."""
+    return int(number.low * below), int(number.high * below)
+
+
+def _sum(one: Ends, times: Number, other: Ends, by: Number) -> tuple[Number, Number]:
+    """Between which numbers the sum of two numbers lies, each times one that is known."""
+    first = one[0] * times, one[1] * times
+    second = other[0] * by, other[1] * by
+    return min(first) + min(second), max(first) + max(second)
 
 
 @lru_cache(maxsize=256)
@@ -80,11 +104,11 @@ def _direction_of(turn: Turn) -> _Wanted:
     if isinstance(turn, Slope):
         # q isn't negative: the turn is to within a right angle, then half round if backward.
         sign = -1 if turn.backward else 1
-        return _Wanted(exactly(sign * turn.q), exactly(sign * turn.p), turn.p ** 2 + turn.q ** 2)
+        return _Wanted.of(exactly(sign * turn.q), exactly(sign * turn.p), turn.p ** 2 + turn.q ** 2)
     if turn.value % 90 == 45:
-        return _Wanted(exactly(1 if turn.value % 360 in (45, 315) else -1),
-                       exactly(1 if turn.value % 360 < 180 else -1), 2)
-    return _Wanted(*cos_sin(turn.value), 1)
+        return _Wanted.of(exactly(1 if turn.value % 360 in (45, 315) else -1),
+                          exactly(1 if turn.value % 360 < 180 else -1), 2)
+    return _Wanted.of(*cos_sin(turn.value), 1)
 
 
 def bend_of_lines(first: Line, second: Line, right_angle: bool) -> Bend:
