@@ -2,10 +2,10 @@
 nanometres."""
 from __future__ import annotations
 
-from collections.abc import Sequence
+from collections.abc import Mapping, Sequence
+from dataclasses import dataclass, field
 from fractions import Fraction
-from math import cos, sin
-from typing import NamedTuple
+from math import cos, lcm, sin
 
 from pertxogai.exact import Vector, root, square, whole_near
 from pertxogai.judging.turning import KnownSum, axis_of, drawn_axis, known_sum
@@ -17,11 +17,17 @@ from pertxogai.spelling.linear import Number, small
 from pertxogai.spelling.writing import Heading, Spelled
 
 
-class PrintedPlaces(NamedTuple):
-    """Printed points and lines by their names, in micrometres of the drawing."""
+@dataclass(frozen=True)
+class PrintedPlaces:
+    """Printed points and lines by their names: the points in micrometres of the drawing, the lines
+    as they are printed. per: how many printed nanometres a micrometre of the drawing has."""
 
     points: dict[str, PointUm]
-    lines: dict[str, tuple[Number, Number, Number]]
+    lines: dict[str, PlacedLine]
+    per: int
+    _known: dict[str, tuple[Number, Number, Number]] = field(default_factory=dict, init=False,
+                                                             repr=False, compare=False)
+    """The lines that were asked for."""
 
     @staticmethod
     def of(places: Sequence[Placed], scale: int) -> PrintedPlaces:
@@ -30,8 +36,16 @@ class PrintedPlaces(NamedTuple):
         points: dict[str, PointUm] = {
             each.name: (_quotient(each.x_nm, per), _quotient(each.y_nm, per))
             for each in places if isinstance(each, PlacedPoint)}
-        lines = {each.name: _line(each, per) for each in places if isinstance(each, PlacedLine)}
-        return PrintedPlaces(points, lines)
+        lines = {each.name: each for each in places if isinstance(each, PlacedLine)}
+        return PrintedPlaces(points, lines, per)
+
+    def line(self, name: str) -> tuple[Number, Number, Number]:
+        """A line: the direction square to it, of length 1, and how far along that it lies, in
+        micrometres."""
+        known = self._known.get(name)
+        if known is None:
+            known = self._known[name] = _line(self.lines[name], self.per)
+        return known
 
     def axis(self, headings: Sequence[Heading], frame: int) -> Vector | None:
         """The direction of a frame's first axis; None where none of its lines is here."""
@@ -39,7 +53,7 @@ class PrintedPlaces(NamedTuple):
         mine.sort(key=lambda each: each.quarters is None)
         if not mine:
             return None
-        a, b, _ = self.lines[mine[0].name]
+        a, b, _ = self.line(mine[0].name)
         ahead, left = b, -a
         if mine[0].quarters is None:
             c, s = Fraction(cos(mine[0].radians)), Fraction(sin(mine[0].radians))
@@ -53,13 +67,13 @@ class PrintedPlaces(NamedTuple):
 
     def left_of(self, line: str, point: str) -> Number:
         """How far a point is to the left of a line, in micrometres; below 0 to its right."""
-        a, b, c = self.lines[line]
+        a, b, c = self.line(line)
         x, y = self.points[point]
         return a * x + b * y - c
 
     def foot(self, line: str) -> PointUm:
         """The line's place nearest to 0 0."""
-        a, b, c = self.lines[line]
+        a, b, c = self.line(line)
         return a * c, b * c
 
 
@@ -101,11 +115,37 @@ def in_datum(axes: Axes, spelled: Spelled, plate: PrintedPlaces) -> dict[str, tu
         told = axis_of(axes, spots) or drawn_axis(axes, spots)
         axis = (1, 0) if told is None else _of_length_one(*map(Fraction, told))
     shift = [_shift(axes, spelled, plate, axis, upwards) for upwards in (False, True)]
+    if axis == (1, 0):
+        return {name: (whole_near((x + shift[0]) * 1000), whole_near((y + shift[1]) * 1000))
+                for name, (x, y) in plate.points.items()}
+    return _turned(axis, shift, plate.points)
+
+
+def _turned(axis: Vector, shift: Sequence[Number],
+            points: Mapping[str, PointUm]) -> dict[str, tuple[int, int]]:
+    """Places along an axis and to its left, shifted, in whole nanometres. Worked out on whole
+    numbers: all is brought to one denominator."""
+    below, (a, b) = _over_one(axis)
     found = {}
-    for name, spot in plate.points.items():
-        x, y = (along(axis, upwards, spot) + shift[upwards] for upwards in (False, True))
-        found[name] = (whole_near(x * 1000), whole_near(y * 1000))
+    for name, spot in points.items():
+        per, (x, y) = _over_one(spot)
+        found[name] = (_near_nm(a * x + b * y, below * per, shift[0]),
+                       _near_nm(a * y - b * x, below * per, shift[1]))
     return found
+
+
+def _over_one(way: Vector) -> tuple[int, tuple[int, int]]:
+    """A denominator, and the numerators of two numbers over it."""
+    x, y = way
+    below = lcm(x.denominator, y.denominator)
+    return below, (x.numerator * (below // x.denominator), y.numerator * (below // y.denominator))
+
+
+def _near_nm(above: int, below: int, shift: Number) -> int:
+    """The whole nanometre nearest to a fraction of micrometres and a shift."""
+    above = (above * shift.denominator + shift.numerator * below) * 1000
+    below *= shift.denominator
+    return (2 * above + below) // (2 * below)
 
 
 def is_tied(axes: Axes, spelled: Spelled) -> bool:
