@@ -7,6 +7,7 @@ from __future__ import annotations
 from collections.abc import Iterable, Mapping
 from dataclasses import dataclass
 from fractions import Fraction
+from math import lcm
 
 BASE = 10 ** 9
 """Each off is this number of times as small as the one before."""
@@ -24,8 +25,10 @@ class Affine:
 
     def value(self, offs: Mapping[int, Fraction]) -> Fraction:
         """What it is with the dimensions of these numbers so far off, in micrometres."""
-        return self.at + sum((slope * offs[number] for number, slope in self.slopes.items()
-                              if number in offs), Fraction(0))
+        parts = [(slope.numerator * off.numerator, slope.denominator * off.denominator)
+                 for number, slope in self.slopes.items() if (off := offs.get(number))]
+        whole = lcm(*(below for _, below in parts))
+        return self.at + Fraction(sum(above * (whole // below) for above, below in parts), whole)
 
 
 class Probe:
