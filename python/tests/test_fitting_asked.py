@@ -14,7 +14,7 @@ from pytest import approx
 from pertxogai.drawing import VALUED, AngleBetween, Drawing, read_drawing
 from pertxogai.fitting.affine import Affine, Probe
 from pertxogai.fitting.asking import Asking
-from pertxogai.fitting.toleranced import moved
+from pertxogai.fitting.toleranced import Moving, moved
 from pertxogai.judging import judge_at_once
 from pertxogai.judging.measure import Limit
 from pertxogai.program import Answer
@@ -167,3 +167,10 @@ def test_other_lengths_at_the_same_other_angle_are_asked_for_by_one_sketch(progr
     x = 101 * cos(radians(30.5)) + 49 * cos(radians(50.5))
     y = 101 * sin(radians(30.5)) + 49 * sin(radians(50.5))
     assert spot == (approx(x * 1e6, abs=2), approx(y * 1e6, abs=2)) and not encoded
+
+
+def test_a_dimension_that_is_off_as_before_is_the_same_constraint() -> None:
+    moving = Moving(read_drawing(PLATE))
+    one, other = (moving.moved({6: Fraction(100), 7: Fraction(off)}) for off in (200, 300))
+    assert one.constraints[5] is other.constraints[5]
+    assert [each.constraints[6].value_um for each in (one, other)] == [60_200, 60_300]

@@ -1,13 +1,13 @@
 """The dimensions of a drawing with their tolerances, and a drawing in which some lie off."""
 from __future__ import annotations
 
-from collections.abc import Iterator, Mapping
+from collections.abc import Mapping
 from dataclasses import dataclass, replace
 from fractions import Fraction
 from math import atan2, degrees
 
 from pertxogai.drawing import (
-    VALUED, AngleBetween, Arc, Constraint, Degrees, Drawing, DrawingUnsound, PointRef, Radius,
+    VALUED, AngleBetween, Arc, Degrees, Drawing, DrawingUnsound, PointRef, Radius,
     Segment, Sense, ShapeRef, Slope, Valued, Which, WordFault, XDistance, YDistance, run_um, turn)
 from pertxogai.drawing.constraint_checks import check_constraint
 from pertxogai.drawing.tolerances.iso2768 import Table
@@ -110,23 +110,44 @@ def _breaks_edge(drawing: Drawing, solution: Solution, rim: ShapeRef) -> bool:
 
 
 def moved(drawing: Drawing, offs: Mapping[int, Fraction]) -> Drawing:
-    """A drawing in which the dimensions at some places, from 1, lie so far off, in micrometres or
+    """A drawing in which the dimensions of some places, from 1, lie so far off, in micrometres or
     degrees. Raises DrawingUnsound where one can't have such a value."""
-    return drawing.with_numbers(tuple(_moved(drawing, offs)))
+    return Moving(drawing).moved(offs)
 
 
-def _moved(drawing: Drawing, offs: Mapping[int, Fraction]) -> Iterator[Constraint]:
-    for number, each in enumerate(drawing.constraints, start=1):
-        off = offs.get(number, Fraction(0))
-        if not off or not isinstance(each, VALUED):
-            yield each
-            continue
-        anew = _off_by(drawing, each, off)
+class Moving:
+    """A drawing of which dimensions lie off, one case after the other. A dimension that is off by
+    as much as before is the same constraint as then."""
+
+    def __init__(self, drawing: Drawing) -> None:
+        self._drawing = drawing
+        self._known: dict[tuple[int, Fraction], Valued] = {}
+
+    def moved(self, offs: Mapping[int, Fraction]) -> Drawing:
+        """The drawing with the dimensions of these places, from 1, so far off, in micrometres or
+        degrees. Raises DrawingUnsound where one can't have such a value."""
+        constraints = list(self._drawing.constraints)
+        for number, off in offs.items():
+            each = constraints[number - 1]
+            if off and isinstance(each, VALUED):
+                constraints[number - 1] = self._dimension(number, each, off)
+        return self._drawing.with_numbers(tuple(constraints))
+
+    def _dimension(self, number: int, each: Valued, off: Fraction) -> Valued:
+        """The dimension of that place, so far off. Raises DrawingUnsound."""
+        known = self._known.get((number, off))
+        if known is None:
+            known = self._known[number, off] = self._checked(number, each, off)
+        return known
+
+    def _checked(self, number: int, each: Valued, off: Fraction) -> Valued:
+        """The same, worked out anew."""
+        anew = _off_by(self._drawing, each, off)
         try:
-            check_constraint(drawing.scene, anew)
+            check_constraint(self._drawing.scene, anew)
         except WordFault as fault:
-            raise DrawingUnsound(drawing.called(number), fault.word, fault.what) from None
-        yield anew
+            raise DrawingUnsound(self._drawing.called(number), fault.word, fault.what) from None
+        return anew
 
 
 def _off_by(drawing: Drawing, each: Valued, off: Fraction) -> Valued:
