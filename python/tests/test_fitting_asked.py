@@ -169,6 +169,78 @@ def test_other_lengths_at_the_same_other_angle_are_asked_for_by_one_sketch(progr
     assert spot == (approx(x * 1e6, abs=2), approx(y * 1e6, abs=2)) and not encoded
 
 
+ZIGZAG = """segment A 0 0 98.5 17.4
+segment B A.end 197 0
+segment C B.end 295.4 17.4
+coincident A.start Origin
+length A 100
+angle A +10deg
+length B 100
+angle A B -20deg
+length C 100
+angle B C +20deg
+"""
+"""Three bars at 10, -10 and 10 degrees: the last one is parallel to the first."""
+
+
+TURNED = [(Fraction(1, 20), Fraction(-1, 20), Fraction(1, 10)),  # None is parallel to another.
+          (Fraction(1, 20), Fraction(-1, 20), Fraction(1, 20)),  # The first and the last still are.
+          (Fraction(0), Fraction(0), Fraction(-1, 3))]
+"""How many degrees these angles are off."""
+
+
+def off_by(turned: tuple[Fraction, ...]) -> dict[int, Fraction]:
+    """The zigzag with the first bar a millimetre longer, the last one half a millimetre shorter,
+    and its angles off."""
+    return {2: Fraction(1000), 6: Fraction(-500)} | {
+        number: off for number, off in zip((3, 5, 7), turned) if off}
+
+
+@pytest.mark.parametrize("turned", TURNED)
+def test_other_angles_are_asked_for_by_the_sketch_of_the_drawing(turned, program,
+                                                                 monkeypatch) -> None:
+    drawing = read_drawing(ZIGZAG)
+    asking = Asking(drawing, program, Limit())
+    asking.begin((2, 4, 6), (3, 5, 7))
+    monkeypatch.setattr("pertxogai.fitting.asking.written", None)
+    monkeypatch.setattr("pertxogai.fitting.asking.judge_edited", None)
+    offs = off_by(turned)
+    there = asking.lying(moved(drawing, offs), offs)
+    first, second = 10 + turned[0], -20 + turned[1]
+    bars = (101, first), (100, first + second), (99.5, first + second + 20 + turned[2])
+    places = {str(ref): spot for ref, spot in there.solution.points.items()}
+    assert places["C.end"] == (approx(sum(a * cos(radians(way)) for a, way in bars) * 1e6, abs=3),
+                               approx(sum(a * sin(radians(way)) for a, way in bars) * 1e6, abs=3))
+    assert there.off_nm <= 3
+
+
+@pytest.mark.parametrize("turned", TURNED)
+def test_that_sketch_is_the_one_that_encoding_anew_gives(turned, program) -> None:
+    drawing, offs = read_drawing(ZIGZAG), off_by(turned)
+    asked = []
+    for angles in ((3, 5, 7), ()):  # Of angles that aren't named each set is encoded anew.
+        heard = Listening(program)
+        asking = Asking(drawing, heard, Limit())
+        asking.begin((2, 4, 6), angles)
+        heard.texts.clear()
+        asking.lying(moved(drawing, offs), offs)
+        asked.append(heard.texts)
+    assert asked[0] == asked[1] and len(asked[0]) == 1
+
+
+def test_a_bar_that_comes_to_lie_level_is_encoded_anew(program) -> None:
+    # B at 0 degrees is a level line, which is another sketch; C runs at 20 then.
+    drawing = read_drawing(ZIGZAG)
+    asking = Asking(drawing, program, Limit())
+    asking.begin((2, 4, 6), (3, 5, 7))
+    offs = {5: Fraction(10)}
+    there = asking.lying(moved(drawing, offs), offs)
+    places = {str(ref): spot for ref, spot in there.solution.points.items()}
+    bars = (10, 0, 20)
+    assert places["C.end"] == (approx(sum(cos(radians(way)) for way in bars) * 1e8, abs=3),
+                               approx(sum(sin(radians(way)) for way in bars) * 1e8, abs=3))
+
+
 def test_a_dimension_that_is_off_as_before_is_the_same_constraint() -> None:
     moving = Moving(read_drawing(PLATE))
     one, other = (moving.moved({6: Fraction(100), 7: Fraction(off)}) for off in (200, 300))

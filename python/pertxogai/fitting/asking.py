@@ -11,7 +11,9 @@ from functools import cached_property
 
 from pertxogai.drawing import Drawing, DrawingUnsound
 from pertxogai.fitting.affine import Probe
-from pertxogai.fitting.template import Encoding, Offs, Template
+from pertxogai.fitting.encoding import Encoding, Offs
+from pertxogai.fitting.leaning import Turning
+from pertxogai.fitting.template import Template, Told
 from pertxogai.fitting.toleranced import moved
 from pertxogai.judging import Judgement, Question, Trial, first_good
 from pertxogai.judging.edited import EditedDrawing
@@ -97,8 +99,10 @@ class Asking:
         self._met: Judgement | None = None
         if self._is_plain(asked):
             self._met = self._finely(self._known) if self._care.fine else self.nominal
-        self._fine, self._alike = Luck(), Luck()
+        self._fine, self._alike, self._leaning = Luck(), Luck(), Luck()
         self._lengths: tuple[int, ...] = ()
+        self._angles: tuple[int, ...] = ()
+        self._turning: Template | None = None
         self._templates: dict[Turned, Template | None] = {}
         self._seen: Counter[Turned] = Counter()
 
@@ -113,9 +117,12 @@ class Asking:
                 and asked.axes is self._known.analysis.interpretations[0].axes
                 and not any((asked.grown, asked.frozen, asked.off, asked.spelled.left_out)))
 
-    def begin(self, numbers: Iterable[int]) -> None:
-        """Says which dimensions may be off that are lengths."""
-        self._lengths = tuple(numbers)
+    def begin(self, lengths: Iterable[int], angles: Iterable[int] = ()) -> None:
+        """Says which dimensions may be off."""
+        self._lengths, self._angles = tuple(lengths), tuple(angles)
+        if self._angles:
+            with suppress(DrawingUnsound, NotHeld, Refusal):
+                self._turning = self._made_turning()
 
     def lying(self, drawing: Drawing, offs: Offs) -> Lying:
         """Where the drawing lies with the dimensions of some numbers off, by so much. Raises
@@ -130,19 +137,30 @@ class Asking:
         return self._of(judged or judge_edited(edited, self._program, limit=self._limit))
 
     def _by_template(self, drawing: Drawing, offs: Offs) -> Lying | None:
-        """The same by a sketch that is known, with other lengths; None where not all is met so."""
+        """The same by a sketch that is known, with other angles or lengths; None where not all is
+        met so."""
         lengths = {number: off for number, off in offs.items() if number in self._lengths}
+        if self._turning is not None and len(lengths) < len(offs) and self._leaning.is_left:
+            found = self._told(drawing, self._turning, offs, self._leaning)
+            if found is not None:
+                return found
         template = self._template({number: off for number, off in offs.items()
                                    if number not in lengths})
-        text = template.text(lengths) if template is not None and self._alike.is_left else None
-        if template is None or text is None:
+        if template is None or not self._alike.is_left:
             return None
-        found = self._measured(drawing, template, template.placed(text, lengths, self._program))
-        self._alike.note(found is not None)
+        return self._told(drawing, template, lengths, self._alike)
+
+    def _told(self, drawing: Drawing, template: Template, offs: Offs, luck: Luck) -> Lying | None:
+        """Where a drawing lies by a sketch that is known; None where it has no such, or where not
+        all is met."""
+        told = template.told(offs)
+        if told is None:
+            return None
+        found = self._measured(drawing, told, template.placed(told, offs, self._program))
+        luck.note(found is not None)
         return found
 
-    def _measured(self, drawing: Drawing, template: Template,
-                  solution: Solution | None) -> Lying | None:
+    def _measured(self, drawing: Drawing, told: Told, solution: Solution | None) -> Lying | None:
         """Where a drawing lies, if all is met there as in the drawing itself."""
         if solution is None or self._met is None or self._met.measurement is None:
             return None
@@ -150,7 +168,7 @@ class Asking:
         off_nm = _greatest(deviations)
         if off_nm > self._most_nm or any(self._limit.beyond(deviations)):
             return None
-        is_near = template.asked.spelled.near and not _is_exact(deviations)
+        is_near = told.is_near and not _is_exact(deviations)
         return None if is_near else Lying(solution, off_nm)
 
     def _template(self, turned: Offs) -> Template | None:
@@ -177,6 +195,19 @@ class Asking:
             return None
         trial = Trial(here.spelled, here.axes, here.rails, place=asked.place)
         return Template.of(self._known.drawing, trial, probe, there)
+
+    def _made_turning(self) -> Template | None:
+        """The sketch of the drawing, of which the lines turn with its angles."""
+        if self._met is None:
+            return None
+        probe, asked = Probe((*self._lengths, *self._angles)), self._met.asked
+        here, there = Encoding(asked.axes, asked.rails, asked.spelled), self._encoded(probe.offs())
+        if there is None:
+            return None
+        turning = Turning.of(here, there, self._care, probe)
+        trial = Trial(here.spelled, here.axes, here.rails, place=asked.place)
+        return None if turning is None else Template.of(self._known.drawing, trial, probe, there,
+                                                        turning)
 
     def _encoded(self, offs: Offs) -> Encoding | None:
         """How the drawing is encoded with dimensions off; None where something is told twice."""

@@ -60,7 +60,8 @@ class Placer:
         """Says which dimensions may lie off, and what is measured."""
         self._dimensions, self._gauges = dimensions, gauges
         self._base = tuple(each.base for each in dimensions)
-        self._asking.begin([each.number for each in dimensions if not each.is_angle])
+        self._asking.begin([each.number for each in dimensions if not each.is_angle],
+                           [each.number for each in dimensions if each.is_angle])
 
     @property
     def cases(self) -> Mapping[Offs, Case]:

@@ -1,6 +1,6 @@
-"""The sketch by which a drawing was placed, with other lengths: a case in which lengths alone lie
-off is asked for by it, so that the drawing isn't encoded anew for each. Where its points come to
-lie is measured on the drawing as ever, so a sketch that says something else shows."""
+"""The sketch by which a drawing was placed, with other lengths and angles: a case is asked for by
+it, so that the drawing isn't encoded anew for each. Where its points come to lie is measured on the
+drawing as ever, so a sketch that says something else shows."""
 from __future__ import annotations
 
 from collections.abc import Mapping
@@ -10,6 +10,8 @@ from fractions import Fraction
 from pertxogai.drawing import Arc, Circle, Drawing
 from pertxogai.exact import whole_near
 from pertxogai.fitting.affine import Affine, Probe
+from pertxogai.fitting.encoding import Encoding, Offs
+from pertxogai.fitting.leaning import Turning
 from pertxogai.judging import Trial
 from pertxogai.judging.measure import Solution
 from pertxogai.judging.settled import settled
@@ -18,23 +20,22 @@ from pertxogai.judging.within import within
 from pertxogai.language import Constraint, Distance, On
 from pertxogai.program import Solver, Status
 from pertxogai.program.reports import Solved, read_answer
-from pertxogai.spelling import Axes, Rails, Spelled
+from pertxogai.spelling import Rails, Spelled
 from pertxogai.spelling.facts import RadiusOf
 
 NM_PER_UM = 1000
-Offs = Mapping[int, Fraction]
-"""How far the dimensions of some numbers lie off, in micrometres."""
 Changing = Mapping[int, Affine]
 """The values that change, by the place of the constraint in the sketch, from 0."""
 
 
 @dataclass(frozen=True)
-class Encoding:
-    """How a drawing is encoded: its axes, rails and sketch."""
+class Told:
+    """A sketch with dimensions off: its text, and how the drawing is asked for by it. is_near:
+    whether an angle is told by a ratio next to it."""
 
-    axes: Axes
-    rails: Rails
-    spelled: Spelled
+    text: str
+    asked: Trial
+    is_near: bool
 
 
 @dataclass(frozen=True)
@@ -42,7 +43,7 @@ class Template:
     """asked: how the drawing was placed. distances: the values of the sketch that change. radii:
     those of all circles and arcs. shifts: where the printed places lie along x and y. numbers: the
     dimensions that may be off: none that changes what is 0 in the sketch, which is another one
-    then."""
+    then. turning: how its lines turn with angles off; None where none of `numbers` is an angle."""
 
     drawing: Drawing
     asked: Trial
@@ -50,39 +51,53 @@ class Template:
     radii: Mapping[str, Affine]
     shifts: tuple[Affine, Affine]
     numbers: frozenset[int]
+    turning: Turning | None = None
 
     @staticmethod
-    def of(drawing: Drawing, asked: Trial, probe: Probe, there: Encoding) -> Template | None:
+    def of(drawing: Drawing, asked: Trial, probe: Probe, there: Encoding,
+           turning: Turning | None = None) -> Template | None:
         """That of a drawing that was placed. there: how it is encoded with the offs of the probe.
-        None where that differs by more than lengths."""
+        None where that differs by more than lengths, and angles that turn its lines."""
         spelled = asked.spelled
-        if not spelled.tied() or not _are_alike(spelled, there.spelled):
+        other = there.spelled if turning is None else turning.back(there.spelled, probe.offs())
+        if not spelled.tied() or other is None or not _are_alike(spelled, other):
             return None
-        distances = _distances(spelled, there.spelled, probe)
+        distances = _distances(spelled, other, probe)
         radii = _radii(drawing, asked.rails, there.rails, probe)
         shifts = [_shift(asked, there, probe, upwards) for upwards in (False, True)]
         if distances is None or radii is None or shifts[0] is None or shifts[1] is None:
             return None
         loose = {number for each in distances.values() if not each.at for number in each.slopes}
         return Template(drawing, asked, distances, radii, (shifts[0], shifts[1]),
-                        probe.numbers - loose)
+                        probe.numbers - loose, turning)
 
-    def placed(self, text: str, offs: Offs, program: Solver) -> Solution | None:
+    def placed(self, told: Told, offs: Offs, program: Solver) -> Solution | None:
         """Where a drawing with these dimensions off is placed by that sketch; None where it isn't.
         Raises ProgramError."""
-        words = "solve", f"place={self.asked.place.value}", within(self.asked.spelled)
-        answer = program.ask(words, text)
+        words = "solve", f"place={told.asked.place.value}", within(told.asked.spelled)
+        answer = program.ask(words, told.text)
         solved = read_answer(words, answer) if answer.status is Status.DONE else None
         if not isinstance(solved, Solved):
             return None
-        return self._settled(settled(self.drawing, self.asked, solved).solution, offs)
+        return self._settled(settled(self.drawing, told.asked, solved).solution, offs)
 
-    def text(self, offs: Offs) -> str | None:
-        """The sketch with these dimensions off; None where one of them may not be, or where a value
-        can't be told in whole micrometres, or isn't above 0. Raises NotHeld where one is beyond
-        the language's."""
-        if not self.numbers.issuperset(offs):
+    def told(self, offs: Offs) -> Told | None:
+        """The sketch with these dimensions off; None where one of them may not be, where a value
+        can't be told in whole micrometres, or isn't above 0, or where a line becomes level or
+        upright. Raises NotHeld where one is beyond the language's."""
+        lines = self._lines(offs) if self.numbers.issuperset(offs) else None
+        if lines is None:
             return None
+        if self.turning is None:
+            return Told("\n".join(lines), self.asked, bool(self.asked.spelled.near))
+        turned, spelled = self.turning.turned(offs), self.asked.spelled
+        if turned is None:
+            return None
+        asked = replace(self.asked, spelled=replace(spelled, headings=turned.headings(spelled)))
+        return Told("\n".join(self.turning.lines(lines, turned.tied)), asked, turned.tied.is_near)
+
+    def _lines(self, offs: Offs) -> list[str] | None:
+        """The lines of the sketch's text with these lengths off."""
         spelled = self.asked.spelled
         lines, first = spelled.sketch.text().split("\n"), 1 + len(spelled.sketch.elements)
         for place, value in self.distances.items():
@@ -92,7 +107,7 @@ class Template:
                 if told.denominator != 1 or told <= 0:
                     return None
                 lines[first + place] = replace(constraint, length_um=told.numerator).text()
-        return "\n".join(lines)
+        return lines
 
     def _settled(self, found: Solution, offs: Offs) -> Solution | None:
         """The places and radii with the dimensions off; None where places aren't whole nanometres,

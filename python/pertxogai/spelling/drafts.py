@@ -87,13 +87,16 @@ class Sheet:
         elements: list[language.Element] = [
             _point(name, nearest_whole(x * scale), nearest_whole(y * scale))
             for name, (x, y) in self.points.items()]
-        for name, ends in self.lines.items():
-            elements.append(_line(name, *(nearest_whole(each * scale)
-                                          for spot in ends for each in spot)))
+        elements += [line_between(name, ends, scale) for name, ends in self.lines.items()]
         if scale not in self.told:
             self.told[scale] = _in_the_language(self.drafts, scale)
         constraints, rounded = self.told[scale]
         return language.Sketch(1, tuple(elements), constraints), rounded
+
+
+def line_between(name: str, ends: tuple[PointUm, PointUm], scale: int) -> language.Line:
+    """A line through two drawn places, so many times larger."""
+    return _line(name, *(nearest_whole(each * scale) for spot in ends for each in spot))
 
 
 def _in_the_language(drafts: Sequence[Draft], scale: int) -> Worded:

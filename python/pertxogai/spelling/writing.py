@@ -38,12 +38,7 @@ class Writer:
 
     def write(self) -> None:
         """Fills the sheet: points, lines, then angles, heights and distances."""
-        layout, named = self.layout, Tracks(self.layout)
-        named.name_points()
-        tracks = named.name_tracks()
-        layout.settle_ways(layout.names.values())
-        for track in tracks:
-            layout.draw(track)
+        layout, tracks = self.layout, Tracks(self.layout).drawn()
         Angles(layout).write(tracks)
         for track in tracks:
             self.heights.points_on(track)

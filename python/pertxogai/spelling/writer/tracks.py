@@ -14,6 +14,16 @@ class Tracks:
     def __init__(self, layout: Layout) -> None:
         self.layout = layout
 
+    def drawn(self) -> list[Track]:
+        """Names the points and the tracks, and draws the tracks: these, in order."""
+        layout = self.layout
+        self.name_points()
+        tracks = self.name_tracks()
+        layout.settle_ways(layout.names.values())
+        for track in tracks:
+            layout.draw(track)
+        return tracks
+
     def name_points(self) -> None:
         """Names the point of each knot, that of the origin where it has to be one."""
         layout = self.layout
