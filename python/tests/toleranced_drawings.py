@@ -25,7 +25,6 @@ from pertxogai.program import Solver
 from plain_gauges import Plain
 
 MOST_BLOCKS = 3
-FIRST_CORNERS = 3
 EACH_ANEW = 10
 """One in this number of corners is measured in a drawing of its own."""
 GOALS = 2
@@ -125,14 +124,15 @@ def tried(seed: int, corners: int, program: Solver) -> Tried | None:
 
 
 def _has_corners(drawing: Drawing, program: Solver, random: Random) -> bool:
-    """Whether a drawing is placed as it is given, and at most of a few corners."""
+    """Whether a drawing is placed as it is given, and at two of three corners by chance."""
     placer = Placer(drawing, program, Limit())
     if placer.nominal.solution is None:
         return False
     dimensions = Dimensions.of(drawing, placer.nominal.solution).toleranced
     placer.begin(dimensions, ())
-    placed = sum(placer.is_placed(_corner(dimensions, random)) for _ in range(FIRST_CORNERS))
-    return 2 * placed > FIRST_CORNERS
+    one, other, third = (_corner(dimensions, random) for _ in range(3))
+    is_placed = placer.is_placed(one)
+    return is_placed if placer.is_placed(other) == is_placed else placer.is_placed(third)
 
 
 def _corner(dimensions: Sequence[Toleranced], random: Random) -> Offs:
@@ -166,7 +166,7 @@ class _Search:
         there are dimensions."""
         chance = [_corner(self._dimensions, self._random) for _ in range(count)]
         known = [offs for offs in chance if self._values(offs) is not None]
-        for offs in known[::EACH_ANEW]:
+        for offs in dict.fromkeys(known[::EACH_ANEW]):
             self._try_anew(offs)
         goals = [(number, side) for number in range(len(self._found.known)) for side in (-1, 1)]
         for number, side in self._random.sample(goals, min(GOALS, len(goals))) if known else ():
