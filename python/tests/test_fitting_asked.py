@@ -146,6 +146,23 @@ def test_fine_angles_are_asked_for_at_once(program) -> None:
     assert len(heard.texts) == 1
 
 
+def test_an_angle_that_is_off_a_right_angle_is_asked_for_at_once(program) -> None:
+    # A bar of 100 along x, and one of 100 square to it from its end; at 90.5 degrees that one ends
+    # at 100 - 100 sin 0.5 and 100 cos 0.5. A right angle has a ratio, 90.5 degrees have none.
+    drawing = read_drawing("segment A 0 0 100 0\nsegment B A.end 100 100\n"
+                           "coincident A.start Origin\nhorizontal A\nlength A 100\nlength B 100\n"
+                           "angle A B +90deg\n")
+    heard = Listening(program)
+    asking = Asking(drawing, heard, Limit())
+    asking.begin(lengths(drawing), (5,))
+    heard.texts.clear()
+    offs = {5: Fraction(1, 2)}
+    there = asking.lying(moved(drawing, offs), offs)
+    (x, y), = (spot for ref, spot in there.solution.points.items() if str(ref) == "B.end")
+    assert (abs(x - 99_127_346) <= 1, abs(y - 99_996_192) <= 1) == (True, True)
+    assert len(heard.texts) == 1 and there.off_nm <= 2
+
+
 def test_other_lengths_at_the_same_other_angle_are_asked_for_by_one_sketch(program,
                                                                            monkeypatch) -> None:
     # A bar of 100 at 30 degrees, and one of 50 from its end at 20 more; here at 30.5, and the bars

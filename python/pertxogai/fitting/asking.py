@@ -131,10 +131,15 @@ class Asking:
         if found is not None:
             return found
         edited, judged = OffDrawing(drawing, self._known), None
-        if self._met is not None and self._care.fine and self._fine.is_left:
+        if self._met is not None and self._care_with(offs).fine and self._fine.is_left:
             judged = self._finely(edited)
             self._fine.note(judged is not None)
         return self._of(judged or judge_edited(edited, self._program, limit=self._limit))
+
+    def _care_with(self, offs: Offs) -> Care:
+        """How angles are told with these dimensions off: finely where one of them is an angle,
+        since few angles have ratios."""
+        return self._care if all(number in self._lengths for number in offs) else FINE
 
     def _by_template(self, drawing: Drawing, offs: Offs) -> Lying | None:
         """The same by a sketch that is known, with other angles or lengths; None where not all is
@@ -204,7 +209,7 @@ class Asking:
         here, there = Encoding(asked.axes, asked.rails, asked.spelled), self._encoded(probe.offs())
         if there is None:
             return None
-        turning = Turning.of(here, there, self._care, probe)
+        turning = Turning.of(here, there, FINE, probe)
         trial = Trial(here.spelled, here.axes, here.rails, place=asked.place)
         return None if turning is None else Template.of(self._known.drawing, trial, probe, there,
                                                         turning)
@@ -216,7 +221,7 @@ class Asking:
         if axes.surplus() or axes.conflicts():
             return None
         rails = Rails(axes, STYLE)
-        return Encoding(axes, rails, written(axes, rails, STYLE, self._care))
+        return Encoding(axes, rails, written(axes, rails, STYLE, self._care_with(offs)))
 
     def _finely(self, edited: EditedDrawing) -> Judgement | None:
         """What becomes of a drawing that is asked for with fine angles at once; None where it isn't
