@@ -1,4 +1,4 @@
-"""How a command of ./pertxogai ends: its exit status, and what the user is told instead."""
+"""How a command of ./pertxogai ends: its exit status, and the message if it can't do its work."""
 from __future__ import annotations
 
 from enum import IntEnum

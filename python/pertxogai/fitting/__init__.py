@@ -1,8 +1,8 @@
-"""What plus or minus on a dimension does to what must fit.
+"""Whether the checks of a drawing fit within its tolerances.
 
-A drawing with tolerances and checks goes in; of each check come out the worst case, the root of the
-sum of squares, and which dimension gives how much. Each case is placed by the program, and the
-check is measured on the printed whole nanometres; nothing here decides where something lies."""
+A drawing with tolerances and checks goes in. For each check the worst case, the root sum square and
+the share of each dimension come out. The program places each case, and the check is measured there
+on the printed whole nanometres; nothing here decides where something lies."""
 from __future__ import annotations
 
 from pertxogai.drawing import Drawing

@@ -42,10 +42,10 @@ SEED = 2768
 
 @dataclass(frozen=True)
 class Worst:
-    """The least and the greatest that a gauge measured, in millionths, and how far the
-    dimensions lie off there. turning: the dimensions, by their places from 0, in which it isn't
-    monotone. below, above: how much less and more it may be than what was measured, as it is
-    reckoned; nothing where it is monotone and all constraints are met but for rounding."""
+    """The least and the greatest measured value, in millionths of a millimetre or a degree, and
+    the deviations of the dimensions there. turning: the dimensions, by their places from 0, in
+    which the check isn't monotone. below, above: how far the calculated range goes beyond what was
+    measured; 0 if the check is monotone and each constraint is met but for rounding."""
 
     least: int
     greatest: int
@@ -57,7 +57,8 @@ class Worst:
 
     @staticmethod
     def of(gauges: Sequence[Worst]) -> Worst:
-        """That of a check which several gauges measure: the least and the greatest of all."""
+        """The worst case of a check that is measured in several places: the least and the greatest
+        value of all."""
         low = min(gauges, key=lambda each: each.least)
         high = max(gauges, key=lambda each: each.greatest)
         below = low.least - min(each.least - each.below for each in gauges)

@@ -1,4 +1,4 @@
-"""What comes of the checks of a drawing."""
+"""The results of the checks of a drawing."""
 from __future__ import annotations
 
 from dataclasses import dataclass
@@ -21,19 +21,20 @@ class Answer(Enum):
     """Whether something fits in the worst case; the values are for JSON."""
 
     FITS = True
-    """All that was placed lies within the limits, and so does all that is reckoned where a check
-    isn't monotone."""
+    """Each placed case lies within the limits; if the check isn't monotone, so does the range that
+    is calculated from the effects of single dimensions."""
     UNSURE = None
-    """All that was placed lies within the limits, and it isn't known whether all else does."""
+    """Each placed case lies within the limits, but another case may not."""
     BEYOND = False
-    """A case that was placed lies beyond a limit."""
+    """A placed case lies beyond a limit."""
 
 
 @dataclass(frozen=True)
 class Share:
-    """What one dimension gives. gives: to either side, in millionths; part: of what all give in the
-    worst case, from 0 to 1; part_of_squares: of the sum of their squares. per_unit: by how much the
-    check changes for a millimetre or a degree of the dimension; None where it turns round."""
+    """What one dimension contributes to a check. gives: how much to either side, in millionths of a
+    millimetre or a degree. part: its share of the worst case, from 0 to 1. part_of_squares: its
+    share of the sum of squares. per_unit: the change of the check for a millimetre or a degree of
+    the dimension; None if the check isn't monotone in it."""
 
     dimension: Toleranced
     gives: int
@@ -59,16 +60,17 @@ class Range:
 
 @dataclass(frozen=True)
 class CheckedFit:
-    """What comes of one check. numbers: the places of its gauges among all, from 0; gauged: the
-    worst case of each. low, high: its limits as they are written; nominal: the least as all is
-    given; all in millionths of a millimetre or a degree. by_squares:
-    the root of the sum of squares to both sides of the middle; None where the check isn't monotone
-    in what gives a good part of it, or where one of two segments tilts. shares: those that give
-    something, the greatest first. dimensions: all of them. noise: the rounding of what is measured,
-    in millionths. tightened: where the first of the shares
-    has one tolerance to both sides, and to tighten that alone is enough, to how many micrometres or
-    degrees, as the program placed it. has_gap: whether a part within tolerance can't be placed, by
-    dimensions that move the check."""
+    """The result of one check, in millionths of a millimetre or a degree. A check may be measured
+    in several places, such as both ends of a segment. numbers: the indices of these
+    measurements among all of the drawing, from 0; gauged: the worst case of each. low, high: the
+    limits as written. nominal: the least value with nominal dimensions. by_squares: the range by
+    the root sum square; None if the check isn't monotone in a dimension that contributes much, or
+    if one of two segments tilts. shares: the dimensions that contribute, the largest contribution
+    first. dimensions: all that have a tolerance. noise: the rounding of what is measured.
+    tightened: the tolerance, in micrometres or degrees, to which the dimension of the first share
+    has to be tightened; None if that alone isn't enough, or if its tolerance isn't the same to both
+    sides. The program has placed the part with it. has_gap: whether a part within tolerance can't
+    be placed, by dimensions that affect the check."""
 
     check: Check
     numbers: tuple[int, ...]
@@ -109,12 +111,13 @@ class CheckedFit:
 
     @property
     def placed(self) -> Range:
-        """From the least to the greatest that was measured."""
+        """The range of the measured cases, from the least to the greatest value."""
         return Range(self.worst.least, self.worst.greatest)
 
     @property
     def reckoned(self) -> Range:
-        """The same, as much wider as it is reckoned where the check isn't monotone."""
+        """The range that the check may reach: `placed`, and if the check isn't monotone also what
+        is calculated from the effects of single dimensions."""
         worst = self.worst
         return Range(worst.least - worst.below, worst.greatest + worst.above)
 
@@ -134,13 +137,13 @@ class CheckedFit:
 
     @property
     def fits_by_squares(self) -> bool:
-        """Whether the root of the sum of squares lies within the limits."""
+        """Whether the root sum square lies within the limits; false if there is none."""
         return self.by_squares is not None and self.by_squares.lies_within(self.allowed, self.noise)
 
 
 @dataclass(frozen=True)
 class UnknownFit:
-    """A check of which nothing is known: why, in a line."""
+    """A check about which nothing is known. why: the reason, in one line."""
 
     check: Check
     why: str
@@ -153,10 +156,10 @@ class UnknownFit:
 
 @dataclass(frozen=True)
 class Fit:
-    """What comes of each check of a drawing that is good. placements: how many times it was placed
-    and measured. unplaced: which cases can't be placed, and why; between: those of which both cases
-    beside them can. loose_nm: how far a constraint is off in a case at most; 0 where that is
-    rounding."""
+    """The results of all checks of a good drawing. placements: how many cases were placed and
+    measured. unplaced: the cases that can't be placed, and why. between: those that can't, although
+    the cases on both sides of them can. loose_nm: how far a constraint is off in a case, at most; 0
+    if that is only rounding."""
 
     good: GoodJudgement
     dimensions: Dimensions
@@ -178,7 +181,7 @@ class Fit:
 
     @property
     def idle(self) -> tuple[Toleranced, ...]:
-        """The dimensions with a tolerance that by themselves give nothing to any check."""
+        """The dimensions whose tolerance by itself has no effect on any check."""
         giving = {share.dimension.number for each in self.known for share in each.shares}
         return tuple(each for each in self.dimensions.toleranced if each.number not in giving)
 
@@ -195,6 +198,6 @@ class Fit:
 
 @dataclass(frozen=True)
 class NoFit:
-    """Nothing is known of what fits: why, in a line each."""
+    """Nothing is known about the checks. why: the reasons, one line each."""
 
     why: tuple[str, ...]

@@ -73,12 +73,12 @@ class Joint:
 
 @dataclass(frozen=True)
 class Missing:
-    """What is missing. count: at least so many dimensions are missing, by the rank of the drawing's
-    equations, with sizes of circles among the unknowns; 0 if it isn't known that one is missing, as
-    for a drawing that is rigid in a way that merging doesn't find. joints: each rigid cluster but
-    the first, with an earlier one to which it is connected, if there is one, and if by rank a
-    dimension is missing between them. whole: how the whole may still be moved against the datum,
-    which isn't counted; None if that isn't known."""
+    """What is missing. count: how many dimensions are missing at least, by the rank of the
+    drawing's equations, with sizes of circles among the unknowns; 0 if it isn't known that one is
+    missing, as for a drawing that is rigid in a way that merging doesn't find. joints: each rigid
+    cluster but the first, with an earlier one to which it is connected, if there is one, and if by
+    rank a dimension is missing between them. whole: how the whole may still be moved against the
+    datum, which isn't counted; None if that isn't known."""
 
     count: int
     pieces: tuple[Piece, ...]

@@ -36,7 +36,7 @@ def search_judged(drawing: Drawing, judgement: Judgement, program: Solver) -> Fi
 
 
 def searched_within(drawing: Drawing, seconds: float) -> Searched:
-    """Searches a sound drawing for so many seconds of processor time at most. Raises
+    """Searches a sound drawing, for at most `seconds` of processor time. Raises
     MissingLibrary."""
     check_libraries()
     from pertxogai.search.searched import Searched
