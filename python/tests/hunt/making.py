@@ -304,6 +304,8 @@ class _Finish:
             spots, radii, digits = self._rough(words, jitter)
             model, exact = self._read(words, spots, radii, digits)
             if _holds(model, exact, wrong) and _turns_alike(model, exact):
+                if not can_be_parallel(model, exact, wrong):
+                    raise NotMade("edges that have a distance aren't parallel")
                 text = written(self.shapes, words, spots, radii, digits)
                 return _as_it_is(Made(kind, seed, text, exact, truth(model, exact), wrong, against))
         raise NotMade("not drawn so that it holds")
@@ -345,6 +347,18 @@ def _named(words: list[str], kind: str) -> set[tuple[str, ...]]:
     return {tuple(name for name in each[1:] if name[0].isalpha()) for each in split if each[0] == kind}
 
 
+def can_be_parallel(model: Model, exact: Vector, wrong: frozenset[str]) -> bool:
+    """Whether near the exact places each two edges that have a distance can be parallel beside all
+    other words: a distance doesn't say it, and is met only where they are."""
+    sheet = model.sheet
+    held = [word for word in sheet.words if sheet.lines[word.line] not in wrong]
+    pairs = [word for word in held
+             if word.kind == "distance" and all(map(sheet.is_line, word.names))]
+    parallel = [replace(word, kind="parallel", value=None) for word in pairs]
+    beside = replace(model, sheet=replace(sheet, words=held + parallel))
+    return not pairs or beside.solved(exact) is not None
+
+
 def _turns_alike(model: Model, exact: Vector) -> bool:
     """Whether each three points are drawn the way round that they lie, so that the drawing chooses
     the shape that was meant wherever its words leave two."""
@@ -374,4 +388,4 @@ def _holds(model: Model, exact: Vector, wrong: frozenset[str]) -> bool:
     return all(abs(row.off) < HOLDS_MM for row in model.ruler.implied(plane))
 
 
-__all__ = ["Index", "Kind", "Made", "NotMade", "Sheet", "made", "turns"]
+__all__ = ["Index", "Kind", "Made", "NotMade", "Sheet", "can_be_parallel", "made", "turns"]

@@ -33,6 +33,16 @@ class Ruler:
         """The numbers of a word at other places."""
         return list(_OF[word.kind](self, at, word))
 
+    def measured(self, at: Plane, word: Word) -> list[Row]:
+        """The same, with what another word has to say and this one is measured by: that two edges
+        of a distance are parallel, so that both ends of the second have it."""
+        found = self.rows(at, word)
+        if word.kind == "distance" and all(map(at.sheet.is_line, word.names)):
+            line, other = _axis_first(at, word)
+            start, end = (at.aside(at.spot(f"{other}.{each}"), line) for each in ("start", "end"))
+            found.append(Row((end if real(start) >= 0 else -end) - word.number()))
+        return found
+
     def implied(self, at: Plane) -> list[Row]:
         """What the shapes ask by themselves: an arc's end lies on its circle, and what is given
         from outside where it is drawn."""
@@ -127,13 +137,23 @@ def _distance(_: Ruler, at: Plane, word: Word) -> list[Row]:
     lines = [at.sheet.is_line(name) for name in word.names]
     if not any(lines):
         return [Row(_apart(at, first, second) - word.number())]
-    if second in ("XAxis", "YAxis") and lines[0]:
-        first, second = second, first
-    elif not lines[1]:
-        first, second = second, first
-    line, point = (first, f"{second}.start") if all(lines) else (second, first)
+    if all(lines):
+        line, other = _axis_first(at, word)
+        return [_off_line(at, line, f"{other}.start", word.number())]
+    line, point = (first, second) if lines[0] else (second, first)
+    return [_off_line(at, line, point, word.number())]
+
+
+def _axis_first(at: Plane, word: Word) -> tuple[str, str]:
+    """Two lines, of which the second has ends."""
+    first, second = word.names
+    return (second, first) if second in ("XAxis", "YAxis") else (first, second)
+
+
+def _off_line(at: Plane, line: str, point: str, apart: float) -> Row:
+    """How far off a point is from a distance from a line."""
     aside = at.aside(at.spot(point), line)
-    return [Row((aside if real(aside) >= 0 else -aside) - word.number())]
+    return Row((aside if real(aside) >= 0 else -aside) - apart)
 
 
 def _run(ruler: Ruler, at: Plane, word: Word) -> list[Row]:

@@ -8,7 +8,7 @@ import pytest
 pytest.importorskip("numpy", reason="the hunt takes Debian's python3-numpy")
 
 from hunt.asking import Answer  # noqa: E402
-from hunt.making import WANTED, Kind, Made, made  # noqa: E402
+from hunt.making import WANTED, Kind, Made, can_be_parallel, made  # noqa: E402
 from hunt.reading import read  # noqa: E402
 from hunt.shrinking import shrunk  # noqa: E402
 from hunt.truth import Model, truth  # noqa: E402
@@ -114,6 +114,27 @@ def test_a_direction_is_off_by_its_parts_per_billion(length_mm: int, end_y_nm: i
     text = f"segment A 0 0 {length_mm} 0\ncoincident A.start Origin\nhorizontal A\nlength A {length_mm}\n"
     found = causes(plate_of(text), places=level_edge(length_mm, end_y_nm))
     assert (Cause.GOOD_BUT_OFF in found) is is_off
+
+
+def test_edges_that_have_a_distance_have_it_at_both_ends() -> None:
+    """The second edge leaves the first by 4 um on its way."""
+    text = "segment A 0 0 40 0\nsegment B 0 20 40 20\ndistance A B 20\n"
+    ends = {name: {"start": {"x_nm": 0, "y_nm": y}, "end": {"x_nm": 40000000, "y_nm": y + off}}
+            for name, y, off in (("A", 0, 0), ("B", 20000000, 4000))}
+    assert [each.nm for each in offs(text, ends)] == [pytest.approx(4000), 0]
+
+
+@pytest.mark.parametrize("words, can_be", [
+    # By the angles S is turned to L by 79.8 and by 79.82449 degrees, which is the tangent 39/7.
+    ("angle L M 79.8deg\nangle M S 39/7\n", False),
+    ("angle L M 79.8deg\nparallel L S\n", True),
+    ("angle L M 79.8deg\n", True),
+])
+def test_edges_that_angles_turn_to_each_other_have_no_distance(words: str, can_be: bool) -> None:
+    model = Model.of(read("segment L 12 33.4 38.9 33.4\nsegment M L.end 36 49.7\n"
+                          "segment S 37 57.4 27.7 57.4\ndistance L S 24\nlength S 9.3\n" + words))
+    at = model.solved(model.index.vector(model.sheet.drawn, model.sheet.radii))
+    assert at is not None and can_be_parallel(model, at, frozenset()) is can_be
 
 
 def test_a_part_that_lies_mirrored_is_found() -> None:

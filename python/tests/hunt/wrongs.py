@@ -296,7 +296,7 @@ def offs(text: str, places: dict[str, Any]) -> list[Off]:
 
 def _measured(model: Model, plane: Plane, word: Word) -> list[Row]:
     """The numbers of a word: a level edge is off by its direction."""
-    rows = model.ruler.rows(plane, word)
+    rows = model.ruler.measured(plane, word)
     if word.kind not in LEVELS or len(word.names) > 1:
         return rows
     arm = max(real(size(plane.way(word.names[0]))), STEP_MM)
