@@ -8,6 +8,7 @@ import pytest
 
 pytest.importorskip("scipy", reason="what is dragged is reckoned by Debian's python3-scipy")
 
+from all_shown import COUNTS, settle
 from boards import Served, drawing, wait_for
 from browsing import Page
 from selenium.webdriver.common.by import By
@@ -22,6 +23,7 @@ segment C 0 40 40 40
 # reference length B
 # reference length C
 """
+HEIGHTLESS = drawing("open-plate-without-height")
 CRANK = """segment Ground 0 0 40 0
 segment Crank Ground.start 18 24
 coincident Ground.start Origin
@@ -150,6 +152,88 @@ def test_nothing_is_previewed_by_the_number_that_a_dimension_had(page: Page) -> 
     hold(page, "mouseReleased", (x + width * 0.6, y), 0)
     page.settled()
     assert "length A Long\nlength B 30\n" in page.text()
+    page.wait("nothing is held: what completes it",
+              "return document.querySelector('#proposals button')")
+
+
+# What is asked for twice.
+
+def lines_of(page: Page, line: str) -> int:
+    """How often a line stands in the text, once the page is at rest."""
+    page.driver.execute_script(COUNTS)
+    return settle(page).splitlines().count(line)
+
+
+def test_what_is_proposed_is_added_once_by_two_keys(page: Page) -> None:
+    """A second time it would be redundant."""
+    page.begin(HEIGHTLESS, "open")
+    page.wait("a proposal", "return document.querySelector('#proposals button')")
+    with page.held("edit"):
+        page.keys("d", "d")
+    page.verdict("well")
+    assert lines_of(page, "length PlateRight 79") == 1
+
+
+def test_what_is_proposed_is_added_once_by_a_double_click(page: Page) -> None:
+    page.begin(HEIGHTLESS, "open")
+    page.wait("a proposal", "return document.querySelector('#proposals [data-proposed]')")
+    with page.held("edit"):
+        page.press_twice("#proposals [data-proposed]")
+    page.verdict("well")
+    assert lines_of(page, "length PlateRight 79") == 1
+
+
+def test_what_is_proposed_of_a_drawing_isnt_added_to_another(page: Page) -> None:
+    """The height that is asked for meanwhile would be asked for twice."""
+    page.begin(HEIGHTLESS, "open")
+    page.wait("a proposal", "return document.querySelector('#proposals button')")
+    page.select("PlateRight")
+    page.wait("length", "return document.querySelector('#offers [data-word=length]')")
+    with page.held("edit"):
+        page.click("#offers [data-word=length]")
+        page.driver.find_element(By.CSS_SELECTOR, "#value input").send_keys(Keys.ENTER)
+        page.wait("it is asked for", "return window.isHeld")
+        page.keys("d")
+    wait_for("told", lambda: page.told("hint") == CHANGED)
+    page.verdict("well")
+    assert lines_of(page, "length PlateRight 79") == 1
+
+
+def test_a_constraint_is_asked_for_once_by_a_double_click(page: Page) -> None:
+    page.begin("segment A 0 0 40 3\n", "open")
+    page.select("A")
+    page.wait("horizontal", "return document.querySelector('#offers [data-word=horizontal]')")
+    page.press_twice("#offers [data-word=horizontal]")
+    wait_for("it is asked for", lambda: "horizontal A" in page.text())
+    assert lines_of(page, "horizontal A") == 1
+
+
+# Another tab, and an answer that can't be read.
+
+def test_the_other_shape_comes_to_a_tab_that_was_opened_again(page: Page) -> None:
+    page.begin(drawing("arm"), "well")
+    page.click("#tab-steps")
+    page.wait("a choice", "return document.querySelector('#flip:not([hidden])')")
+    with page.held("flips"):
+        page.click("#flip")
+        page.click("#tab-text")
+        page.click("#tab-steps")
+    page.wait("the plan again", "return document.querySelector('#flip:not([hidden])')")
+    assert page.count("#flip[aria-pressed=false]") == 1 and page.faults() == []
+
+
+def test_an_answer_that_is_none_shows_in_the_console(page: Page) -> None:
+    """And the next edit is made all the same."""
+    page.begin("point P 0 0\npoint Q 60 0\n", "open")
+    page.driver.execute_script(
+        "const { fetch } = window; window.fetch = async (path, options) => {"
+        "  if (path !== 'call/edit') return fetch(path, options);"
+        "  Object.assign(window, { fetch }); return new Response('null'); };")
+    page.select("P")
+    page.keys("x")
+    wait_for("an error", page.faults)
+    page.keys("x")
+    wait_for("the next", lambda: "construction point P" in page.text())
 
 
 # What is selected once the clicks before are through.

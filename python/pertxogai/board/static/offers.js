@@ -101,7 +101,8 @@ export class Offers {
     const value = offer.value === null ? '' : ' ..';
     return html('button', {
       'data-word': word, 'data-letter': letter, 'aria-keyshortcuts': `Alt+${letter}`,
-      title: `${offer.words.join(' ')}${value} (Alt+${letter})`, onclick: () => this.ask(offer),
+      title: `${offer.words.join(' ')}${value} (Alt+${letter})`,
+      onclick: (/** @type {Event} */ event) => { if (isFirst(event)) this.ask(offer); },
     }, `${offer.sign} ${word}`.trim(), html('kbd', { 'aria-hidden': 'true' }, letter));
   }
 
@@ -253,6 +254,14 @@ export class Offers {
     return this.board.markPlace(number)
       ?? middleOf(places.length ? places : [[width / 2, height / 2]]);
   }
+}
+
+/**
+ * Whether a click is a first one, and not the second of a double click.
+ * @param {Event} event
+ */
+function isFirst(event) {
+  return !(event instanceof MouseEvent) || event.detail < 2;
 }
 
 /**

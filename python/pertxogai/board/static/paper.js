@@ -162,14 +162,14 @@ export class Paper extends EventTarget {
   }
 
   /**
-   * Edits the text that stands by one edit of the server's; by numbers of constraints only the text
-   * in which they were seen. Gives whether it was taken.
+   * Edits the text that stands by one edit of the server's; by numbers of constraints, and by lines
+   * that complete a drawing, only the text of which they were seen. Gives whether it was taken.
    * @param {Edit} edit
    * @param {string} [seen]
    */
   edit(edit, seen = this.answer?.text) {
     return this.change(async (text) => {
-      if (isNumbered(edit) && text !== seen) return { trouble: this.changed() };
+      if (isOfOneText(edit) && text !== seen) return { trouble: this.changed() };
       return this.edited(text, edit);
     });
   }
@@ -259,7 +259,7 @@ export class Paper extends EventTarget {
     this.live = edit;
     return this.queue(async () => {
       const { text } = this;
-      if (this.live !== edit || (isNumbered(edit) && text !== seen)) return;
+      if (this.live !== edit || (isOfOneText(edit) && text !== seen)) return;
       const answer = await this.edited(text, edit);
       this.seen = { edit, text, answer };
       if (this.live && this.text === text && answer.drawing) this.tell('answer', answer);
@@ -347,14 +347,15 @@ export class Paper extends EventTarget {
   }
 
   /**
-   * Does one thing after the other; gives null of what the stopped server kept from being done.
+   * Does one thing after the other; gives null of what the stopped server kept from being done. An
+   * error is told in the console, also where nobody waits for what is done.
    * @template T
    * @param {() => Promise<T>} act
    * @returns {Promise<T | null>}
    */
   queue(act) {
     const done = this.waiting.then(act).catch(ended);
-    this.waiting = done.catch(() => {});
+    this.waiting = done.catch(reportError);
     return done;
   }
 
@@ -382,11 +383,12 @@ export class Paper extends EventTarget {
 }
 
 /**
- * Whether an edit speaks of constraints, or of dimensions that are only measured, by their numbers.
+ * Whether an edit is meant of one text alone: it speaks of constraints, or of dimensions that are
+ * only measured, by their numbers, or has the lines that complete a drawing.
  * @param {Edit} edit
  */
-function isNumbered(edit) {
-  if ('number' in edit || 'reference' in edit) return true;
+function isOfOneText(edit) {
+  if ('number' in edit || 'reference' in edit || edit.do === 'lines') return true;
   return edit.do === 'erase' && Boolean(edit.constraints?.length || edit.references?.length);
 }
 

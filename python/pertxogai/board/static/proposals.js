@@ -21,6 +21,8 @@ const NONE = { text: null, proposals: [], why: '' };
 /** Asks what completes the drawing that stands, shows it, and adds what is taken. */
 export class Proposals {
   found = NONE;
+  /** That of which something is being added. */
+  added = NONE;
   node = byId('proposed');
   layer = new Layer(byId('proposals'), html);
 
@@ -87,13 +89,25 @@ export class Proposals {
    */
   take(number) {
     const proposal = this.of(number);
-    if (proposal) this.paper.edit({ do: 'lines', lines: [proposal.line] });
+    if (proposal) this.add([proposal]);
   }
 
   /** Adds all of them: one change. */
   takeAll() {
-    const lines = this.found.proposals.map(({ line }) => line);
-    if (lines.length) this.paper.edit({ do: 'lines', lines });
+    this.add(this.found.proposals);
+  }
+
+  /**
+   * Adds some of them to the drawing of which they were found: once, also by two clicks.
+   * @param {Proposed[]} proposals
+   */
+  async add(proposals) {
+    const { found } = this;
+    if (!proposals.length || this.added === found) return;
+    this.added = found;
+    const lines = proposals.map(({ line }) => line);
+    await this.paper.edit({ do: 'lines', lines }, found.text ?? '');
+    this.added = NONE;
   }
 
   /**

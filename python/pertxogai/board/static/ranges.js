@@ -211,18 +211,25 @@ export class Slider {
   /** The part follows the slider. */
   drag() {
     const set = this.isGivenUp ? null : this.set();
-    this.held = set && set.edit;
-    if (set) this.paper.preview(set.edit);
-    else this.goBack();
+    if (!set) {
+      this.leave();
+      return;
+    }
+    this.held = set.edit;
+    this.paper.preview(set.edit);
   }
 
   /** The hand has set a number: it counts. Where it isn't taken, the slider goes back. */
   async land() {
     const { paper, shown } = this;
     const set = this.isGivenUp ? null : this.set();
+    if (!set) {
+      this.leave();
+      return;
+    }
     this.held = null;
-    if (set) paper.live = null;
-    const isTaken = set && await paper.edit(set.edit, shown?.text);
+    paper.live = null;
+    const isTaken = await paper.edit(set.edit, shown?.text);
     if (this.shown !== shown) return;
     if (isTaken) this.landed(set.number);
     else this.goBack();
@@ -248,11 +255,16 @@ export class Slider {
   /** The hand gives the slider up while it holds it. Gives whether it does. */
   giveUp() {
     if (!this.held) return false;
-    this.held = null;
     this.isGivenUp = true;
-    this.goBack();
-    this.paper.drop();
+    this.leave();
     return true;
+  }
+
+  /** The part follows the slider no longer. */
+  leave() {
+    if (this.held) this.paper.drop();
+    this.held = null;
+    this.goBack();
   }
 
   /** The slider goes back to the present number. */

@@ -79,6 +79,7 @@ export class Steps {
   /** Takes everything off the board again, and out of the tab. */
   leave() {
     this.text = null;
+    this.plan = null;
     this.node.replaceChildren();
     this.show(null, null);
   }
@@ -244,14 +245,14 @@ export class Steps {
 
   /** Turns the choice of the step over that is told. */
   async flip() {
-    const { text, told } = this;
+    const { text, told, plan } = this;
     if (!told || text === null) return;
     const { number } = told;
     if (!this.flipped.delete(number)) this.flipped.add(number);
     const steps = [...this.flipped];
     /** @type {import('./protocol').OtherShape | null} */
     const found = steps.length ? await this.paper.ask('flips', { text, steps }) : {};
-    if (this.text !== text) return;
+    if (this.plan !== plan) return;
     if (found?.trouble) {
       this.flipped.delete(number);
       this.paper.tell('trouble', found.trouble.message);
