@@ -172,6 +172,21 @@ def test_an_outline_beside_another(page: Page, board_of) -> None:
     one_step_back(page, before)
 
 
+def test_beside_a_point_there_is_nothing(page: Page, board_of) -> None:
+    """Beside the circle that is selected with it there is one."""
+    at = board_of(HOLE + "point P 60 30\n")
+    before = page.text()
+    page.select("C", "P")
+    page.keys("o")
+    page.hover(*at((20, 22)))
+    wait_for("one circle", lambda: page.count("path.preview") == 1)
+    page.press(*at((20, 22)))
+    field = page.wait("a size", "return document.querySelector('#value[open] input')")
+    field.send_keys(Keys.ENTER)
+    wait_for("why not", lambda: "outline" in page.told("hint"))
+    assert page.text() == before
+
+
 def test_what_is_copied_is_pasted_also_in_another_drawing(page: Page, board_of) -> None:
     at = board_of(HOLE + "segment E 50 0 50 40\nlength E 40\n")
     before = page.text()

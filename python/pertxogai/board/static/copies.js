@@ -229,7 +229,8 @@ export class Copies extends Work {
   }
 
   /**
-   * Each edge that is selected, as far beside itself as a place in pixels is, on its side.
+   * Each edge that is selected, as far beside itself as a place in pixels is, on its side; nothing of
+   * a point.
    * @param {Place} pixels
    */
   beside(pixels) {
@@ -239,6 +240,7 @@ export class Copies extends Work {
     return this.shapes().map((shape) => {
       const view = this.viewOf(shape);
       if (shape.kind === 'segment') return this.drawn(segmentBeside(shape, view, at, away, plane));
+      if (shape.kind === 'point') return null;
       const centre = view.points[`${shape.name}.centre`];
       const radius = view.radii[shape.name] ?? shape.radius ?? 0;
       const moved = radius + (apart(centre, at) < radius ? -away : away);
