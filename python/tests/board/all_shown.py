@@ -33,7 +33,7 @@ if (!window.calls_) {
 """Keeps the calls that are on their way to the server; the browser's own window of printers stays
 shut."""
 BOARD = """
-const told = (node) => node.getAttribute('class').split(' ').filter(Boolean).join(' ');
+const told = (node) => (node?.getAttribute('class') ?? '').split(' ').filter(Boolean).join(' ');
 const all = (selector) => [...document.querySelectorAll(`#board ${selector}`)];
 const board = document.getElementById('board').getBoundingClientRect();
 return {
@@ -41,7 +41,7 @@ return {
     const { x, y, width, height } = each.querySelector('.dothit').getBoundingClientRect();
     return [each.dataset.name, [x + width / 2 - board.x, y + height / 2 - board.y]]; })),
   edges: Object.fromEntries(all('.edges [data-name]').map((each) => [
-    each.dataset.name, told(each.querySelector('.shape') ?? each)])),
+    each.dataset.name, told(each.querySelector('.shape'))])),
   marks: all('.marks [data-constraint]').map((each) => [
     Number(each.dataset.constraint), each.querySelector('text').textContent, told(each)]),
 };

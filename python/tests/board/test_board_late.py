@@ -203,7 +203,8 @@ def test_a_constraint_is_asked_for_once_by_a_double_click(page: Page) -> None:
     page.begin("segment A 0 0 40 3\n", "open")
     page.select("A")
     page.wait("horizontal", "return document.querySelector('#offers [data-word=horizontal]')")
-    page.press_twice("#offers [data-word=horizontal]")
+    with page.held("edit"):
+        page.press_twice("#offers [data-word=horizontal]")
     wait_for("it is asked for", lambda: "horizontal A" in page.text())
     assert lines_of(page, "horizontal A") == 1
 
