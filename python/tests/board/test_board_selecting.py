@@ -84,6 +84,33 @@ def test_the_right_button_pans(page: Page, at) -> None:
     assert (round(after[0] - before[0]), round(after[1] - before[1])) == (40, 30)
 
 
+def test_the_space_bar_pans(page: Page, at) -> None:
+    """And nothing is boxed or selected by it."""
+    before = page.at("A.start")
+    page.keys(Keys.ESCAPE)
+    page.press(200, 300, to=(240, 330), held=Keys.SPACE)
+    page.settled()
+    after = page.at("A.start")
+    assert (round(after[0] - before[0]), round(after[1] - before[1])) == (40, 30)
+    shows(page)
+
+
+def test_the_wheel_zooms_about_the_hand(page: Page, at) -> None:
+    """What lies under it stays there, and all else goes away from it by one factor."""
+    (x, y), (u, v) = page.at("A.start"), page.at("A.end")
+    left, top = page.driver.execute_script(
+        "const { x, y } = document.getElementById('board').getBoundingClientRect();"
+        "return [x, y];")
+    page.driver.execute_cdp_cmd("Input.dispatchMouseEvent", {
+        "type": "mouseWheel", "x": left + x, "y": top + y, "deltaX": 0, "deltaY": -240})
+    wait_for("it zooms", lambda: page.at("A.end")[0] > u + 20)
+    page.settled()
+    (a, b), (c, d) = page.at("A.start"), page.at("A.end")
+    assert (a, b) == pytest.approx((x, y), abs=1)
+    factor = (c - a) / (u - x)
+    assert factor > 1.2 and d - b == pytest.approx(factor * (v - y), abs=1)
+
+
 def test_all_of_a_kind_and_all(page: Page, at) -> None:
     page.select("C")
     page.keys("y")
