@@ -34,6 +34,8 @@ VALUES = ("10", "25", "60deg", "1/2", "0.5 in", "-3", "", "forty", "7.25", "W1/2
 LINES = ("point Q 33 44", "circle Q 20 20 5", "value W1 40", "# a note", "length", "point Q",
          "check Gap distance Origin Q 1 .. 90", "x Q 30", "nonsense here")
 """Lines that a hand writes; some can't be read, some only where another stands."""
+MANY = 18
+"""Of more shapes than these a hand deletes some ever more often."""
 DRAWN = (DRAWINGS / "plate-by-values.drawing", DRAWINGS / "open-four-bar.drawing",
          FILES / "plate-with-loose-hole.FCStd", FILES / "slot.slvs", FILES / "bracket.FCStd")
 """Files that a hand opens."""
@@ -92,13 +94,18 @@ class Hand:
             self._hover: 2, self._wheel: 1, self._pan: 1, self._fingers: 1, self._key: 7,
             self._tool: 5, self._copies: 3, self._count: 1, self._offer: 6, self._dimension: 2,
             self._label: 2, self._twice: 1, self._slide: 2, self._slide_by_hand: 2, self._tab: 2,
-            self._panel: 3, self._value: 2, self._write: 2, self._head: 2, self._begin: 0.4}
+            self._panel: 3, self._value: 2, self._write: 2, self._head: 2, self._begin: 0.4,
+            self._less: 0.5 + max(0, self.page.count("#board .edges [data-name]") - MANY)}
 
     def give_up(self) -> None:
-        """Lets go of all, and selects nothing; the pointer lies where nothing is."""
+        """Lets go of all, and selects nothing; the pointer and the focus lie where nothing is, and
+        the panel is open at its text."""
         for _ in range(6):
-            ActionChains(self.page.driver, duration=10).send_keys(Keys.ESCAPE).perform()
+            pressed(self.page, Keys.ESCAPE)
         self.page.hover(3, 3)
+        if self.page.count("body.folded"):
+            self.page.click("#fold")
+        self.page.click("#tab-text")
         self.page.driver.execute_script("document.activeElement.blur()")
 
     # Where it goes.
@@ -217,7 +224,8 @@ class Hand:
 
     def _copies(self) -> None:
         """Draws again what it selects."""
-        keys = "v", self.chance.choice((Keys.CONTROL + "a", "]")), self.chance.choice(COPIES)
+        which = self.chance.choice((Keys.CONTROL + "a", "]", "[", "["))
+        keys = "v", which, self.chance.choice(COPIES)
         at = self._edge_or_point() if self.chance.random() < 0.3 else None
         self.done.append(f"copies {keys}")
         for key in keys:
@@ -235,6 +243,17 @@ class Hand:
                 with suppress(*GONE):
                     node.send_keys(Keys.CONTROL, "a")
                     node.send_keys(number or Keys.DELETE, Keys.ENTER)
+
+    def _less(self) -> None:
+        """Deletes what lies in a box, or all; the more often the more there is, so that what is
+        asked about the drawing stays quick."""
+        pressed(self.page, "v")
+        if self.chance.random() < 0.2:
+            pressed(self.page, Keys.CONTROL + "a")
+        else:
+            self._press("box", self._place(), to=self._place())
+        self.done.append("delete")
+        pressed(self.page, Keys.DELETE)
 
     # What is offered, and dimensions.
 

@@ -51,7 +51,6 @@ def test_a_hand_that_does_anything(page: Page, board: Served, program: Program, 
 def looked_at(page: Page, program: Program, hand: Hand, where: str) -> None:
     """The hand gives all up: the page shows what its text is answered, and told of no error."""
     hand.give_up()
-    page.click("#tab-text") if page.count("body:not(.folded)") else page.click("#fold")
     text = settle(page)
     last = f"{where}: {hand.done[-40:]}\n{text}"
     assert page.faults() == [], last
