@@ -84,6 +84,9 @@ class Hand:
         if self.page.count("dialog[open]"):
             self._answer()
             return
+        if self.is_refused() and self.chance.random() < 0.3:
+            self._undo()
+            return
         acts = self._acts()
         self.chance.choices(list(acts), list(acts.values()))[0]()
 
@@ -97,15 +100,27 @@ class Hand:
             self._panel: 3, self._value: 2, self._write: 2, self._head: 2, self._begin: 0.4,
             self._less: 0.5 + max(0, self.page.count("#board .edges [data-name]") - MANY)}
 
+    def is_refused(self) -> bool:
+        """Whether the text can't be read: then no tool draws."""
+        return self.page.count("#verdict[data-verdict=refused]") > 0
+
+    def _undo(self) -> None:
+        self.done.append("undo what can't be read")
+        pressed(self.page, Keys.CONTROL + "z")
+
     def give_up(self) -> None:
-        """Lets go of all, and selects nothing; the pointer and the focus lie where nothing is, and
-        the panel is open at its text."""
+        """Lets go of all, and selects nothing; the pointer and the focus lie where nothing is, the
+        panel is open at its text, and that can be read."""
         for _ in range(6):
             pressed(self.page, Keys.ESCAPE)
         self.page.hover(3, 3)
         if self.page.count("body.folded"):
             self.page.click("#fold")
         self.page.click("#tab-text")
+        settle(self.page)
+        while self.is_refused() and not self.page.count("#undo[aria-disabled=true]"):
+            self._undo()
+            settle(self.page)
         self.page.driver.execute_script("document.activeElement.blur()")
 
     # Where it goes.
