@@ -110,6 +110,14 @@ def test_numbers_keep_their_size_at_every_zoom(page: Page) -> None:
             (whole["width"], whole["height"]), abs=0.5)
 
 
+def test_a_dimension_is_an_expression_of_a_value(page: Page) -> None:
+    page.begin("value Width 80\nsegment A 0 0 30 0\n", "open")
+    page.select("A")
+    page.ask("length", "Width/2")
+    page.verdict("well")
+    assert page.text().endswith("length A Width/2\n")
+
+
 def test_a_dimension_is_only_measured(page: Page) -> None:
     page.begin("segment A 0 0 30 0\nsegment B A.end 30 40\n", "open")
     page.select("A.start", "B.end")
