@@ -4,6 +4,8 @@ from __future__ import annotations
 
 import math
 import time
+from collections.abc import Iterator
+from contextlib import contextmanager
 from dataclasses import dataclass
 
 from boards import PATIENCE
@@ -71,6 +73,19 @@ class Sight:
     edges: dict[str, str]
     marks: list[list[object]]
     panel: dict[str, list[str]]
+
+
+@contextmanager
+def counting(page: Page) -> Iterator[None]:
+    """Has a page keep its calls that are on their way, from its first one on where it is loaded
+    anew."""
+    told = page.driver.execute_cdp_cmd(
+        "Page.addScriptToEvaluateOnNewDocument", {"source": COUNTS})
+    page.driver.execute_script(COUNTS)
+    try:
+        yield
+    finally:
+        page.driver.execute_cdp_cmd("Page.removeScriptToEvaluateOnNewDocument", told)
 
 
 def settle(page: Page) -> str:

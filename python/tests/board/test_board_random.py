@@ -9,7 +9,7 @@ import random
 
 import pytest
 
-from all_shown import COUNTS, differences, settle, sight_of, stale_in
+from all_shown import counting, differences, settle, sight_of, stale_in
 from any_hand import Hand
 from boards import DRAWINGS, Served, wait_for
 from browsing import Page
@@ -33,19 +33,19 @@ MOST_STEPS = 500
 
 @pytest.mark.parametrize("seed", SEEDS)
 def test_a_hand_that_does_anything(page: Page, board: Served, program: Program, seed: int) -> None:
-    page.driver.execute_script(COUNTS)
     hand = Hand(page, random.Random(seed))
     begun = BEGUN[seed % len(BEGUN)]
-    if begun:
-        page.type(begun.read_text(encoding="utf-8"))
-        page.wait("a drawing", "return document.querySelector('.edges [data-name]')")
-        page.keys("0")
-        page.settled()
-    for number in range(1, ACTIONS + 1):
-        hand.act()
-        if number % LOOK == 0 or number == ACTIONS:
-            looked_at(page, program, hand, f"seed {seed}, action {number}")
-    kept(page, board, hand)
+    with counting(page):
+        if begun:
+            page.type(begun.read_text(encoding="utf-8"))
+            page.wait("a drawing", "return document.querySelector('.edges [data-name]')")
+            page.keys("0")
+            page.settled()
+        for number in range(1, ACTIONS + 1):
+            hand.act()
+            if number % LOOK == 0 or number == ACTIONS:
+                looked_at(page, program, hand, f"seed {seed}, action {number}")
+        kept(page, board, hand)
 
 
 def looked_at(page: Page, program: Program, hand: Hand, where: str) -> None:
@@ -81,6 +81,6 @@ def kept(page: Page, board: Served, hand: Hand) -> None:
     board.workers.stop()
     page.driver.refresh()
     page.wait("the page", "return document.getElementById('verdict').dataset.verdict")
-    page.driver.execute_script(COUNTS)
-    assert settle(page) == text and differences(before, sight_of(page)) == [], hand.done
+    found = differences(before, sight_of(page))
+    assert not found, "\n".join([*found, f"{hand.done[-40:]}", text])
     assert page.faults() == []
