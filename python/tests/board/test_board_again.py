@@ -183,7 +183,7 @@ def test_beside_a_point_there_is_nothing(page: Page, board_of) -> None:
     page.press(*at((20, 22)))
     field = page.wait("a size", "return document.querySelector('#value[open] input')")
     field.send_keys(Keys.ENTER)
-    wait_for("why not", lambda: "outline" in page.told("hint"))
+    wait_for("why not", lambda: page.told("hint").startswith("'P' is no edge"))
     assert page.text() == before
 
 
