@@ -172,10 +172,12 @@ def aside(points: dict[str, list[float]], places: dict[str, list[float]]) -> dic
 
 
 def differences(one: Sight, other: Sight) -> list[str]:
-    """What two sights of a drawing don't have alike, within a pixel."""
+    """What two sights of a drawing don't have alike, within a pixel; where nothing is drawn the
+    origin may lie anywhere."""
     found = [f"{what}: {first!r}, and then {second!r}" for what, first, second in (
         ("text", one.text, other.text), ("edges", one.edges, other.edges),
         ("points", sorted(one.points), sorted(other.points)), ("marks", one.marks, other.marks),
         *((part, one.panel[part], other.panel[part]) for part in one.panel)) if first != second]
+    points = one.points if one.edges else {}
     return found or [f"{name}: {at}, and then {other.points[name]}"
-                     for name, at in one.points.items() if math.dist(at, other.points[name]) > 1.5]
+                     for name, at in points.items() if math.dist(at, other.points[name]) > 1.5]
