@@ -11,7 +11,7 @@ import pytest
 
 from all_shown import counting, differences, settle, sight_of, stale_in
 from any_hand import Hand
-from boards import DRAWINGS, Served, wait_for
+from boards import DRAWINGS, Served
 from browsing import Page
 
 from pertxogai.program import Program
@@ -57,26 +57,33 @@ def looked_at(page: Page, program: Program, hand: Hand, where: str) -> None:
     assert stale_in(page, program, text) == [], last
 
 
-def again(page: Page, button: str) -> str:
-    """Clicks a button of the history, and waits for the other text; gives that."""
-    before = page.text()
-    page.driver.execute_script(f"document.getElementById('{button}').click()")
-    wait_for(f"{button} is done", lambda: page.text() != before)
-    return page.text()
+STEP = """
+const [button, done] = arguments, area = document.getElementById('text'), before = area.value;
+document.getElementById(button).click();
+const look = () => {
+  if (area.value !== before) done([area.value, document.getElementById('undo').ariaDisabled]);
+  else setTimeout(look, 5);
+};
+look();
+"""
+"""Clicks a button of the history, and waits for the other text; gives that, and whether there is
+nothing more to be undone."""
 
 
 def kept(page: Page, board: Served, hand: Hand) -> None:
     """Undoes all, and does as much again: the hand may have undone its last changes itself, and
     these stay undone. Then loads the page anew, with workers that know nothing. All is the same
     each time."""
-    text = settle(page)
+    text, is_first = settle(page), page.count("#undo[aria-disabled=true]") > 0
     page.driver.execute_script("document.getElementById('text').focus()")  # It is written at once.
     texts = [text]
-    while len(texts) <= MOST_STEPS and not page.count("#undo[aria-disabled=true]"):
-        texts.append(again(page, "undo"))
+    while not is_first:
+        before, disabled = page.driver.execute_async_script(STEP, "undo")
+        texts.append(before)
+        is_first = disabled == "true"
     assert texts[-1] == hand.first or len(texts) == MOST_STEPS, hand.done
     for before in reversed(texts[:-1]):
-        assert again(page, "redo") == before, hand.done
+        assert page.driver.execute_async_script(STEP, "redo")[0] == before, hand.done
     before = sight_of(page)
     board.workers.stop()
     page.driver.refresh()
