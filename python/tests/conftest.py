@@ -1,6 +1,7 @@
 """What several tests need: the program under test, the worked rows, and a board in a browser."""
 from __future__ import annotations
 
+import gc
 import re
 from collections.abc import Iterator
 from dataclasses import dataclass
@@ -93,6 +94,16 @@ NEW_ROWS = COMPLETE_ROWS + MEASURE_ROWS + WHY_ROWS
 FRAME_ROWS = read_rows("frame/*.row")
 """Rows of a program that has the key `frame`."""
 EXAMPLES = sorted((TOP / "examples").rglob("*.sketch"))
+
+
+@pytest.hookimpl(hookwrapper=True)
+def pytest_collection() -> Iterator[None]:
+    """Leaves the thousands of collected tests out of garbage collection, which would look through
+    them again and again."""
+    gc.disable()
+    yield
+    gc.freeze()
+    gc.enable()
 
 
 @pytest.hookimpl(tryfirst=True)  # xdist reads the groups in the same hook.
