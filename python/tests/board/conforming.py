@@ -4,6 +4,7 @@ from __future__ import annotations
 import types
 import typing
 from collections.abc import Iterator
+from functools import cache
 
 
 def unlike(value: object, hint: object, where: str = "it") -> Iterator[str]:
@@ -35,10 +36,7 @@ def _unlike_message(value: object, hint: object, where: str) -> Iterator[str]:
     if not isinstance(value, dict):
         yield f"{where} is no object: {value!r}"
         return
-    hints = typing.get_type_hints(hint, include_extras=True)
-    optional = getattr(hint, "__optional_keys__")
-    needed = {name for name, each in hints.items()
-              if name not in optional and typing.get_origin(each) is not typing.NotRequired}
+    hints, needed = _fields(hint)
     for name in sorted(needed - value.keys()):
         yield f"{where} lacks {name}"
     for name, each in value.items():
@@ -46,6 +44,16 @@ def _unlike_message(value: object, hint: object, where: str) -> Iterator[str]:
             yield f"{where} has {name} besides: {each!r}"
         else:
             yield from unlike(each, hints[name], f"{where}.{name}")
+
+
+@cache
+def _fields(message: object) -> tuple[dict[str, object], set[str]]:
+    """The types of a message's fields by their names, and the names of those that it needs."""
+    hints = typing.get_type_hints(message, include_extras=True)
+    optional = getattr(message, "__optional_keys__")
+    needed = {name for name, each in hints.items()
+              if name not in optional and typing.get_origin(each) is not typing.NotRequired}
+    return hints, needed
 
 
 def _unlike_list(value: object, hint: object, where: str) -> Iterator[str]:
