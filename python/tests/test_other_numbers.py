@@ -2,7 +2,7 @@
 from __future__ import annotations
 
 import random
-from collections.abc import Iterator
+from collections.abc import Iterator, Sequence
 from dataclasses import replace
 from fractions import Fraction
 
@@ -15,11 +15,13 @@ from pertxogai.judging.edges import Edges
 from pertxogai.judging.measure import Solution
 from pertxogai.judging.mirrored import Pieces, mirrored
 from pertxogai.language import NotHeld
-from pertxogai.spelling import READINGS, Style
+from pertxogai.spelling import READINGS, Interpretation, Style
 from pertxogai.spelling.reading import interpreted
 
 DRAWINGS = sorted((TOP / "python" / "tests" / "drawings").glob("*.drawing"))
 FACTORS = (Fraction(1, 7), Fraction(9, 10), 2)
+ANEW = (None,) * len(READINGS)
+"""For each reading, that it takes over nothing."""
 
 
 def with_other_numbers(drawing: Drawing) -> Iterator[Drawing]:
@@ -37,10 +39,14 @@ def anew(drawing: Drawing) -> Drawing:
     return replace(drawing)
 
 
-def texts(drawing: Drawing, known: Drawing | None) -> Iterator[list[str]]:
-    """How each reading is spelled in each style, from what a known drawing is spelled as, or not."""
-    for reading in READINGS:
-        before = None if known is None else interpreted(known, reading)
+def interpretations(drawing: Drawing) -> list[Interpretation]:
+    """How each reading takes a drawing."""
+    return [interpreted(drawing, reading) for reading in READINGS]
+
+
+def texts(drawing: Drawing, known: Sequence[Interpretation | None]) -> Iterator[list[str]]:
+    """How each reading is spelled in each style, from how it takes a known drawing, or not."""
+    for reading, before in zip(READINGS, known, strict=True):
         found = interpreted(drawing, reading, before)
         try:
             yield [found.spelled(style).sketch.text() for style in Style]
@@ -51,8 +57,9 @@ def texts(drawing: Drawing, known: Drawing | None) -> Iterator[list[str]]:
 @pytest.mark.parametrize("path", DRAWINGS, ids=lambda it: it.stem)
 def test_a_drawing_is_spelled_as_anew(path):
     drawing = read_drawing(path.read_text())
+    known = interpretations(drawing)
     for other in [*with_other_numbers(drawing)][::5]:
-        assert [*texts(other, drawing)] == [*texts(anew(other), None)]
+        assert [*texts(other, known)] == [*texts(anew(other), ANEW)]
 
 
 def test_a_length_that_comes_to_nothing_is_spelled_as_anew():
@@ -61,7 +68,7 @@ def test_a_length_that_comes_to_nothing_is_spelled_as_anew():
                            "y A B 9\ndistance A C 20\ndistance B C 12\n")
     (other,) = (each for each in with_other_numbers(drawing)
                 if each.constraints[1].value_um == 0)
-    assert [*texts(other, drawing)] == [*texts(anew(other), None)]
+    assert [*texts(other, interpretations(drawing))] == [*texts(anew(other), ANEW)]
 
 
 def moved(drawing: Drawing, chance: random.Random) -> Solution:
