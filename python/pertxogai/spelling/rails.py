@@ -71,6 +71,8 @@ class Rails:
         self._run_numbers: set[int] = set()
         if not style.solves():
             self._take()
+        self._offsets: dict[Rail, Number] = {}
+        self._owners: dict[tuple[Coordinate | None, Coordinate], frozenset[Owner]] = {}
         self.members: dict[Rail, dict[Coordinate, Number]] = {}
         for coordinate in _coordinates(axes.equations):
             rest = self._system.value(coordinate)
@@ -86,7 +88,7 @@ class Rails:
     def of(self, axes: Axes) -> Rails:
         """The same rails, for axes that say the same."""
         other = copy(self)
-        other.axes = axes
+        other.axes, other._owners = axes, {}
         return other
 
     def _all_sizes(self) -> list[Hashable]:
@@ -130,14 +132,20 @@ class Rails:
         are."""
         if rail.datum():
             return 0
-        counted = Counter(self.members[rail].values())
-        return max(counted, key=lambda value: counted[value])
+        if rail not in self._offsets:
+            counted = Counter(self.members[rail].values())
+            self._offsets[rail] = max(counted, key=lambda value: counted[value])
+        return self._offsets[rail]
 
     def owners(self, first: Coordinate | None, second: Coordinate) -> frozenset[Owner]:
         """The constraints that say how far the second coordinate is from the first, or from the
         datum."""
-        form = Form.of(second) - (Form() if first is None else Form.of(first))
-        return _owners(self.axes.equations[mark] for mark in self._system.sources(form))
+        ends = first, second
+        if ends not in self._owners:
+            form = Form.of(second) - (Form() if first is None else Form.of(first))
+            sources = self._system.sources(form)
+            self._owners[ends] = _owners(self.axes.equations[mark] for mark in sources)
+        return self._owners[ends]
 
     def number(self, form: Form) -> Number | None:
         """The value of a form of sizes, in micrometres; None if it isn't known."""

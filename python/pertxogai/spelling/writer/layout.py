@@ -86,10 +86,10 @@ class Layout:
                     self.draw(track)
 
     def _settle_rail(self, rail: Rail) -> None:
-        (a, b), least = self.upright(rail), self.rails.offset(rail)
+        (a, b), least, at = self.upright(rail), self.rails.offset(rail), self.rail_at(rail)
         for coordinate, offset in self.rails.members[rail].items():
             x, y = self.ways[coordinate.knot]
-            height, off = offset - least, self.height(rail, coordinate.knot)
+            height, off = offset - least, a * x + b * y - at
             if is_behind(off, height):
                 self.crossed.add(rail)
                 shift = height - off
