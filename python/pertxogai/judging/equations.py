@@ -63,6 +63,17 @@ class Unknowns:
             found[place] = self.drawing.drawn_radius_um(name) / UM_PER_MM
         return found
 
+    @cached_property
+    def _wanted(self) -> dict[AngleBetween, tuple[Fraction, Fraction]]:
+        return {}
+
+    def wanted(self, angle: AngleBetween) -> tuple[Fraction, Fraction]:
+        """How far ahead and to the left of its first line the second of an angle goes, of any
+        length. It's the same at each vector, and so worked out once."""
+        if angle not in self._wanted:
+            self._wanted[angle] = way_of(turn(self.drawing, angle))
+        return self._wanted[angle]
+
     def pins_the_origin(self) -> bool:
         """Whether a point of a shape is the origin itself."""
         return any(ref not in self.points for ref in self.drawing.points())
@@ -258,7 +269,7 @@ class Plane(Generic[N]):
 
     def _off_turn(self, first: JetVector[N], angle: AngleBetween, second: JetVector[N]) -> Jet[N]:
         """By how much the second way isn't the first, turned."""
-        ahead, left = (self.number(each) for each in way_of(turn(self.drawing, angle)))
+        ahead, left = map(self.number, self.unknowns.wanted(angle))
         wanted = (first[0] * ahead - first[1] * left, first[0] * left + first[1] * ahead)
         return cross(wanted, second) / (self.size(wanted) * self.size(second))
 
