@@ -66,20 +66,21 @@ def completed(told: dict, known: dict) -> dict:
             for what, things in told.items()}
 
 
-def sights(old: Drawing, new: Drawing) -> Iterator[tuple[Sight, Sight, Sight]]:
+def sights(drawn: Sight, placed: Sight, new: Drawing) -> Iterator[tuple[Sight, Sight, Sight]]:
     """A sight of the drawing before, that of the new one by it, and that of the new one by itself:
     each where it is drawn, and as it is placed."""
-    for shown, now in ((None, None), (None, as_drawn(new)), (as_drawn(old), None),
-                       (as_drawn(old), as_drawn(new)), (as_drawn(old), as_drawn(new, 9_000_000))):
-        before = sight_of(old, shown)
-        yield before, sight_of(new, now, before), sight_of(new, now)
+    for now, befores in ((None, (drawn, placed)), (as_drawn(new), (drawn, placed)),
+                         (as_drawn(new, 9_000_000), (placed,))):
+        alone = sight_of(new, now)
+        yield from ((before, sight_of(new, now, before), alone) for before in befores)
 
 
 @pytest.mark.parametrize("path", PATHS, ids=lambda path: path.stem)
 def test_an_edit_of_each_kind(path: Path) -> None:
     drawing = read_drawing(path.read_text(encoding="utf-8"))
+    drawn, placed = sight_of(drawing, None), sight_of(drawing, as_drawn(drawing))
     for new in edited(drawing):
-        for before, found, alone in sights(drawing, new):
+        for before, found, alone in sights(drawn, placed, new):
             assert found == alone
             assert completed(found.changed(before), before.told()) == alone.told()
 
