@@ -76,3 +76,15 @@ def test_two_angles_that_lead_to_one_line_are_both_told_finely(program: Solver) 
         "angle A B 123.6877deg\nangle C B 64.7777deg\n")
     asked = ask(Question(drawing, program), axes_of(drawing), Style.VALUES_NEAR, Care(fine=True))
     assert asked.verdict is Verdict.WELL and not asked.spelled.near
+
+
+@pytest.mark.parametrize("degrees", ["151.699", "151.6991", "151.6992"])
+def test_a_line_of_help_turns_nothing_over(degrees: str, program: Solver) -> None:
+    """West is drawn at 61.69924 degrees to South, the arc tangent of 26/14, so up to 151.69924 it
+    runs as it is drawn."""
+    text = ("segment South 0 0 31 0\nsegment East South.end 44 27\nsegment North East.end 14 26\n"
+            "segment West North.end South.start\nequal South East North West\nlength South 30\n"
+            f"angle South West {degrees}deg\n")
+    x, y = placed(text, PointRef("West", Which.START), program)
+    turn = radians(float(degrees))
+    assert abs(x - 30e6 * cos(turn)) < 50 and abs(y - 30e6 * sin(turn)) < 50

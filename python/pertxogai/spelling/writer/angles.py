@@ -1,13 +1,13 @@
 """The lines of each frame tied by angles."""
 from __future__ import annotations
 
+from cmath import rect
 from fractions import Fraction
 from functools import partial
-from math import cos, sin
 
 from pertxogai.classes import Classes
 from pertxogai.spelling.axes import Coordinate
-from pertxogai.spelling.drafts import Draft, Owners, said_by
+from pertxogai.spelling.drafts import Draft, Owners, PointUm, said_by
 from pertxogai.spelling.facts import Between, Knot, Line, Owner
 from pertxogai.spelling.lean import Lean
 from pertxogai.spelling.rails import Rail
@@ -105,14 +105,29 @@ class Angles:
             return
         between = self._free_name(f"H{names[1]}")
         knot = self._point_between(names, second)
-        (x, y), (u, v) = layout.sheet.lines[names[1]]
-        c, s = Fraction(cos(halves[1].radians())), Fraction(sin(halves[1].radians()))
-        a, b = (u - x) * c + (v - y) * s, (v - y) * c - (u - x) * s
         x, y = layout.ways[knot]
+        a, b = self._way_between(names, halves)
         layout.sheet.lines[between] = ((x, y), (x + a, y + b))
         layout.say(layout.points[knot], between, said)
         layout.sheet.drafts.append(Draft(names[0], between, said, ratio=halves[0].ratio()))
         layout.sheet.drafts.append(Draft(between, names[1], said, ratio=halves[1].ratio()))
+
+    def _way_between(self, names: tuple[str, str], halves: tuple[Lean, Lean]) -> PointUm:
+        """How the line of help between two lines is drawn, as long as the second: half-way between
+        where each of them has it. Drawn by one alone, and rounded, it could turn the other over
+        where that is drawn square to what is told."""
+        one, other = (self._drawn_way(name) for name in names)
+        length, one, other = abs(other), one / abs(one), other / abs(other)
+        one *= rect(1, halves[0].radians())
+        other *= rect(1, -halves[1].radians())
+        both = one + other if (one * other.conjugate()).real >= 0 else one - other
+        way = both / abs(both) * length
+        return Fraction(way.real), Fraction(way.imag)
+
+    def _drawn_way(self, name: str) -> complex:
+        """From the first place of a line to its second, as it is drawn."""
+        (x, y), (u, v) = self.layout.sheet.lines[name]
+        return complex(u - x, v - y)
 
     def _free_name(self, name: str) -> str:
         """A name of a line of help that no other has: two angles may lead to one line."""
