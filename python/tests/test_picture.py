@@ -338,6 +338,20 @@ def test_the_bar_is_round_and_takes_at_most_a_third(
     assert (max(spots) - min(spots)) / 96 * 25.4 == pytest.approx(length * float(scale), abs=0.01)
 
 
+@pytest.mark.parametrize("name", ["triangle", "square", "d-shaft", "bent-sheet"])
+@pytest.mark.parametrize("scale", [1, 2, 5])
+def test_no_name_is_cut_off_on_a_page_that_is_little_wider(name: str, scale: int) -> None:
+    """A name of 10 letters, 14 pixels high, is 81 wide; the least page is 92."""
+    drawing = read_drawing((TOP / f"python/tests/drawings/{name}.drawing").read_text())
+    svg = picture_of_designed(drawing, None, name, Marking()).to_scale(Fraction(1, scale)).svg
+    root = ElementTree.fromstring(svg)
+    _, _, width, height = map(float, root.get("viewBox", "").split())
+    for it in root.iter(f"{SVG}text"):
+        half = len(it.text or "") * 14 * 0.58 / 2
+        x, y = (float(it.get(axis, 0)) for axis in "xy")
+        assert it.get("class") != "name" or (half <= x <= width - half and 9 <= y <= height - 2)
+
+
 def test_no_name_is_cut_off_at_the_edge_of_the_page() -> None:
     """The name of a corner of 8 mm, beside which a hole and its dimensions stand, is wider than
     the margin: it stands within the plate, over other lines where there is no other room."""

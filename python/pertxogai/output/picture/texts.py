@@ -11,6 +11,8 @@ from pertxogai.output.picture.page import Figure, Page
 from pertxogai.output.picture.plane import Box, between, crosses, overlaps, reach, unit
 
 WIDE_LETTER = 0.58
+EDGE = 2
+"""No text stands nearer to the edge of the page, in pixels."""
 EIGHTHS = [(math.cos(turn * math.pi / 4), math.sin(turn * math.pi / 4)) for turn in range(8)]
 Places = Callable[[float, float], Sequence[PointMm]]
 
@@ -71,8 +73,24 @@ class Texts:
     ) -> None:
         wide, tall = len(words) * size * WIDE_LETTER, float(size)
         place, box = self._best(places(wide, tall), wide, tall, named)
+        if self._is_outside(box):
+            place = self._inside(place, wide, tall)
+            box = _box(place, wide, tall)
         self.boxes.add_box(box, box)
         self.written.append(Text(words, (place[0], place[1] + 0.35 * tall), size, kind, ink))
+
+    def _is_outside(self, box: Box) -> bool:
+        """Whether a text in a box would be cut off at the edge of the page, or touch that."""
+        return (
+            min(box[0], box[1]) < EDGE
+            or box[2] > self.page.width - EDGE
+            or box[3] > self.page.height - EDGE
+        )
+
+    def _inside(self, place: PointMm, wide: float, tall: float) -> PointMm:
+        """The nearest place at which a text isn't cut off, where the page is wide enough."""
+        (x, y), page = place, self.page
+        return _between_edges(x, wide, page.width), _between_edges(y, tall, page.height)
 
     def _best(
         self, places: Sequence[PointMm], wide: float, tall: float, named: Figure | None
@@ -92,17 +110,12 @@ class Texts:
         """How much a text in a box would cover, or mislead."""
         wide = (box[0] - 3, box[1], box[2] + 3, box[3])
         texts = sum(overlaps(wide, it) for it in self.boxes.near(wide))
-        outside = (
-            min(box[0], box[1]) < 2
-            or box[2] > self.page.width - 2
-            or box[3] > self.page.height - 2
-        )
         figures = self.figures.near(box)
         strokes = sum(_is_covered(it, box) for it in figures)
         strange = named is not None and any(_misleads(place, named, it) for it in figures)
         return (
             5 * texts
-            + 40 * outside
+            + 40 * self._is_outside(box)
             + 2 * strokes
             + 3 * strange
             + sum(crosses(*it, box) for it in self.bars.near(box))
@@ -163,6 +176,12 @@ def _add_figure(cells: Cells[Figure], figure: Figure) -> None:
 def _box(place: PointMm, wide: float, tall: float) -> Box:
     x, y = place
     return x - wide / 2, y - tall / 2, x + wide / 2, y + tall / 2
+
+
+def _between_edges(at: float, long: float, page: float) -> float:
+    """The middle of a text that is so long, within a page; where it was, on a shorter page."""
+    least, most = long / 2 + EDGE, page - long / 2 - EDGE
+    return at if least > most else min(max(at, least), most)
 
 
 def _beyond(place: PointMm, way: PointMm, far: float, wide: float, tall: float) -> PointMm:
