@@ -53,6 +53,22 @@ def test_units_are_millimetres() -> None:
     assert document.units == 4 and document.header["$MEASUREMENT"] == 1
 
 
+@pytest.mark.parametrize("release", Release)
+@pytest.mark.parametrize("mark, low, high", [
+    (Dot((1, 2)), (1, 2), (1, 2)), (Ring((10, 20), 5), (5, 15), (15, 25)),
+    (Stroke((3, 4), (-1, 7)), (-1, 4), (3, 7)),
+    # Over the top of its circle, three quarters of it but for the left below, and less than one.
+    (Bow((0, 0), (3, 4), (-3, 4)), (-3, 4), (3, 5)),
+    (Bow((0, 0), (0, -5), (-5, 0)), (-5, -5), (5, 5)),
+    (Bow((0, 0), (4, 3), (3, 4)), (3, 3), (4, 4)),
+    # Nearly all of it: from below the right to above it, the other way round.
+    (Bow((0, 0), (4, 3), (4, -3)), (-5, -5), (4, 5))])
+def test_the_header_says_from_where_to_where_the_marks_reach(release, mark, low, high) -> None:
+    header = ezdxf.read(io.StringIO(dxf_text([mark], release))).header
+    assert tuple(header["$EXTMIN"])[:2] == pytest.approx(low)
+    assert tuple(header["$EXTMAX"])[:2] == pytest.approx(high)
+
+
 def test_the_programs_own_entities() -> None:
     marks = marks_of(
         [PointEntity(1_000_000, -1), LineEntity(0, 0, 5_000_000, 1), CircleEntity(0, 0, 2_500_000)]

@@ -4,11 +4,11 @@ from __future__ import annotations
 
 import io
 import math
-from collections.abc import Iterable
+from collections.abc import Iterable, Iterator, Sequence
 from typing import TYPE_CHECKING
 
 from pertxogai.exits import MissingLibrary
-from pertxogai.output.picture.marks import Bow, Dot, Manner, Mark, Ring, Stroke
+from pertxogai.output.picture.marks import Bow, Dot, Manner, Mark, PointMm, Ring, Stroke
 from pertxogai.output.release import Release
 from pertxogai.program.reports import CircleEntity, Entity, PointEntity
 
@@ -34,9 +34,7 @@ def dxf_text(marks: Iterable[Mark], release: Release = Release.R2010) -> str:
     document.header["$MEASUREMENT"] = 1
     document.layers.add(EDGES)
     document.layers.add(CONSTRUCTION, linetype="DASHED", color=8)
-    space = document.modelspace()
-    for mark in marks:
-        _add(space, mark)
+    _draw(document.modelspace(), [*marks])
     text = io.StringIO()
     document.write(text)
     return text.getvalue()
@@ -56,6 +54,37 @@ def _mark(entity: Entity) -> Mark:
     return Stroke(
         (entity.x1_nm / 1e6, entity.y1_nm / 1e6), (entity.x2_nm / 1e6, entity.y2_nm / 1e6)
     )
+
+
+def _draw(space: Modelspace, marks: Sequence[Mark]) -> None:
+    """Draws all marks, and says from where to where they reach, by which viewers show them."""
+    for mark in marks:
+        _add(space, mark)
+    places = [place for mark in marks for place in _furthest(mark)]
+    if places:
+        xs, ys = zip(*places)
+        space.reset_extents((min(xs), min(ys), 0), (max(xs), max(ys), 0))
+
+
+def _furthest(mark: Mark) -> Iterator[PointMm]:
+    """Places of which the box is that of a mark."""
+    if isinstance(mark, Dot):
+        yield mark.at
+    elif isinstance(mark, Ring):
+        (x, y), radius = mark.centre, mark.radius
+        yield from ((x - radius, y - radius), (x + radius, y + radius))
+    else:
+        yield from (mark.start, mark.end)
+    if isinstance(mark, Bow):
+        yield from _turning(mark)
+
+
+def _turning(arc: Bow) -> Iterator[PointMm]:
+    """Where an arc is furthest to the right, up, to the left and down of its circle."""
+    (x, y), radius, (first, last) = arc.centre, math.dist(arc.centre, arc.start), _angles(arc)
+    for turn, (right, up) in enumerate(((1, 0), (0, 1), (-1, 0), (0, -1))):
+        if (90 * turn - first) % 360 <= (last - first) % 360:
+            yield x + right * radius, y + up * radius
 
 
 def _add(space: Modelspace, mark: Mark) -> None:
