@@ -752,6 +752,25 @@ def test_what_is_untried_is_listed_all_the_same(program, monkeypatch):
     assert {"Width", "Again"} <= {each.name for each in found.surplus}
     assert any(each.then is None and each.off is None for each in found.surplus)
     assert any(each.then is Then.WELL for each in found.surplus)
+    lines = [*drawing_lines(JudgedDrawing("plate", read_drawing(text), found))]
+    assert "  what to do: remove one of these, and judge again (by rank; some were tried)" in lines
+
+
+def test_some_are_tried_also_where_forty_have_to_go(program):
+    # Forty edges with two lengths each: without any one of these the rest is over still.
+    text = "".join(f"segment A{n} {99 * n} 0 {99 * n + 40} 0\nlength A{n} 40\nlength A{n} 41\n"
+                   for n in range(40))
+    found = judge(read_drawing(text), program)
+    assert any(each.then is Then.OVER for each in found.surplus)
+
+
+def test_what_the_program_alone_names_is_not_called_tried_or_by_rank(program, monkeypatch):
+    for module in ("judgement", "surplus"):
+        monkeypatch.setattr(f"pertxogai.judging.{module}.freedoms", lambda drawing: None)
+    drawing = read_drawing(PLATE + "Again: x PlateBottom.end 60.005\n")
+    lines = [*drawing_lines(JudgedDrawing("plate", drawing, judge(drawing, program)))]
+    assert ("  what to do: remove one of these, and judge again (named by the program; none was "
+            "tried)") in lines
 
 
 @pytest.mark.parametrize("text", [

@@ -468,6 +468,20 @@ def test_what_opens_a_drawing_stands_below_where_two_have_to_go(capsys, tmp_path
             "enough is removed") in lines[below:]
 
 
+def test_what_is_loose_beside_it_makes_nothing_open_a_drawing(capsys, tmp_path: Path) -> None:
+    """A plate with its width and its height told twice, and a hole without a height, which lacks
+    one whatever goes: no line of the plate opens more but that it lies at the origin."""
+    path = tmp_path / "plate.drawing"
+    path.write_text("rectangle P 0 0 100 50\ncoincident PBottom.start Origin\n"
+                    "Wide: length PBottom 100\nWide2: x PTop.start 100\nHigh: length PRight 50\n"
+                    "High2: y PTop.end 50\ncircle H 20 20 5\ndiameter H 10\nx H 20\n")
+    _, out, _ = judged(capsys, "judge", "--no-search", str(path))
+    assert "open once enough is removed" not in out and "removable too" not in out
+    for name in ("Wide", "Wide2", "High", "High2"):
+        assert f"    '{name}': redundant, off by 0 nm; without it the rest is over still\n" in out
+    assert "  a dimension is missing all the same (by rank): no dimension gives the y of H" in out
+
+
 def test_one_redundancy_is_told_once(capsys, tmp_path: Path) -> None:
     """That A is level follows from its line, the x axis; that P lies free is another matter."""
     path = tmp_path / "level.drawing"

@@ -73,7 +73,8 @@ class Surplus:
     beyond: Deviation | None = None
     """What of the rest is off the most, by its place in the drawing, where the rest isn't good."""
     lacks: bool = False
-    """Whether something is missing once those of `beside` have gone with it."""
+    """Whether the rest is open once those of `beside` have gone with it; where by rank something is
+    missing all the same, whether more is free then."""
 
     def rest(self, drawing: Drawing) -> str:
         """What the rest is without it, for people to read; empty if it wasn't tried."""
@@ -91,8 +92,8 @@ class Surplus:
         return self.off.amount <= self.limit.amount
 
     def opens(self) -> bool:
-        """Whether something is missing without it, and without what has to go beside it."""
-        return self.then is Then.OPEN or self.lacks
+        """Whether more is missing without it, and without what has to go beside it."""
+        return self.lacks
 
     def may_be_rounding(self) -> bool:
         """Whether rounded values move its deviation past the limit, so that it isn't known whether
@@ -236,8 +237,11 @@ class _Trials:
 
     def _may_stay(self, last: Sequence[int]) -> frozenset[int]:
         """Those of the last constraints that are too many by rank and not by the program: it is
-        told once what a line says that goes on from another's end and is collinear with it."""
+        told once what a line says that goes on from another's end and is collinear with it. None of
+        so many that no work would be left to try any."""
         stay: frozenset[int] = frozenset()
+        if len(last) * (TRIAL + len(self.drawing.constraints)) > WORK // 2:
+            return stay
         for number in last:
             gone = frozenset(last) - stay - {number}
             if gone and self._without(gone).verdict is not Verdict.OVER:
@@ -258,14 +262,15 @@ class _Trials:
     def _try(self, number: int, others: frozenset[int]) -> Surplus:
         """What is to be said of a constraint that goes beside others."""
         gone = others | {number}
-        asked = self._without(gone)
+        asked, is_freed = self._without(gone), bool(self.free.freed(gone))
         off = None
-        if asked.verdict is not Verdict.OVER and not self.free.freed(gone):
+        if asked.verdict is not Verdict.OVER and not is_freed:
             off = self._off(number, gone, asked)
         beyond = self._beyond(number)
         then = _then(self._without(frozenset({number}))) if beyond is None else Then.NOT_GOOD
         return Surplus(number, self.drawing.called(number), off, then, self.limit, beside=others,
-                       beyond=beyond, lacks=asked.verdict is Verdict.OPEN)
+                       beyond=beyond, lacks=asked.verdict is Verdict.OPEN
+                       and (is_freed or not self.free.lacks))
 
     def _beyond(self, gone: int) -> Deviation | None:
         """What is off the most where the rest without a constraint is placed, by more than the

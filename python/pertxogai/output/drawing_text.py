@@ -263,7 +263,7 @@ def _surplus_lines(judged: CountedDrawing) -> Iterator[str]:
     judgement = judged.judgement
     yield from (f"  over-constrained as measured, which isn't certified: {quoted(what)} can't be "
                 "encoded, and the rest is enough" for what in judgement.measured_off)
-    yield from _advice_on(judgement.surplus)
+    yield from _advice_on(judgement.surplus, judgement.free is not None)
     opening = [each for each in judgement.surplus if each.opens()]
     others = [each for each in judgement.surplus if not each.opens()]
     for each in others or opening:
@@ -311,15 +311,17 @@ def _off_text(each: Surplus) -> str:
     return f": {'redundant' if each.repeats() else 'conflicting'}, {off}"
 
 
-def _advice_on(surplus: Sequence[Surplus]) -> Iterator[str]:
-    """What to do with what is removable."""
+def _advice_on(surplus: Sequence[Surplus], is_ranked: bool) -> Iterator[str]:
+    """What to do with what is removable. is_ranked: whether that is known by rank."""
     if not surplus:
         return
     from pertxogai.judging.surplus import Then
 
+    untried = [each for each in surplus if each.then is None]
     if all(each.then is Then.OVER for each in surplus):
         yield "  what to do: more than one has to go; remove one of these, and judge again"
-    elif any(each.then is None for each in surplus):
-        yield "  what to do: remove one of these, and judge again (by rank; the first were tried)"
     else:
-        yield "  what to do: remove one of these, and judge again (by rank; each was tried)"
+        who = "by rank" if is_ranked else "named by the program"
+        tried = ("none was" if len(untried) == len(surplus) else
+                 "some were" if untried else "each was")
+        yield f"  what to do: remove one of these, and judge again ({who}; {tried} tried)"
