@@ -18,9 +18,12 @@ from pertxogai.fitting import CheckedFit, Fit, NoFit, fit
 from pertxogai.fitting.gauges import Gauge
 from pertxogai.fitting.placing import Offs, Placer, Unplaced
 from pertxogai.fitting.toleranced import Dimensions, Toleranced, moved
-from pertxogai.judging import judge_at_once
+from pertxogai.judging import Judgement, Question
+from pertxogai.judging.edited import EditedDrawing
+from pertxogai.judging.judgement import judge_edited, judge_trial
 from pertxogai.judging.measure import Limit
 from pertxogai.judging.remembering import Remembering
+from pertxogai.judging.trials import finer
 from pertxogai.program import Solver
 from plain_gauges import Plain
 
@@ -201,12 +204,12 @@ class _Search:
         return case.values
 
     def _try_anew(self, offs: Offs) -> None:
-        """Compares what was measured with what is in a drawing of its own, which may be told by
-        other ratios and so rounded otherwise; and there with what other formulas say."""
+        """Compares what was measured with what is in a drawing of its own, which is rounded
+        otherwise; and there with what other formulas say."""
         self.anew += 1
         by_number = {each.number: off for each, off in zip(self._dimensions, offs)}
         drawing = read_drawing(write_drawing(moved(self._found.drawing, by_number)))
-        solution = judge_at_once(drawing, self._program).solution
+        solution = _finest(drawing, self._program).solution
         values = self._values(offs)
         assert solution is not None and values is not None, drawing
         plain = Plain(drawing, solution)
@@ -215,6 +218,15 @@ class _Search:
             there *= self._plain[each.check.name]
             if _off(each, here, there) > ROUNDING or _off(each, here, value) > each.noise:
                 self.wrong[f"{each.check.line()}: {value} is {here}, or {there}, anew"] = None
+
+
+def _finest(drawing: Drawing, program: Solver) -> Judgement:
+    """A drawing judged by itself, with its angles told finely. `judge` may leave an angle at a near
+    ratio, some parts in 10^8 off, where no constraint is further off by that; but what is checked
+    may be, by more than its rounding."""
+    edited, question = EditedDrawing(drawing), Question(drawing, program)
+    judged = judge_edited(edited, program)
+    return judge_trial(edited, finer(question, judged.asked), question)
 
 
 def _off(found: CheckedFit, one: float, other: float) -> float:
