@@ -119,9 +119,10 @@ def test_a_judged_sketch_draws_itself_as_before_and_warns(program) -> None:
 
 
 def test_no_page_names_a_former_path() -> None:
-    """In back quotes, `a.b` or `pertxogai.a.b`; `a.js` is one of the board's own modules."""
+    """In back quotes, `a.b` or `pertxogai.a.b`; `a.js` is one of the board's own modules, and
+    `a.py` a file."""
     former = "|".join(re.escape(each) for each in sorted(_former.PATHS, key=len, reverse=True))
-    named = re.compile(rf"`(?:pertxogai\.(?:{former})|(?:{former})\.(?!js`)\w+)(?:\.\w+)*`")
+    named = re.compile(rf"`(?:pertxogai\.(?:{former})|(?:{former})\.(?!(?:js|py)`)\w+)(?:\.\w+)*`")
     pages = [*(TOP / "python").rglob("*.md"), *(TOP / "docs").glob("*.md"), TOP / "README.md"]
     said = {str(page.relative_to(TOP)): named.findall(page.read_text()) for page in pages}
     assert {page: names for page, names in said.items() if names} == {}

@@ -111,12 +111,13 @@ def test_an_angle_is_told_to_a_ten_thousandth_of_a_degree(program):
     text = ("segment Base 0 0 40 0\nsegment Arm Base.start 20 30\ncoincident Base.start Origin\n"
             "horizontal Base\nlength Base 40\nlength Arm 30\nTilt: angle Base Arm 60deg\n")
     found = range_of(text, "Tilt", program)
-    # The arm is drawn at 56.3 degrees, and a line runs the way that is nearer to its drawn one: from
-    # a right angle away from that on, so 146.3 degrees, the arm would run the other way.
+    # The arm is drawn at 56.30993 degrees, the arc tangent of 30/20, and a line runs the way that is
+    # nearer to its drawn one: from a right angle away from that on, so 146.30993 degrees, the arm
+    # would lie below the base.
     assert found.low.at == Fraction(1, 10_000)
     assert found.low.fault.kind is FaultKind.LIMIT
-    assert Fraction(146) < found.high.at < Fraction(147)
-    assert found.high.fault.text.startswith(("'Tilt' is off by", "Arm runs the other way"))
+    assert found.high.at == Fraction("146.3099")
+    assert found.high.fault.kind is FaultKind.DEPARTURE
 
 
 def test_a_value_goes_as_far_as_all_that_follows_from_it(program):
