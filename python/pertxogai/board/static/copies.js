@@ -229,8 +229,8 @@ export class Copies extends Work {
   }
 
   /**
-   * Each edge that is selected, as far beside itself as a place in pixels is, on its side; nothing of
-   * a point.
+   * Each edge that is selected, as far beside itself as a place in pixels is, on its side; nothing
+   * of a point.
    * @param {Place} pixels
    */
   beside(pixels) {
