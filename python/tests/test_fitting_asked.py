@@ -103,7 +103,7 @@ def test_a_plate_of_other_sizes_is_not_encoded_anew(program, monkeypatch) -> Non
     asking = Asking(drawing, program, Limit())
     numbers = lengths(drawing)
     asking.begin(numbers)
-    monkeypatch.setattr("pertxogai.fitting.asking.judge_edited", None)
+    monkeypatch.setattr("pertxogai.fitting.asking.first_good", None)
     offs = {number: Fraction(off) for number, off in zip(numbers, (2000, -1000, 1000, -1000, 1000))}
     there = asking.lying(moved(drawing, offs), offs)
     places = {str(ref): spot for ref, spot in there.solution.points.items()}
@@ -146,6 +146,22 @@ def test_fine_angles_are_asked_for_at_once(program) -> None:
     assert len(heard.texts) == 1
 
 
+def test_angles_are_told_finely_also_where_a_drawing_is_asked_for_as_any(program,
+                                                                         monkeypatch) -> None:
+    # A bar of 10 along x, and one of 1000 at 20 degrees to it, which ends at 10 + 1000 cos 20 and
+    # 1000 sin 20, or 949.692620786 342.020143326. By the near ratio of 20 degrees it ends 18 nm
+    # aside; the angle is measured at the end of the short bar, where that is rounding.
+    drawing = read_drawing("segment A 0 0 10 0\nsegment B A.end 949.69 342.02\n"
+                           "coincident A.start Origin\nhorizontal A\nlength A 10\nlength B 1000\n"
+                           "angle A B +20deg\n")
+    monkeypatch.setattr(Asking, "_finely", lambda asking, edited: None)
+    asking = Asking(drawing, program, Limit())
+    asking.begin(lengths(drawing), (5,))
+    there = asking.lying(drawing, {})
+    (x, y), = (spot for ref, spot in there.solution.points.items() if str(ref) == "B.end")
+    assert (abs(x - 949_692_621) <= 1, abs(y - 342_020_143) <= 1) == (True, True)
+
+
 def test_an_angle_that_is_off_a_right_angle_is_asked_for_at_once(program) -> None:
     # A bar of 100 along x, and one of 100 square to it from its end; at 90.5 degrees that one ends
     # at 100 - 100 sin 0.5 and 100 cos 0.5. A right angle has a ratio, 90.5 degrees have none.
@@ -177,7 +193,7 @@ def test_other_lengths_at_the_same_other_angle_are_asked_for_by_one_sketch(progr
         asking.lying(moved(drawing, offs), offs)
     encoded = []
     monkeypatch.setattr("pertxogai.fitting.asking.written", encoded.append)
-    monkeypatch.setattr("pertxogai.fitting.asking.judge_edited", encoded.append)
+    monkeypatch.setattr("pertxogai.fitting.asking.first_good", encoded.append)
     offs = {3: Fraction(1, 2), 2: Fraction(1000), 4: Fraction(-1000)}
     there = asking.lying(moved(drawing, offs), offs)
     (spot,) = (spot for ref, spot in there.solution.points.items() if str(ref) == "B.end")
@@ -220,7 +236,7 @@ def test_other_angles_are_asked_for_by_the_sketch_of_the_drawing(turned, program
     asking = Asking(drawing, program, Limit())
     asking.begin((2, 4, 6), (3, 5, 7))
     monkeypatch.setattr("pertxogai.fitting.asking.written", None)
-    monkeypatch.setattr("pertxogai.fitting.asking.judge_edited", None)
+    monkeypatch.setattr("pertxogai.fitting.asking.first_good", None)
     offs = off_by(turned)
     there = asking.lying(moved(drawing, offs), offs)
     first, second = 10 + turned[0], -20 + turned[1]

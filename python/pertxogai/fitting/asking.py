@@ -17,10 +17,10 @@ from pertxogai.fitting.template import Template, Told
 from pertxogai.fitting.toleranced import moved
 from pertxogai.judging import Judgement, Question, Trial, first_good
 from pertxogai.judging.edited import EditedDrawing
-from pertxogai.judging.judgement import FINE_NM, judge_edited, judge_trial
+from pertxogai.judging.judgement import FINE_NM, judge_trial
 from pertxogai.judging.limits import check_fits
 from pertxogai.judging.measure import Deviation, Limit, Solution, Unit
-from pertxogai.judging.trials import answered, placed
+from pertxogai.judging.trials import answered, finer, placed
 from pertxogai.language import NotHeld, Refusal
 from pertxogai.program import Solver
 from pertxogai.program.reports import Solved, Verdict
@@ -134,7 +134,7 @@ class Asking:
         if self._met is not None and self._care_with(offs).fine and self._fine.is_left:
             judged = self._finely(edited)
             self._fine.note(judged is not None)
-        return self._of(judged or judge_edited(edited, self._program, limit=self._limit))
+        return self._of(judged or self._judged(edited))
 
     def _care_with(self, offs: Offs) -> Care:
         """How angles are told with these dimensions off: finely where one of them is an angle,
@@ -239,6 +239,20 @@ class Asking:
         question = Question(edited.drawing, self._program, self._limit)
         judged = judge_trial(edited, asked, question)
         return judged if _greatest(judged.deviations) <= self._most_nm else None
+
+    def _judged(self, edited: EditedDrawing) -> Judgement:
+        """What becomes of a drawing that is asked for as any; with its angles told finely where all
+        is met so but for rounding. `judge` keeps a near ratio by which no length is further off;
+        but what is checked may hang on the angle, and be off by more than rounding."""
+        check_fits(edited.drawing)
+        question = Question(edited.drawing, self._program, self._limit)
+        asked = first_good(question, spelled=edited.readings())
+        fine = finer(question, asked) if isinstance(asked.solved, Solved) else asked
+        if fine is not asked:
+            finely = judge_trial(edited, fine, question)
+            if finely.solution is not None and _greatest(finely.deviations) <= self._most_nm:
+                return finely
+        return judge_trial(edited, asked, question)
 
     def _of(self, judged: Judgement) -> Lying:
         """Where a drawing lies that was judged. Raises NotPlaced."""
