@@ -388,6 +388,8 @@ class Hand:
         """Begins another drawing. The one that is left must be kept, unless it is empty or stands
         as it was saved."""
         left, how = settle(self.page), self.chance.choice(("new", "gallery", "file"))
+        if self.page.count("dialog[open]"):  # It was asked for before, and answered late.
+            return
         self.done.append(f"begin by {how}")
         saved = self._kept("drawing").get("saved")
         if how == "file":
