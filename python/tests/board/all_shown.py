@@ -101,14 +101,14 @@ def settle(page: Page) -> str:
 
 
 def sight_of(page: Page) -> Sight:
-    """All that a page shows, once it is at rest, with each tab opened."""
+    """All that a page shows, once it is at rest, with each tab of its open panel opened."""
     page.keys("0")
-    page.driver.execute_script("document.body.classList.remove('folded')")
-    for tab in ("asked", "values", "steps", "text"):
+    for tab in ("asked", "values", "steps"):
         page.click(f"#tab-{tab}")
-        text = settle(page)
-        if tab == "steps":
-            steps = page.driver.execute_script(PANEL)["steps"]
+    settle(page)
+    steps = page.driver.execute_script(PANEL)["steps"]
+    page.click("#tab-text")
+    text = settle(page)
     board, panel = page.driver.execute_script(BOARD), page.driver.execute_script(PANEL)
     return Sight(text, board["points"], board["edges"], board["marks"], {**panel, "steps": steps})
 

@@ -34,8 +34,8 @@ VALUES = ("10", "25", "60deg", "1/2", "0.5 in", "-3", "", "forty", "7.25", "W1/2
 LINES = ("point Q 33 44", "circle Q 20 20 5", "value W1 40", "# a note", "length", "point Q",
          "check Gap distance Origin Q 1 .. 90", "x Q 30", "nonsense here")
 """Lines that a hand writes; some can't be read, some only where another stands."""
-MANY = 18
-"""Of more shapes than these a hand deletes some ever more often."""
+FEW, MANY = 10, 18
+"""Of fewer shapes than these a hand draws all again, of more it deletes some ever more often."""
 DRAWN = (DRAWINGS / "plate-by-values.drawing", DRAWINGS / "open-four-bar.drawing",
          FILES / "plate-with-loose-hole.FCStd", FILES / "slot.slvs", FILES / "bracket.FCStd")
 """Files that a hand opens."""
@@ -98,7 +98,11 @@ class Hand:
             self._tool: 5, self._copies: 3, self._count: 1, self._offer: 6, self._dimension: 2,
             self._label: 2, self._twice: 1, self._slide: 2, self._slide_by_hand: 2, self._tab: 2,
             self._panel: 3, self._value: 2, self._write: 2, self._head: 2, self._begin: 0.4,
-            self._less: 0.5 + max(0, self.page.count("#board .edges [data-name]") - MANY)}
+            self._less: 0.5 + max(0, self._drawn() - MANY)}
+
+    def _drawn(self) -> int:
+        """How many shapes there are."""
+        return self.page.count("#board .edges [data-name]")
 
     def is_refused(self) -> bool:
         """Whether the text can't be read: then no tool draws."""
@@ -239,7 +243,7 @@ class Hand:
 
     def _copies(self) -> None:
         """Draws again what it selects."""
-        which = self.chance.choice((Keys.CONTROL + "a", "]", "[", "["))
+        which = self.chance.choice((Keys.CONTROL + "a" if self._drawn() < FEW else "[", "]", "["))
         keys = "v", which, self.chance.choice(COPIES)
         at = self._edge_or_point() if self.chance.random() < 0.3 else None
         self.done.append(f"copies {keys}")
