@@ -404,7 +404,10 @@ class Hand:
         if how == "gallery":
             self.page.wait("drawings", "return document.querySelector('#dialog[open] .gallery')")
             self._push("#dialog .gallery button")
-        self.first = settle(self.page)
+        text = settle(self.page)
+        if not self.page.count("#undo[aria-disabled=true]"):  # None was chosen.
+            return
+        self.first = text
         aside = [each["text"] for each in self._kept("aside")]
         assert not left.strip() or left in (saved, self.first) or left in aside, self.done
 
