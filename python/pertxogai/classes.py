@@ -16,9 +16,9 @@ class Classes(Generic[T]):
     def leader(self, one: T) -> T:
         """What leads the class of a thing."""
         leader = one
-        while leader in self._above:
-            leader = self._above[leader]
-        if leader != one:
+        while (above := self._above.get(leader)) is not None:
+            leader = above
+        if leader is not one:
             self._above[one] = leader
         return leader
 
