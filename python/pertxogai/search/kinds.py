@@ -115,7 +115,8 @@ class Leans(RowsOfKind):
         self.is_firm = False
 
     def values(self, ways: Ways) -> Array:
-        sine, cosine = self._sines(ways), self._cosines(ways)
+        first, second = self._units(ways)
+        sine, cosine = cross(first, second), dot(first, second)
         way = self._drawn_way if self.is_firm else np.where(
             self._is_directed, 1.0, np.where(cosine < 0, -1.0, 1.0))
         found: Array = self._size * np.arctan2(way * sine, way * cosine)
@@ -128,15 +129,17 @@ class Leans(RowsOfKind):
         return np.concatenate([-by_first, by_second])
 
     def _nearer(self, ways: Ways) -> Array:
-        return np.where(self._cosines(ways) < 0, -1.0, 1.0)
+        return np.where(dot(*self._units(ways)) < 0, -1.0, 1.0)
 
-    def _sines(self, ways: Ways) -> Array:
-        return cross(ways.unit[self.first], turned_by(self.turns, ways.unit[self.second]))
+    def _units(self, ways: Ways) -> tuple[Array, Array]:
+        """The directions of u and of Rv."""
+        return ways.unit[self.first], turned_by(self.turns, ways.unit[self.second])
 
-    def _cosines(self, ways: Ways) -> Array:
-        turned = turned_by(self.turns, ways.unit[self.second])
-        found: Array = np.einsum("ij,ij->i", ways.unit[self.first], turned)
-        return found
+
+def dot(first: Array, second: Array) -> Array:
+    """The scalar products of ways, pair by pair."""
+    found: Array = np.einsum("ij,ij->i", first, second)
+    return found
 
 
 def cross(first: Array, second: Array) -> Array:

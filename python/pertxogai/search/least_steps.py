@@ -35,7 +35,7 @@ def damped_steps(jacobian: Matrix, damping: float) -> Steps:
         if is_sparse(jacobian):
             return _damped_sparse_steps(jacobian, damping)
         square = jacobian @ jacobian.T
-        square[np.diag_indices_from(square)] += damping
+        square.flat[::len(square) + 1] += damping
         factor = linalg.cho_factor(square, overwrite_a=True, check_finite=False)
     except (linalg.LinAlgError, RuntimeError):  # It is singular.
         return partial(least_step, jacobian)
