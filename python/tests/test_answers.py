@@ -548,6 +548,20 @@ def test_rims_touch_in_a_point_of_both_where_their_centres_are_one(rims, program
     assert found.asked.spelled.sketch == without.asked.spelled.sketch
 
 
+def test_an_angle_is_told_finely_to_an_edge_that_is_drawn_as_a_point(program):
+    """B is drawn from A's end to P, which is drawn there too: it turns by 28.301 degrees from the
+    way of A, to either side."""
+    found = judge(read_drawing(
+        "segment A 0 0 40 0\npoint P 40 0\nsegment B 45 0 60 10\ncoincident B.start A.end\n"
+        "coincident B.end P\ncoincident A.start Origin\nhorizontal A\nlength A 40\nlength B 20\n"
+        "angle A B 151.6990deg\n"), program)
+    assert found.verdict is Verdict.WELL and max(each.amount for each in found.deviations) <= 50
+    x, y = found.solution.spot(PointRef("P"))
+    turn = math.radians(28.301)
+    assert abs(x - (40 + 20 * math.cos(turn)) * 1e6) <= 2
+    assert abs(abs(y) - 20 * math.sin(turn) * 1e6) <= 2
+
+
 def test_a_radius_is_frozen_beside_an_edge_that_is_drawn_as_a_point(program):
     """A's end is told to be P, which is drawn in A's start: the circle's centre is drawn 50 from
     there, 30 and 40 aside."""

@@ -117,15 +117,16 @@ class Angles:
         where each of them has it. Drawn by one alone, and rounded, it could turn the other over
         where that is drawn square to what is told."""
         one, other = (self._drawn_way(name) for name in names)
-        length, one, other = abs(other), one / abs(one), other / abs(other)
-        one *= rect(1, halves[0].radians())
-        other *= rect(1, -halves[1].radians())
+        length = abs(other) or abs(one)
+        one = _of_length_one(one) * rect(1, halves[0].radians())
+        other = _of_length_one(other) * rect(1, -halves[1].radians())
         both = one + other if (one * other.conjugate()).real >= 0 else one - other
-        way = both / abs(both) * length
+        way = _of_length_one(both) * length
         return Fraction(way.real), Fraction(way.imag)
 
     def _drawn_way(self, name: str) -> complex:
-        """From the first place of a line to its second, as it is drawn."""
+        """From the first place of a line to its second, as it is drawn: nowhere where points that
+        are one are drawn in one place."""
         (x, y), (u, v) = self.layout.sheet.lines[name]
         return complex(u - x, v - y)
 
@@ -170,3 +171,8 @@ class Angles:
             layout.say(layout.points[knot], name, said)
             layout.sheet.drafts.append(Draft(layout.names[base], name, said, ratio=(1, 0)))
         return name
+
+
+def _of_length_one(way: complex) -> complex:
+    """A direction of length 1; none stays none."""
+    return way / abs(way) if way else way
