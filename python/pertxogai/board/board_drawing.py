@@ -4,6 +4,7 @@ from __future__ import annotations
 from dataclasses import dataclass, field
 from functools import cached_property
 from typing import TYPE_CHECKING
+from uuid import uuid4
 
 from pertxogai.board.construction import PlayedConstruction
 from pertxogai.board.drawing_json import Sight
@@ -52,12 +53,14 @@ class NotPlaced(Exception):
 @dataclass
 class BoardDrawing:
     """A drawing and the judgement on it, by a program that is asked for more. sight, told: what
-    the page was told of it last, and of the judgement on it; None where that was trouble."""
+    the page was told of it last, and of the judgement on it; None where that was trouble. name: that
+    of what is told so; of the same text another worker may find another shape, or none in time."""
 
     edited: EditedDrawing
     program: Solver
     sight: Sight | None = None
     told: JudgementJson | None = None
+    name: str = field(default_factory=lambda: uuid4().hex)
     rangings: dict[tuple[str, ...], Ranging] = field(default_factory=dict)
     ranges: dict[Parameter, Range] = field(default_factory=dict)
 

@@ -110,12 +110,13 @@ class Desk:
 
     def edited(self, drawing: Drawing, known: BoardDrawing, given: Fields) -> Edited:
         """What is told of a drawing that an edit has made of a known one, kept by its text as
-        what that reads as; where the page `knows` what was told of that one, without what is as it
-        was. Raises DrawingUnsound."""
+        what that reads as; where the page `knows` what was told here of that one, without what is
+        as it was. Raises DrawingUnsound."""
         edited = EditedDrawing(checked(drawing, known.drawing), known.edited)
         judged = BoardDrawing(edited, self.attending)
         text = self.attending.meanwhile(lambda: write_document(edited.drawing))
-        found = _whole(judged, given.texts("left_out"), known, given.flag("knows"))
+        is_known = given.has("knows") and given.text("knows") == known.name
+        found = _whole(judged, given.texts("left_out"), known, is_known)
         self.keep(text.value, judged)
         found["text"] = text.value
         return found
@@ -150,7 +151,7 @@ def _whole(judged: BoardDrawing, left_out: tuple[str, ...], before: BoardDrawing
            is_known: bool = False) -> Edited:
     """The judgement, and what is drawn, by what was drawn before; where that `is_known` on the
     page, without what is as it was. left_out: what the drawing can't say of its file."""
-    answer: Edited = {"judgement": None}
+    answer: Edited = {"told": judged.name, "judgement": None}
     shown, sight = None, before.sight if before else None
     try:
         if judged.drawing.geometry:

@@ -269,10 +269,10 @@ class About(TypedDict):
 
 
 class AboutEdit(About):
-    """A call that edits a text. knows: whether the page has what was told of that text."""
+    """A call that edits a text. knows: the name of what the page was told of that text."""
 
     edit: Edit
-    knows: NotRequired[bool]
+    knows: NotRequired[str]
 
 
 class AboutDrag(About):
@@ -575,17 +575,21 @@ class ChangedJudgement(JudgementWords, total=False):
 
 
 class Judged(Answer, total=False):
-    """A text, the judgement on it, and its drawing. judgement: null where nothing is drawn."""
+    """A text, the judgement on it, and its drawing. told: the name of what is told so. judgement:
+    null where nothing is drawn."""
 
     text: str
+    told: str
     judgement: Judgement | None
     drawing: Drawing
 
 
 class Edited(Answer, total=False):
-    """The text that an edit makes, and what of it isn't as it was."""
+    """The text that an edit makes, and what of it isn't as it was. told: the name of what is told
+    so."""
 
     text: str
+    told: str
     judgement: ChangedJudgement | None
     drawing: ChangedDrawing
 

@@ -552,13 +552,14 @@ def test_a_refused_sketch_says_what_to_do(client) -> None:
 
 def test_constraints_that_are_known_arent_told_again(client) -> None:
     text = drawing("bracket")
-    known = answer(client, "judge", text=text)["drawing"]["constraints"]
+    judged = answer(client, "judge", text=text)
+    known = judged["drawing"]["constraints"]
     edit = {"do": "shift", "shapes": [], "points": [], "dx": 1, "dy": 1}
     assert answer(client, "edit", text=text, edit=edit)["drawing"]["constraints"] == known
-    same = answer(client, "edit", text=text, edit=edit, knows=True)
+    same = answer(client, "edit", text=text, edit=edit, knows=judged["told"])
     assert same["drawing"]["constraints"] is None and same["judgement"]["verdict"] == "well"
     other = answer(client, "edit", text=text, edit={"do": "erase", "shapes": [], "constraints": [1]},
-                   knows=True)
+                   knows=judged["told"])
     assert len(other["drawing"]["constraints"]) == len(known) - 1
 
 

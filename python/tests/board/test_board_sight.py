@@ -9,6 +9,7 @@ from pathlib import Path
 import pytest
 
 from boards import DRAWINGS
+from pertxogai.board import board_drawing
 from pertxogai.board.calls import Desk
 from pertxogai.board.drawing_json import Sight, sight_of
 from pertxogai.board.edits import (
@@ -106,9 +107,10 @@ class NoProgram:
 def test_behind_trouble_all_is_told() -> None:
     """The page doesn't take over what it was shown with trouble, nor does the server."""
     desk, text = Desk(NoProgram()), "segment A 0 0 9 0\ncircle C 1 1 2\n"
-    assert "trouble" in desk.answer("judge", {"text": text})
+    told = desk.answer("judge", {"text": text})
+    assert "trouble" in told
     edit = {"do": "move", "radii": [{"of": "C", "radius": 3}]}
-    found = desk.answer("edit", {"text": text, "edit": edit, "knows": True})
+    found = desk.answer("edit", {"text": text, "edit": edit, "knows": told["told"]})
     assert all(all(things) for things in found["drawing"].values())
     assert [each["name"] for each in found["drawing"]["shapes"]] == ["A", "C"]
 
@@ -117,9 +119,26 @@ def test_of_a_judgement_what_is_long_is_told_once(program: Program) -> None:
     text = "segment A 0 0 40 0\ncoincident A.start Origin\nhorizontal A\nlength A 40\n"
     given = {"text": text, "edit": {"do": "move", "points": [{"of": "A.end", "x": 41, "y": 1}]}}
     desk = Desk(program)
-    known = desk.answer("judge", {"text": text})["judgement"]
-    told = desk.answer("edit", {**given, "knows": True})["judgement"]
+    judged = desk.answer("judge", {"text": text})
+    known = judged["judgement"]
+    told = desk.answer("edit", {**given, "knows": judged["told"]})["judgement"]
     whole = Desk(program).answer("edit", given)["judgement"]
     assert known["verdict"] == "well" and known["language"] != told["language"]
     assert known.keys() - told.keys() == {"placed", "found", "laid", "colours"}
     assert {**known, **told} == whole
+
+
+def test_who_knows_what_another_worker_told_is_told_all(program: Program,
+                                                         monkeypatch: pytest.MonkeyPatch) -> None:
+    """One worker has found a shape of what is open, the other none in the time that it takes. What
+    the one told isn't taken over to where the other finds none."""
+    text = "segment A 0 0 40 0\nsegment B A.end 60 30\nlength A 41\n"
+    edit = {"do": "move", "points": [{"of": "B.end", "x": 61, "y": 30}]}
+    one, other = Desk(program), Desk(program)
+    known = one.answer("judge", {"text": text})
+    monkeypatch.setattr(board_drawing, "SEARCH_SECONDS", 0.0)
+    assert other.answer("judge", {"text": text})["judgement"]["found"] is None
+    given = {"text": text, "edit": edit, "knows": known["told"]}
+    told = other.answer("edit", given)
+    assert known["judgement"]["found"] and told["judgement"]["found"] is None
+    assert all(told["drawing"]["shapes"])

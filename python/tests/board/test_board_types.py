@@ -101,8 +101,9 @@ def test_answers_are_of_their_types(path: Path, program: Program) -> None:
     desk, text = Desk(program), path.read_text()
     name = read_document(text).geometry[0].name
     edit = {"do": "shift", "shapes": [name], "dx": 0.5, "dy": 0}
+    known = desk.answer("judge", {"text": text})
     given: dict[str, dict[str, object]] = {
-        "judge": {}, "edit": {"edit": edit, "knows": True},
+        "judge": {}, "edit": {"edit": edit, "knows": known["told"]},
         "drag": {"drag": "a", "names": [name], "begin": {"x": 0, "y": 0}, "x": 1, "y": 1,
                  "taken": 0, "turns": False}, "offers": {"names": [name]},
         "weigh": {}, "complete": {}, "fit": {}, "range": {"name": "Nothing"}, "plan": {},

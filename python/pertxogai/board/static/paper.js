@@ -245,7 +245,7 @@ export class Paper extends EventTarget {
   async edited(text, edit) {
     const { answer: last } = this;
     const known = last?.drawing && !last.trouble && last.text === text ? last : null;
-    const answer = await this.about('edit', { text, edit, knows: known !== null });
+    const answer = await this.about('edit', { text, edit, ...(known && { knows: known.told }) });
     return known ? completed(answer, known) : whole(answer);
   }
 

@@ -225,12 +225,16 @@ export interface Drawing {
   values: NamedValue[];
 }
 
-/** A text, the judgement on it, and its drawing. judgement: null where nothing is drawn. */
+/**
+ * A text, the judgement on it, and its drawing. told: the name of what is told so. judgement:
+ * null where nothing is drawn.
+ */
 export interface Judged {
   trouble?: Trouble;
   refused?: Refused;
   ms?: number;
   text?: string;
+  told?: string;
   judgement?: Judgement | null;
   drawing?: Drawing;
 }
@@ -451,7 +455,7 @@ export interface DropValueEdit {
   name: string;
 }
 
-/** A call that edits a text. knows: whether the page has what was told of that text. */
+/** A call that edits a text. knows: the name of what the page was told of that text. */
 export interface AboutEdit {
   text: string;
   left_out?: string[];
@@ -459,7 +463,7 @@ export interface AboutEdit {
     LinesEdit | ValueEdit | CallEdit | RenameEdit | ConstructionEdit | CornerEdit | TrimEdit |
     ExtendEdit | MirrorEdit | RowEdit | RingEdit | OffsetEdit | PasteEdit | SetValueEdit |
     DropValueEdit;
-  knows?: boolean;
+  knows?: string;
 }
 
 /**
@@ -495,12 +499,16 @@ export interface ChangedDrawing {
   values: (NamedValue | null)[] | null;
 }
 
-/** The text that an edit makes, and what of it isn't as it was. */
+/**
+ * The text that an edit makes, and what of it isn't as it was. told: the name of what is told
+ * so.
+ */
 export interface Edited {
   trouble?: Trouble;
   refused?: Refused;
   ms?: number;
   text?: string;
+  told?: string;
   judgement?: ChangedJudgement | null;
   drawing?: ChangedDrawing;
 }
