@@ -11,6 +11,7 @@ from dataclasses import dataclass
 from boards import PATIENCE
 from browsing import Page
 
+from pertxogai.board.board_drawing import SEARCH_SECONDS
 from pertxogai.board.calls import Desk
 from pertxogai.program import Program
 
@@ -129,7 +130,7 @@ def kind_of(answer: dict) -> str:
 def stale_in(page: Page, program: Program, text: str) -> list[str]:
     """What a page at rest shows of its text that isn't as it is answered anew: by one who has seen
     no text before."""
-    fresh = Desk(program).answer("judge", {"text": text})
+    fresh, is_hurried = answered(program, text)
     kind = page.driver.execute_script("return document.getElementById('verdict').dataset.verdict")
     if kind != kind_of(fresh):
         return [f"verdict {kind}, and not {kind_of(fresh)}"]
@@ -143,10 +144,19 @@ def stale_in(page: Page, program: Program, text: str) -> list[str]:
         "marks": (sorted(mark[0] for mark in board["marks"]),
                   sorted(each["number"] for each in drawing["marks"])),
         "language": (language, judged.get("language", ""))}
+    places = {} if is_hurried else places_in(fresh)
     return [f"{what}: {shown!r}, and not {is_so!r}"
             for what, (shown, is_so) in pairs.items() if shown != is_so] + [
         f"{name} is shown {pixels:.1f} pixels aside"
-        for name, pixels in aside(board["points"], places_in(fresh)).items()]
+        for name, pixels in aside(board["points"], places).items()]
+
+
+def answered(program: Program, text: str) -> tuple[dict, bool]:
+    """What is answered to a text anew; and whether that takes so long that a shape of what is open
+    may be found or not, by the time that there is for it."""
+    began = time.process_time()
+    answer = Desk(program).answer("judge", {"text": text})
+    return dict(answer), time.process_time() - began > SEARCH_SECONDS / 2
 
 
 def places_in(answer: dict) -> dict[str, list[float]]:

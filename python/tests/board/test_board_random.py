@@ -9,7 +9,7 @@ import random
 
 import pytest
 
-from all_shown import counting, differences, settle, sight_of, stale_in
+from all_shown import answered, counting, differences, settle, sight_of, stale_in
 from any_hand import Hand
 from boards import DRAWINGS, Served
 from browsing import Page
@@ -45,7 +45,7 @@ def test_a_hand_that_does_anything(page: Page, board: Served, program: Program, 
             hand.act()
             if number % LOOK == 0 or number == ACTIONS:
                 looked_at(page, program, hand, f"seed {seed}, action {number}")
-        kept(page, board, hand)
+        kept(page, board, program, hand)
 
 
 def looked_at(page: Page, program: Program, hand: Hand, where: str) -> None:
@@ -70,7 +70,7 @@ look();
 nothing more to be undone."""
 
 
-def kept(page: Page, board: Served, hand: Hand) -> None:
+def kept(page: Page, board: Served, program: Program, hand: Hand) -> None:
     """Undoes all, and does as much again: the hand may have undone its last changes itself, and
     these stay undone. Then loads the page anew, with workers that know nothing. All is the same
     each time."""
@@ -88,6 +88,7 @@ def kept(page: Page, board: Served, hand: Hand) -> None:
     board.workers.stop()
     page.driver.refresh()
     page.wait("the page", "return document.getElementById('verdict').dataset.verdict")
-    found = differences(before, sight_of(page))
+    after, (_, is_hurried) = sight_of(page), answered(program, text)
+    found = [] if is_hurried and after.text == text else differences(before, after)
     assert not found, "\n".join([*found, f"{hand.done[-40:]}", text])
     assert page.faults() == []
