@@ -186,7 +186,8 @@ def differences(one: Sight, other: Sight) -> list[str]:
     origin may lie anywhere."""
     found = [f"{what}: {first!r}, and then {second!r}" for what, first, second in (
         ("text", one.text, other.text), ("edges", one.edges, other.edges),
-        ("points", sorted(one.points), sorted(other.points)), ("marks", one.marks, other.marks),
+        ("points", sorted(one.points), sorted(other.points)),
+        ("marks", sorted(one.marks, key=str), sorted(other.marks, key=str)),
         *((part, one.panel[part], other.panel[part]) for part in one.panel)) if first != second]
     points = one.points if one.edges else {}
     return found or [f"{name}: {at}, and then {other.points[name]}"
