@@ -335,6 +335,19 @@ def test_of_a_file_and_a_drawing_that_was_begun_later_the_later_stands(
     assert page.text().count("\n") == 2 and page.count(".edges [data-name]") == 1
 
 
+def test_no_step_of_the_drawing_before_lies_over_another(page: Page) -> None:
+    """Also before that one is judged."""
+    page.begin(drawing("arm"), "well")
+    page.click("#tab-steps")
+    page.wait("its steps", "return document.querySelector('#back')")
+    page.click("#back")
+    page.wait("a step", "return document.querySelector('#board .overlay > *')")
+    with page.held("judge"):
+        page.click("#new")
+        page.settled()
+        assert page.count("#board .overlay > *") == 0
+
+
 def test_a_label_that_is_held_stands_elsewhere_in_another_drawing(
         page: Page, tmp_path: Path) -> None:
     """Not where the hand held that of the same number in the drawing before."""

@@ -180,6 +180,7 @@ export class Page {
   /** Another drawing begins: nothing of the last is shown, held or selected. */
   leave() {
     this.gestures.leave();
+    this.steps.leave();
     this.board.show(NOTHING);
     this.selection.set([]);
     this.take(this.hand.tool);
