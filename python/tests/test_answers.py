@@ -770,10 +770,12 @@ def test_what_is_untried_is_listed_all_the_same(program, monkeypatch):
     assert "  what to do: remove one of these, and judge again (by rank; some were tried)" in lines
 
 
-def test_some_are_tried_also_where_forty_have_to_go(program):
-    # Forty edges with two lengths each: without any one of these the rest is over still.
+def test_some_are_tried_also_where_many_have_to_go(program, monkeypatch):
+    # Six edges with two lengths each: without any one of these the rest is over still. The work is
+    # that of five rests.
+    monkeypatch.setattr("pertxogai.judging.surplus.WORK", 250)
     text = "".join(f"segment A{n} {99 * n} 0 {99 * n + 40} 0\nlength A{n} 40\nlength A{n} 41\n"
-                   for n in range(40))
+                   for n in range(6))
     found = judge(read_drawing(text), program)
     assert any(each.then is Then.OVER for each in found.surplus)
 
