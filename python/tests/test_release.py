@@ -175,6 +175,16 @@ def test_the_installed_command_judges(installed: Path, tmp_path: Path) -> None:
     assert told.endswith("a sketch of the language is completed by sketch complete\n")
 
 
+def test_the_command_of_a_package_that_is_only_unpacked_judges(installed: Path) -> None:
+    """It finds its Python package and the program, though neither is on a path."""
+    bare = {"PATH": "/usr/bin:/bin", "HOME": str(installed), "LC_ALL": "C.UTF-8"}
+    command = installed / "usr/bin/pertxogai"
+    judged = done(command, "judge", TOP / "examples/triangle.sketch", env=bare)
+    assert judged.startswith("triangle: well (fully constrained), elements 3, constraints 3, ")
+    del bare["PATH"]
+    assert done(command, "--version", env=bare) == f"pertxogai {__version__}\n"
+
+
 def test_the_installed_checkers_read_a_claim(installed: Path, tmp_path: Path) -> None:
     here, triangle = within(installed), TOP / "examples/triangle.sketch"
     words = ("pertxogai", "certify", triangle, "-o", tmp_path / "triangle.claim", "--check")

@@ -16,7 +16,13 @@ USR = Path("usr")
 ROOT = Places(USR / "bin", USR / "include", USR / LIBRARIES, USR / "share", "/usr", "${prefix}/" + LIBRARIES)
 PACKAGES = Path("usr/lib/python3/dist-packages")
 COMMAND = """#!/usr/bin/python3
+import os
 import sys
+
+# If the package is only unpacked, its Python package and `sketch` are found from here.
+here = os.path.dirname(os.path.realpath(__file__))
+sys.path.append(os.path.join(os.path.dirname(here), "lib", "python3", "dist-packages"))
+os.environ["PATH"] = os.pathsep.join(filter(None, (os.environ.get("PATH", os.defpath), here)))
 
 from pertxogai.commands import main
 
