@@ -222,6 +222,9 @@ def test_bad_files_are_refused_in_a_line(
     ):
         status, out, err = judged(capsys, *words)
         if name != "empty.drawing":
+            if "--json" in words:
+                told, out = json.loads(out), ""
+                assert told == {"file": path, "refused": err.removeprefix("pertxogai: ").rstrip()}
             assert (status, out, err.count("\n")) == (2, "", 1), err
             assert err.startswith("pertxogai: ") and inside in err
             assert name.partition(".")[0] in err

@@ -8,18 +8,26 @@ from dataclasses import replace
 from pathlib import Path
 
 from pertxogai.exits import CommandError, Exit, MissingLibrary
-from pertxogai.files.kinds import DesignerDrawing, Input, SketchText, kind_of, read_inputs
+from pertxogai.files.contents import FileRefusal
+from pertxogai.files.kinds import (
+    DesignerDrawing, Input, InputRefused, SketchText, kind_of, read_inputs)
 from pertxogai.judging import (
-    CountedDrawing, CountedJudgement, DrawingRefused, GoodJudgement, JudgedDrawing, judge)
+    CountedDrawing, CountedJudgement, DrawingRefused, GoodJudgement, JudgedDrawing, TextRefused,
+    judge)
 from pertxogai.judging.remembering import Remembering
 from pertxogai.language import NotHeld, Refusal
 from pertxogai.output.outcome import DrawingOutcome, Outcome, SketchOutcome
-from pertxogai.program import Program, Solver
+from pertxogai.program import Program, ProgramError, Solver
 from pertxogai.program.called import COMMAND
 from pertxogai.program.reports import Verdict
 
 PROPOSING_SECONDS = 1.0
 """The seconds of a processor after which no more is tried to complete what is judged."""
+SAID = {Exit.GOOD: "good", Exit.NOT_GOOD: "not good", Exit.BAD_INPUT: "refused",
+        Exit.NO_ANSWER: "without an answer"}
+"""What a file is, by how `judge` on it alone would end."""
+REFUSALS = TextRefused, CommandError, FileRefusal, InputRefused, ProgramError
+"""What is raised of a file that there is no judgement on."""
 
 
 def program_of(options: argparse.Namespace) -> Program:
@@ -125,19 +133,41 @@ def judge_file(path: Path, options: argparse.Namespace) -> Exit:
     """Prints what the program says of each sketch of a file, and writes a copy with those placed
     that are good, where that is asked for. Raises CommandError, InputRefused, FileRefusal,
     TextRefused and ProgramError."""
-    found = read_inputs(path)
-    program = program_of(options)
-    outcomes = [outcome_of(it, program, options) for it in found]
+    try:
+        found = read_inputs(path)
+        program = program_of(options)
+        outcomes = [outcome_of(it, program, options) for it in found]
+    except REFUSALS as error:
+        if options.json:
+            _print_json(refusal_json(path, *refusal(path, error)))
+        raise
     if options.write is not None:
         _write_placed(path, options.write, found, outcomes)
     if options.json:
-        import json
-
-        print(json.dumps(file_json(path, outcomes), indent=2))
+        _print_json(file_json(path, outcomes))
     else:
         for it in outcomes:
             print("\n".join(it.lines()))
     return Exit.NOT_GOOD if any(it.reasons() for it in outcomes) else Exit.GOOD
+
+
+def _print_json(told: dict[str, object]) -> None:
+    """Prints one object, to read."""
+    import json
+
+    print(json.dumps(told, indent=2))
+
+
+def refusal(path: Path, error: Exception) -> tuple[Exit, str]:
+    """How `judge` ends on a file that there is no judgement on, and why, in a line."""
+    ends = Exit.NO_ANSWER if isinstance(error, ProgramError) else Exit.BAD_INPUT
+    why = f"{path}: {error.told}" if isinstance(error, TextRefused) else str(error)
+    return ends, " ".join(why.split())
+
+
+def refusal_json(path: Path, ends: Exit, why: str) -> dict[str, object]:
+    """The same, as one object for JSON."""
+    return {"file": str(path), SAID[ends]: why}
 
 
 def file_json(path: Path, outcomes: Sequence[Outcome]) -> dict[str, object]:

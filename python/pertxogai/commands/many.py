@@ -16,18 +16,12 @@ from dataclasses import dataclass
 from functools import partial
 from pathlib import Path
 
-from pertxogai.commands.judging import file_json, outcome_of, program_of
+from pertxogai.commands.judging import (
+    REFUSALS, SAID, file_json, outcome_of, program_of, refusal, refusal_json)
 from pertxogai.exits import CommandError, Exit
-from pertxogai.files.contents import FileRefusal
-from pertxogai.files.kinds import InputRefused, read_inputs
+from pertxogai.files.kinds import read_inputs
 from pertxogai.files.printable import printable
-from pertxogai.judging import TextRefused
 from pertxogai.output.outcome import Outcome
-from pertxogai.program import ProgramError
-
-SAID = {Exit.GOOD: "good", Exit.NOT_GOOD: "not good", Exit.BAD_INPUT: "refused",
-        Exit.NO_ANSWER: "without an answer"}
-"""What a file is, by how `judge` on it alone would end."""
 
 
 @dataclass(frozen=True)
@@ -78,12 +72,8 @@ def judged_file(path: Path, options: argparse.Namespace) -> JudgedFile:
     try:
         program = program_of(options)
         outcomes = [outcome_of(it, program, options) for it in read_inputs(path)]
-    except TextRefused as refused:
-        return _refusal(path, f"{path}: {refused.told}", Exit.BAD_INPUT, options.json)
-    except (CommandError, FileRefusal, InputRefused) as error:
-        return _refusal(path, str(error), Exit.BAD_INPUT, options.json)
-    except ProgramError as error:
-        return _refusal(path, str(error), Exit.NO_ANSWER, options.json)
+    except REFUSALS as error:
+        return _refused(path, *refusal(path, error), options.json)
     ends = Exit.NOT_GOOD if any(it.reasons() for it in outcomes) else Exit.GOOD
     if options.json:
         return JudgedFile(ends, (json.dumps(file_json(path, outcomes)),))
@@ -98,11 +88,10 @@ def _line(path: Path, outcome: Outcome) -> str:
     return printable(f"{path}: {outcome.name}: {outcome.verdict().value}, {said}")
 
 
-def _refusal(path: Path, why: str, ends: Exit, as_json: bool) -> JudgedFile:
+def _refused(path: Path, ends: Exit, why: str, as_json: bool) -> JudgedFile:
     """What is told of a file that there is no judgement on."""
-    why = " ".join(why.split())
     if as_json:
-        return JudgedFile(ends, (json.dumps({"file": str(path), SAID[ends]: why}),))
+        return JudgedFile(ends, (json.dumps(refusal_json(path, ends, why)),))
     told = why.removeprefix(f"{path}: ")
     return JudgedFile(ends, (printable(f"{path}: {SAID[ends]}: {told}"),))
 
