@@ -9,6 +9,7 @@ if TYPE_CHECKING:
     from pertxogai.judging.departures import Departure, DepartureKind
     from pertxogai.judging.excess import Excess, Rest, TooMuch, too_much
     from pertxogai.judging.faults import Amount, Failure
+    from pertxogai.judging.finding import Finding, Nearly, PlacesBy, PointMove
     from pertxogai.judging.good import (
         GoodJudgement, GoodSketch, NotGood, good_of, good_sketch_of, reasons_against)
     from pertxogai.judging.judged_drawing import CountedDrawing, JudgedDrawing
@@ -19,6 +20,7 @@ if TYPE_CHECKING:
     from pertxogai.judging.limits import DrawingRefused, TextRefused
     from pertxogai.judging.missing import Joint, Missing, Piece, Tie
     from pertxogai.judging.naming import Names
+    from pertxogai.judging.shortage import shortage_of
     from pertxogai.judging.surplus import Surplus, Then
     from pertxogai.judging.trials import PlaceBy, Question, Trial, first_good
 else:
@@ -29,6 +31,7 @@ else:
         ".departures": "Departure DepartureKind",
         ".excess": "Excess Rest TooMuch too_much",
         ".faults": "Amount Failure",
+        ".finding": "Finding Nearly PlacesBy PointMove",
         ".good": "GoodJudgement GoodSketch NotGood good_of good_sketch_of reasons_against",
         ".judged_drawing": "CountedDrawing JudgedDrawing",
         ".judged_sketch": "JudgedSketch concerned judge_sketch",
@@ -37,13 +40,14 @@ else:
         ".limits": "DrawingRefused TextRefused",
         ".missing": "Joint Missing Piece Tie",
         ".naming": "Names",
+        ".shortage": "shortage_of",
         ".surplus": "Surplus Then",
         ".trials": "PlaceBy Question Trial first_good"})
 
 __all__ = ["Amount", "CountedDrawing", "CountedJudgement", "Cusp", "Departure", "DepartureKind",
-           "DrawingRefused", "Excess", "Failure", "GoodJudgement", "GoodSketch", "Joint",
-           "JudgedDrawing", "JudgedSketch", "Judgement", "LeftOut", "Missing", "Names", "NotGood",
-           "Piece", "PlaceBy", "Question", "Rest", "Surplus", "TextRefused", "Then", "Tie",
-           "TooMuch", "Trial", "WeighedJudgement", "concerned", "first_good", "good_of",
-           "good_sketch_of", "judge", "judge_at_once", "judge_sketch", "reasons_against",
-           "too_much", "weighed", "with_choices", "with_counts"]
+           "DrawingRefused", "Excess", "Failure", "Finding", "GoodJudgement", "GoodSketch", "Joint",
+           "JudgedDrawing", "JudgedSketch", "Judgement", "LeftOut", "Missing", "Names", "Nearly",
+           "NotGood", "Piece", "PlaceBy", "PlacesBy", "PointMove", "Question", "Rest", "Surplus",
+           "TextRefused", "Then", "Tie", "TooMuch", "Trial", "WeighedJudgement", "concerned",
+           "first_good", "good_of", "good_sketch_of", "judge", "judge_at_once", "judge_sketch",
+           "reasons_against", "shortage_of", "too_much", "weighed", "with_choices", "with_counts"]

@@ -11,22 +11,23 @@ from pertxogai.judging.measure.deviation import Deviation
 from pertxogai.judging.measure.solution import Solution
 
 Group = tuple[str, ...]
-"""Constraints by their names, the latest first; before them the one that the others say wholly."""
+"""Constraints by their names, the latest first; before them the one that follows from the
+others."""
 
 
 class PlacesBy(Enum):
-    """Who has placed a drawing; the values are for JSON."""
+    """What has placed a drawing; the values are for JSON."""
 
     PROGRAM = "program"
-    """The program, which certifies the sketch that it was told."""
+    """The program, which certifies the sketch that it was given."""
     NUMBERS = "numbers"
     """The search: each constraint is measured, and nothing is certified."""
 
 
 @dataclass(frozen=True)
 class PointMove:
-    """A point that still moves along a direction of length 1; one that moves everywhere has two
-    moves, along x and along y."""
+    """A point that can still move, in the direction (dx, dy) of length 1. A point that can move
+    everywhere has two of these, along x and along y."""
 
     point: PointRef
     dx: float
@@ -35,17 +36,17 @@ class PointMove:
 
 @dataclass(frozen=True)
 class Finding:
-    """What is found of one drawing.
+    """What the search finds in one drawing, by numbers.
 
-    freedoms: how many degrees of freedom it has, among them those of the whole, by which all of it
-    is moved and turned. is_doubtful: whether the count may be off, as where two solutions meet.
-    moves: how single points still move, of those that are one the first. free_radii: the circles
-    and arcs of which the radius may still change. repeats: groups of constraints of which the first
-    says what the others do. contradictions: groups that can't all be met. solution: whole
-    nanometres, where places are found that meet all constraints, and who has placed it so;
-    deviations: each constraint, measured there. chosen: the values that the program was told
-    besides, or in the place of what is only measured, as lines. in_doubt: groups of which numbers
-    don't tell whether the first says what the others do, or contradicts them."""
+    freedoms: how many degrees of freedom it has, with those of the whole. of_the_whole: how many of
+    them move or turn all of it. is_doubtful: whether the count may be wrong, as where two solutions
+    meet. moves: how single points can still move; of points that coincide, the first. free_radii:
+    the circles and arcs whose radius can still change. repeats: groups of constraints of which the
+    first follows from the others. contradictions: groups that can't all be met. in_doubt: groups of
+    which numbers can't tell whether they are one or the other. solution: the positions, in whole
+    nanometres, if any were found that meet all constraints; places_by: what placed it there;
+    deviations: each constraint, measured there. chosen: the values with which the program
+    constructs it, as lines. only_measured: the constraints that weren't passed to it for that."""
 
     freedoms: int
     of_the_whole: int
@@ -62,8 +63,8 @@ class Finding:
     in_doubt: tuple[Group, ...] = ()
 
     def groups_of(self, names: Iterable[str]) -> dict[str, Group]:
-        """Of each of these constraints that repeats others the first group that has it, and none
-        of those before it."""
+        """For each of these redundant constraints its group: the first in which it is, and that
+        none of those before it has."""
         found: dict[str, Group] = {}
         for name in names:
             left = (each for each in self.repeats if name in each and each not in found.values())
@@ -71,7 +72,7 @@ class Finding:
         return found
 
     def free_shapes(self, drawing: Drawing) -> Iterator[str]:
-        """The shapes of which a point still moves, or the radius may still change."""
+        """The shapes that have a point which can still move, or a radius that can still change."""
         moving = {each.point for each in self.moves}
         yield from self.free_radii
         for ref in drawing.points():
@@ -81,9 +82,9 @@ class Finding:
 
 @dataclass(frozen=True)
 class Nearly:
-    """A relation that a drawing nearly has, by the line that would say so, and by how many degrees
-    or millimetres it is off. is_free: whether nothing tells otherwise, so that the line could be
-    added."""
+    """A relation that a drawing nearly has. line: the line that would ask for it. off, unit: how
+    far it is off, in degrees or millimetres. is_free: whether no constraint says otherwise, so that
+    the line could be added."""
 
     line: str
     off: float
