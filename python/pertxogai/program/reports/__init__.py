@@ -1,5 +1,6 @@
 """Every answer of the program as a value, read by a grammar that accepts what docs/LANGUAGE.md says
-and nothing else."""
+and nothing else. `text()` of an answer, a fault or a reply is what the program writes, with a line
+feed at the end of each line; that of a single element, constraint or place in it has none."""
 from typing import TYPE_CHECKING
 
 if TYPE_CHECKING:

@@ -28,7 +28,7 @@ class Accepted:
     name: str | None
 
     def text(self) -> str:
-        """The line of the reply."""
+        """The line of the reply, with its line feed."""
         return f"ok {self.name}\n" if self.name else "ok\n"
 
 
@@ -39,7 +39,7 @@ class RefusedEdit:
     code: Code
 
     def text(self) -> str:
-        """The line of the reply."""
+        """The line of the reply, with its line feed."""
         return f"refused {self.code.name} {self.code.word}\n"
 
 
