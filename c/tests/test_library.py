@@ -38,6 +38,14 @@ def judge(room):
     return room / "judge"
 
 
+@pytest.fixture(scope="session")
+def faults(room):
+    """A program whose requests for memory are refused, one after the other."""
+    compiled("cc", "-std=gnu11", *STRICT, HERE / "tests/faults.c", room / "libsketch.a",
+             "-Wl,--wrap=malloc,--wrap=realloc,--wrap=free", "-o", room / "faults")
+    return room / "faults"
+
+
 def test_a_folder_has_the_shared_library_without_a_symbolic_link(room):
     """`rt ci` refuses each symbolic link in the repository, where c/out is: with one the gate wouldn't run again."""
     assert not [each for each in room.iterdir() if each.is_symlink()]
@@ -64,10 +72,8 @@ def test_eight_threads_answer_as_one(room):
 
 @pytest.mark.parametrize("command", ["check", "plan", "solve place=points", "solve frame=drawn", "parts", "excess", "why", "complete", "flips",
                                      "derive", "spare", "session", "live"])
-def test_each_request_for_memory_is_refused_in_turn(room, command):
-    compiled("cc", "-std=gnu11", *STRICT, HERE / "tests/faults.c", room / "libsketch.a",
-             "-Wl,--wrap=malloc,--wrap=realloc,--wrap=free", "-o", room / "faults")
-    done = run(room / "faults", TOP / "examples/bracket.sketch", command)
+def test_each_request_for_memory_is_refused_in_turn(faults, command):
+    done = run(faults, TOP / "examples/bracket.sketch", command)
     assert done.returncode == 0, done.stdout
 
 
