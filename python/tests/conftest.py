@@ -22,15 +22,18 @@ LONGEST = ("board/test_board_browser", "test_style", "test_freecad_commands",
            "test_freecad_window", "board/test_board_hand", "board/test_board_dragging",
            "board/test_board_guesses", "board/test_board_types", "board/test_board_gallery",
            "board/test_board_random", "board/test_board_pointing", "board/test_board_room",
-           "board/test_board_again", "test_hostile_files", "test_release", "test_search",
-           "test_ranges_worked", "board/test_board_server", "test_claims", "test_revalued",
-           "test_dragging", "hunt/test_answers_are_so", "test_ranges", "test_fitting",
+           "board/test_board_again", "hunt/test_answers_are_so", "test_hostile_files",
+           "test_release", "test_ranges", "test_search", "test_ranges_worked",
+           "board/test_board_server", "test_claims", "test_revalued", "test_dragging",
+           "test_answers", "../../c/tests/test_library", "test_fitting", "test_program",
+           "board/test_board_sight", "test_fitting_chains", "test_prove", "test_gate",
            "board/test_board_labels", "board/test_board_selecting")
 """The files of tests that take longest, the longest first."""
 SHARED = ("hunt/test_answers_are_so", "board/test_board_measured", "board/test_board_types",
           "test_other_numbers", "test_ranges", "test_redrawn")
 """The long files of which each test is run by whichever processor is free; any other file is run by
-one processor, which makes its fixtures once."""
+one processor, which makes its fixtures once. Those that aren't among the longest come last, since
+their many short tests keep all processors busy to the end."""
 KINDS = {"window": "browser", "dist": "release"}
 """The kind of the tests that take a fixture, which `python/tests/run --without` leaves out."""
 
@@ -96,6 +99,11 @@ FRAME_ROWS = read_rows("frame/*.row")
 EXAMPLES = sorted((TOP / "examples").rglob("*.sketch"))
 
 
+def file_of(name: str) -> Path:
+    """The file of a name in `LONGEST` or `SHARED`."""
+    return (TESTS / f"{name}.py").resolve()
+
+
 @pytest.hookimpl(hookwrapper=True)
 def pytest_collection() -> Iterator[None]:
     """Leaves the thousands of collected tests out of garbage collection, which would look through
@@ -111,9 +119,9 @@ def pytest_collection_modifyitems(config: pytest.Config, items: list[pytest.Item
     """Has the files that take longest begin first, so that none of them is left for one processor
     at the end, keeps the tests of a file that isn't shared on one processor, and marks the kinds of
     tests that a fixture tells."""
-    place_of = {TESTS / f"{name}.py": place for place, name in enumerate(LONGEST)}
-    items.sort(key=lambda item: place_of.get(item.path, len(LONGEST)))
-    shared = {TESTS / f"{name}.py" for name in SHARED}
+    place_of = {file_of(name): place for place, name in enumerate(LONGEST)}
+    shared = set(map(file_of, SHARED))
+    items.sort(key=lambda item: place_of.get(item.path, len(LONGEST) + (item.path in shared)))
     for item in items:
         if config.pluginmanager.hasplugin("xdist") and item.path not in shared:
             item.add_marker(pytest.mark.xdist_group(item.path.stem))
