@@ -178,6 +178,11 @@ def test_a_program_that_hangs(tmp_path) -> None:
     begin = time.monotonic()
     refused(
         ProgramTimedOut,
+        Program(script(tmp_path, f"(sleep 3; touch {tmp_path}/left) & wait"), seconds=0.3),
+        "0.3 s",
+    )
+    refused(
+        ProgramTimedOut,
         Program(script(tmp_path, "exec sleep 30"), seconds=0.3),
         "0.3 s",
         "more seconds",
@@ -187,12 +192,7 @@ def test_a_program_that_hangs(tmp_path) -> None:
         Program(script(tmp_path, "exec >&- 2>&-; exec sleep 30"), seconds=0.3),
         "0.3 s",
     )
-    refused(
-        ProgramTimedOut,
-        Program(script(tmp_path, f"(sleep 3; touch {tmp_path}/left) & wait"), seconds=0.3),
-        "0.3 s",
-    )
-    time.sleep(3.2)
+    time.sleep(2.6)
     assert not (tmp_path / "left").exists()  # what it started was stopped too
     assert time.monotonic() - begin < 20
 
