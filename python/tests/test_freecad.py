@@ -135,9 +135,9 @@ def document(properties: str) -> str:
             '</Object></ObjectData></Document>')
 
 
-def written(path: Path, text: str | bytes, name: str = "Document.xml") -> Path:
-    """A zip with one member."""
-    with zipfile.ZipFile(path, "w", zipfile.ZIP_DEFLATED) as archive:
+def written(path: Path, text: str | bytes, name: str = "Document.xml", level: int = 6) -> Path:
+    """A zip with one member, packed at a level from 1, the quickest, to 9."""
+    with zipfile.ZipFile(path, "w", zipfile.ZIP_DEFLATED, compresslevel=level) as archive:
         archive.writestr(name, text)
     return path
 

@@ -40,8 +40,8 @@ def told(path: Path) -> str:
 
 
 def packed(path: Path, text: str | bytes) -> Path:
-    """A FreeCAD file with this document."""
-    return written(path / "a.FCStd", text)
+    """A FreeCAD file with this document, which is large: packed quickly."""
+    return written(path / "a.FCStd", text, level=1)
 
 
 def nested(path: Path) -> Path:
@@ -185,7 +185,7 @@ def test_a_type_that_is_no_number_is_left_out(tmp_path: Path) -> None:
 
 def test_a_zip_bomb_is_refused(tmp_path: Path) -> None:
     path = tmp_path / "a.FCStd"
-    with zipfile.ZipFile(path, "w", zipfile.ZIP_DEFLATED) as archive:
+    with zipfile.ZipFile(path, "w", zipfile.ZIP_DEFLATED, compresslevel=1) as archive:
         with archive.open("Document.xml", "w") as member:
             for _ in range(200):
                 member.write(bytes(1 << 20))
