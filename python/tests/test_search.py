@@ -23,11 +23,12 @@ from pertxogai.judging.measure import Unit, greatest
 from pertxogai.judging.measure.limit import Limit
 from pertxogai.search import search
 from pertxogai.search.arrays import unit_rows
+from pertxogai.search.budget import Budget
 from pertxogai.search.contradictions import has_shrunk
 from pertxogai.search.equations import Equations
 from pertxogai.search.linearization import Linearization
 from pertxogai.search.searched import Searched
-from pertxogai.search.solving import solve
+from pertxogai.search.solving import can_be_met, solve
 from pertxogai.search.whole import of_the_whole
 from shared_drawings import SHRUNKEN_TRIANGLE
 from strips import strip
@@ -319,6 +320,15 @@ def test_what_is_told_twice_repeats_though_the_rest_moves():
             "length B 25\nlength C 13\nx C.end 30\ny C.end 0\ndistance A.end Origin 10\n")
     found = found_of(text)
     assert (found.freedoms, found.is_doubtful, len(found.repeats)) == (1, False, 1)
+
+
+@pytest.mark.parametrize("told, is_met", [("40", True), ("40.000001", True), ("41", False)])
+def test_whether_all_can_be_met_is_seen_without_what_lies_the_other_way_round(
+        told: str, is_met: bool, monkeypatch: pytest.MonkeyPatch) -> None:
+    # Two lengths that differ by nothing, by 1 nm and by 1 mm, within 2 nm.
+    monkeypatch.setattr("pertxogai.search.solving.Departures", None)
+    drawing = read_drawing(f"segment A 0 0 30 5\nlength A 40\nlength A {told}\n")
+    assert can_be_met(Equations(drawing), 2.0, Budget()) is is_met
 
 
 def test_all_are_named_that_contradict_in_a_long_chain():

@@ -23,7 +23,7 @@ from pertxogai.search.combination import Combination
 from pertxogai.search.dependencies import Dependency
 from pertxogai.search.equations import Equations
 from pertxogai.search.freedom import Freedom, freedom
-from pertxogai.search.solving import Found, solve
+from pertxogai.search.solving import Found, can_be_met, solve
 from pertxogai.search.unknowns import By, Unknowns
 
 Numbers = tuple[int, ...]
@@ -145,8 +145,8 @@ class _Rests:
 
     def _is_met(self, gone: Collection[int], seconds: float) -> bool:
         """Whether places are found that meet all but some constraints."""
-        rest = solve(Equations(without(self._drawing, gone)), Budget(STEPS, seconds))
-        return rest.end.worst_nm <= self._within_nm
+        rest = Equations(without(self._drawing, gone))
+        return can_be_met(rest, self._within_nm, Budget(STEPS, seconds))
 
 
 def has_shrunk(equations: Equations, x: Array) -> bool:

@@ -15,6 +15,7 @@ from __future__ import annotations
 
 from collections.abc import Callable, Iterator
 from dataclasses import dataclass
+from functools import cached_property
 
 import numpy as np
 
@@ -72,12 +73,17 @@ def solve(equations: Equations, budget: Budget | None = None) -> Found:
     return _Solving(equations, budget or Budget()).best()
 
 
+def can_be_met(equations: Equations, within_nm: float, budget: Budget) -> bool:
+    """Whether places are found at which no row is off by more than so many nanometres, whichever
+    way round things lie there."""
+    return _Solving(equations, budget).meets(within_nm)
+
+
 class _Solving:
     """All tries at one drawing."""
 
     def __init__(self, equations: Equations, budget: Budget) -> None:
-        self._budget = budget
-        self._departures = Departures(equations.unknowns)
+        self._budget, self._unknowns = budget, equations.unknowns
         self._firm, self._loose = equations.firm(True), equations.firm(False)
         self._start = scaled(equations, SAME_SCALE)
         self._found: list[Found] = []
@@ -89,6 +95,20 @@ class _Solving:
             if self._found[-1].is_as_drawn() or self._budget.is_spent():
                 break
         return min(self._found, key=Found.worth)
+
+    def meets(self, within_nm: float) -> bool:
+        """Whether one of them meets all within so many nanometres."""
+        for end in self._ends():
+            if end.is_met() or end.worst_nm <= within_nm:
+                return True
+            self._found.append(Found(end, 0))
+            if self._budget.is_spent():
+                break
+        return False
+
+    @cached_property
+    def _departures(self) -> Departures:
+        return Departures(self._unknowns)
 
     def _ends(self) -> Iterator[End]:
         """Where each try ends, in their order; each is begun once the last is judged."""
@@ -157,4 +177,4 @@ def scaled(equations: Equations, same: float) -> Array:
     return x if 1 / same < factor < same else x * factor
 
 
-__all__ = ["MET_NM", "Found", "scaled", "solve"]
+__all__ = ["MET_NM", "Found", "can_be_met", "scaled", "solve"]
