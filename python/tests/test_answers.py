@@ -828,7 +828,7 @@ def test_what_is_lacking_by_rank_is_told_with_every_verdict(program, text, lacks
 
 def test_the_page_tells_what_json_says(program):
     page = (Path(__file__).parents[1] / "README.md").read_text()
-    table = page.partition("### What `judge --json` says of a drawing")[2].partition("\n### ")[0]
+    table = page.partition("### What `judge --json` says of a drawing")[2].partition("\n####")[0]
     told = {key for line in table.splitlines() if line.startswith("| `")
             for key in re.findall(r"`(\w+)`", line.split("|")[1])}
     found = judge(read_drawing(PLATE), program)

@@ -53,8 +53,9 @@ class NotPlaced(Exception):
 @dataclass
 class BoardDrawing:
     """A drawing and the judgement on it, by a program that is asked for more. sight, told: what
-    the page was told of it last, and of the judgement on it; None where that was trouble. name: that
-    of what is told so; of the same text another worker may find another shape, or none in time."""
+    the page was told of it last, and of the judgement on it; None where that was trouble. name:
+    that of what is told so; of the same text another worker may find another shape, or none in
+    time."""
 
     edited: EditedDrawing
     program: Solver
