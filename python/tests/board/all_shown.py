@@ -20,6 +20,8 @@ LONGEST_SECONDS = 240 * PATIENCE
 program."""
 REST_SECONDS = 1.5
 """A page is at rest once nothing has changed for so long: a moment after which it asks is over."""
+MOST_ASIDE = 0.004
+"""A point is shown where it was within this share of the farthest: about a pixel and a half."""
 COUNTS = """
 if (!window.calls_) {
   window.calls_ = [];
@@ -182,13 +184,20 @@ def aside(points: dict[str, list[float]], places: dict[str, list[float]]) -> dic
 
 
 def differences(one: Sight, other: Sight) -> list[str]:
-    """What two sights of a drawing don't have alike, within a pixel; where nothing is drawn the
-    origin may lie anywhere."""
+    """What two sights of a drawing don't have alike; points by where they lie beside the origin,
+    wherever that is shown, and however large."""
     found = [f"{what}: {first!r}, and then {second!r}" for what, first, second in (
         ("text", one.text, other.text), ("edges", one.edges, other.edges),
         ("points", sorted(one.points), sorted(other.points)),
         ("marks", sorted(one.marks, key=str), sorted(other.marks, key=str)),
         *((part, one.panel[part], other.panel[part]) for part in one.panel)) if first != second]
-    points = one.points if one.edges else {}
-    return found or [f"{name}: {at}, and then {other.points[name]}"
-                     for name, at in points.items() if math.dist(at, other.points[name]) > 1.5]
+    first, then = beside_origin(one.points), beside_origin(other.points)
+    return found or [f"{name}: {at}, and then {then[name]}" for name, at in first.items()
+                     if math.dist(at, then[name]) > MOST_ASIDE]
+
+
+def beside_origin(points: dict[str, list[float]]) -> dict[str, tuple[float, float]]:
+    """Where points are shown beside the origin; the farthest at 1."""
+    x, y = points["Origin"]
+    far = max(math.dist(at, (x, y)) for at in points.values()) or 1.0
+    return {name: ((u - x) / far, (v - y) / far) for name, (u, v) in points.items()}
