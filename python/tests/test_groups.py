@@ -23,12 +23,28 @@ TRIANGLE = ("point A 0 0\npoint B 4 0\npoint C 4 3\n"
 BRACED = ("point A 0 0\npoint B 4 0\npoint C 4 3\npoint D 0 3\n"
           "AB: distance A B 4\nAC: distance A C 5\nAD: distance A D 3\n"
           "BC: distance B C 3\nBD: distance B D 5\nCD: distance C D 4.5\n")
+SLOT = ("segment Lower 35 16 66 17\narc East 64 25 Lower.end 65 34\n"
+        "segment Upper East.end 36 33\narc West 35 24 Upper.end Lower.start\n"
+        "tangent Lower East\ntangent East Upper\ntangent Upper West\ntangent West Lower\n"
+        "equal East West\nhorizontal West East\nx West 35\ny West 25\nlength Lower 31\n")
 ROW = ("point A 0 0\npoint B 50 0\npoint C 100 0\nfixed A\ny B 0\ny C 0\n"
        "Left: x A B +50\nRight: x B C +60\nWidth: x A C +100\n")
 
 
 def others(judged: Judgement) -> dict[str, set[str]]:
     return {each.name: set(each.others) for each in judged.surplus}
+
+
+@pytest.mark.parametrize("size", ["radius East 8", "diameter East 16"])
+@pytest.mark.parametrize("across_mm", ["16", "17"])
+def test_who_gives_an_arc_its_radius_is_named_beside_its_ends(program: Program, size: str,
+                                                              across_mm: str) -> None:
+    """A slot is as wide as twice the radius of its ends: either tells the other."""
+    found = judge(read_drawing(f"{SLOT}Round: {size}\nAcross: distance Lower Upper {across_mm}\n"),
+                  program)
+    assert found.verdict is Verdict.OVER
+    assert others(found) == {"Round": {"the ends of East", "Across"},
+                             "Across": {"the ends of East", "Round"}}
 
 
 @pytest.mark.parametrize("again_mm", ["5", "5.01"])

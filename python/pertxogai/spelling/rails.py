@@ -121,7 +121,8 @@ class Rails:
         second, first = sorted(keys, key=lambda key: -equation.form.terms[key])
         if [equation.form.terms[key] for key in (second, first)] != [1, -1]:
             return None
-        return Run(first, second, -value.number, equation.owners)
+        owners = equation.owners | self.axes.owners(sizes) if sizes.terms else equation.owners
+        return Run(first, second, -value.number, owners)
 
     def rail(self, coordinate: Coordinate) -> Rail | None:
         """The rail of a coordinate; None if nothing is known of it."""

@@ -3,8 +3,9 @@ from __future__ import annotations
 
 from functools import partial
 
+from pertxogai.spelling.axes import Axes
 from pertxogai.spelling.drafts import Draft, Owners, said_by
-from pertxogai.spelling.facts import Knot, Line
+from pertxogai.spelling.facts import Apart, Knot, Line, Off, Owner
 from pertxogai.spelling.linear import Number
 from pertxogai.spelling.rails import Rail, Run
 from pertxogai.spelling.spelled import Behind, Track
@@ -150,10 +151,16 @@ class Heights:
             if not value:
                 layout.left_out.add(fact.owner)
                 continue
-            layout.say(layout.points[first], self._end_name(second), said_by({fact.owner}), value)
+            layout.say(layout.points[first], self._end_name(second),
+                       partial(_owners, fact, layout.axes), value)
 
     def _end_name(self, end: Knot | Line) -> str:
         layout = self.layout
         if isinstance(end, Knot):
             return layout.points[end]
         return layout.names[layout.axes.lines.leader(end)]
+
+
+def _owners(fact: Apart | Off, axes: Axes) -> frozenset[Owner]:
+    """Who says a distance, and how long it is."""
+    return axes.owners(fact.value) | {fact.owner}
