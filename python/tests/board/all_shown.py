@@ -106,6 +106,7 @@ def settle(page: Page) -> str:
 def sight_of(page: Page) -> Sight:
     """All that a page shows, once it is at rest, with each tab of its open panel opened."""
     page.keys("0")
+    settle(page)
     for tab in ("asked", "values", "steps"):
         page.click(f"#tab-{tab}")
     settle(page)
