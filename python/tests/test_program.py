@@ -363,8 +363,11 @@ def test_a_library_that_is_none(monkeypatch, tmp_path) -> None:
     assert isinstance(quickest(), Program)
 
 
-def test_the_library_of_an_unpacked_release_is_beside_its_program(built_library, monkeypatch, tmp_path) -> None:
-    for name in ("own/bin", "own/lib", "links"):
+@pytest.mark.parametrize("folder", ["lib", f"lib/{os.uname().machine}-linux-gnu"],
+                         ids=["tarball", "packages"])
+def test_the_library_of_an_unpacked_release_is_beside_its_program(
+        folder: str, built_library, monkeypatch, tmp_path) -> None:
+    for name in ("own/bin", f"own/{folder}", "links"):
         (tmp_path / name).mkdir(parents=True)
     program = script(tmp_path / "own/bin", "echo")
     (tmp_path / "links/sketch").symlink_to(program)
@@ -374,8 +377,30 @@ def test_the_library_of_an_unpacked_release_is_beside_its_program(built_library,
     monkeypatch.setenv("PATH", str(tmp_path / "links"))
     with pytest.raises(MissingProgram, match="elsewhere.so is no libsketch"):
         Library.find()
-    (tmp_path / "own/lib/libsketch.so.1").symlink_to(built_library.path)
-    assert Library.find().path == str(tmp_path / "own/lib/libsketch.so.1")
+    (tmp_path / f"own/{folder}/libsketch.so.1").symlink_to(built_library.path)
+    assert Library.find().path == str(tmp_path / f"own/{folder}/libsketch.so.1")
+
+
+def test_where_no_library_is_found_it_says_where_it_looked(monkeypatch, tmp_path) -> None:
+    """Beside the `sketch` on the path, or that there is none on it; nothing is built in a release."""
+    (tmp_path / "usr/bin").mkdir(parents=True)
+    monkeypatch.delenv("PERTXOGAI_LIBRARY", raising=False)
+    monkeypatch.setattr("pertxogai.program.library.BUILD", tmp_path / "dist-packages/c/out/libsketch.so")
+    monkeypatch.setattr("ctypes.util.find_library", lambda name: None)
+    monkeypatch.setenv("PATH", str(tmp_path / "usr/bin"))
+    install = "no library: install the Debian package libpertxogai-sketch1, "
+    last = ", name one by PERTXOGAI_LIBRARY, or use the program"
+    with pytest.raises(MissingProgram) as found:
+        Library.find()
+    put = "put the `sketch` on the path of a release that is unpacked with its library"
+    assert str(found.value) == f"{install}{put}{last}"
+    script(tmp_path / "usr/bin", "echo")
+    lib = tmp_path / "usr/lib"
+    with pytest.raises(MissingProgram) as found:
+        Library.find()
+    unpack = "unpack the library of a release with the `sketch` on the path"
+    folders = f"{lib} and {lib}/{os.uname().machine}-linux-gnu have no libsketch.so.1"
+    assert str(found.value) == f"{install}{unpack} ({folders}){last}"
 
 
 @pytest.mark.parametrize("folder, advice", [

@@ -185,6 +185,13 @@ def test_the_command_of_a_package_that_is_only_unpacked_judges(installed: Path) 
     assert done(command, "--version", env=bare) == f"pertxogai {__version__}\n"
 
 
+def test_the_library_of_packages_that_are_only_unpacked_is_found(installed: Path) -> None:
+    """By the `sketch` on the path: no variable names it."""
+    asked = "from pertxogai.program.library import Library; print(Library.find().path)"
+    found = done(PYTHON, "-c", asked, env=within(installed))
+    assert found.strip() == str(installed / "usr/lib/x86_64-linux-gnu/libsketch.so.1")
+
+
 def test_the_installed_checkers_read_a_claim(installed: Path, tmp_path: Path) -> None:
     here, triangle = within(installed), TOP / "examples/triangle.sketch"
     words = ("pertxogai", "certify", triangle, "-o", tmp_path / "triangle.claim", "--check")

@@ -37,14 +37,13 @@ class Library:
     @staticmethod
     def find(path: str | None = None) -> Library:
         """The library at `path`, else the one that the variable PERTXOGAI_LIBRARY names, else
-        the repository's own build, else the one in the folder `lib` beside that of the `sketch`
-        on the path, else the system's libsketch. Raises MissingProgram."""
+        the repository's own build, else the one that was unpacked with the `sketch` on the path,
+        from the tarball or the Debian packages, else the system's libsketch. Raises
+        MissingProgram."""
         named = path or os.environ.get(VARIABLE) or _found()
         if named is None:
-            here = (f"{BUILD} isn't built; build it by c/build" if BUILD.parents[1].is_dir()
-                    else "install the Debian package libpertxogai-sketch1")
-            raise MissingProgram(f"no library: {here}, put the `sketch` of an unpacked release on "
-                                 f"the path, name one by {VARIABLE}, or use the program")
+            raise MissingProgram(f"no library: {_where_to_get_it()}, name one by {VARIABLE}, or "
+                                 "use the program")
         return Library(named)
 
     def ask(self, words: Sequence[str], text: str) -> Answer:
@@ -88,13 +87,32 @@ def _call_in(path: str) -> _Call:
 
 
 def _found() -> str | None:
-    """The library that nobody named. A release that is unpacked has the program in `bin` and the
-    library in `lib`, wherever it lies."""
+    """The library that nobody named."""
     if BUILD.is_file():
         return str(BUILD)
+    unpacked = (folder / INSTALLED for folder in _folders())
+    return next((str(each) for each in unpacked if each.is_file()),
+                None) or ctypes.util.find_library("sketch")
+
+
+def _folders() -> tuple[Path, ...]:
+    """Where the library lies that was unpacked with the `sketch` on the path: the tarball has it
+    in `lib` beside `bin`, the Debian packages in a folder of that, which the machine names."""
     program = shutil.which("sketch")
-    beside = Path(program).resolve().parents[1] / "lib" / INSTALLED if program else None
-    return str(beside) if beside and beside.is_file() else ctypes.util.find_library("sketch")
+    if program is None:
+        return ()
+    lib = Path(program).resolve().parent.parent / "lib"
+    return lib, lib / f"{os.uname().machine}-linux-gnu"
+
+
+def _where_to_get_it() -> str:
+    """What to do where there is no library: in a clone of the repository, and elsewhere."""
+    here = (f"{BUILD} isn't built; build it by c/build" if BUILD.parents[1].is_dir()
+            else "install the Debian package libpertxogai-sketch1")
+    if folders := " and ".join(map(str, _folders())):
+        return (f"{here}, unpack the library of a release with the `sketch` on the path "
+                f"({folders} have no {INSTALLED})")
+    return f"{here}, put the `sketch` on the path of a release that is unpacked with its library"
 
 
 def quickest() -> Solver:
