@@ -235,7 +235,8 @@ def test_files_that_are_not_there_and_outputs_that_cannot_be(capsys, tmp_path) -
     sketch = str(EXAMPLES / "triangle.sketch")
     for words, inside in [
         (["judge", str(tmp_path / "gone.sketch")], "No such file"),
-        (["judge", str(tmp_path)], "ending"),
+        (["judge", str(tmp_path)], f"{tmp_path}: it is a folder: name the files in it, such as {tmp_path}/*\n"),
+        (["range", str(tmp_path)], "it is a folder"),
         (["draw", sketch, "-o", str(tmp_path / "no" / "out.svg")], "can't be written"),
         (["draw", sketch, "-o", str(tmp_path / "out.png")], ".svg or .dxf"),
         (["draw", str(EXAMPLES / "hinge.sketch"), "-o", str(tmp_path / "out.dxf")], "it is open"),

@@ -67,6 +67,8 @@ def kind_of(path: Path) -> Kind | None:
 
 def read_inputs(path: Path) -> tuple[Input, ...]:
     """The sketches of a file. Raises InputRefused."""
+    if path.is_dir():
+        raise InputRefused(f"{path}: it is a folder: name the files in it, such as {path / '*'}")
     kind = kind_of(path)
     if kind is None:
         known = ", ".join(f"{it.suffix} ({it.what})" for it in KINDS)
