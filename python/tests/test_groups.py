@@ -12,6 +12,7 @@ from pertxogai.judging import judge, judge_sketch
 from pertxogai.judging.groups import groups_of
 from pertxogai.judging.judgement import Judgement
 from pertxogai.judging.judged_drawing import JudgedDrawing
+from pertxogai.judging.naming import listed, quoted
 from pertxogai.output import drawing_json, drawing_lines, sketch_json, sketch_lines
 from pertxogai.program import Program
 from pertxogai.program.reports import Verdict, read_why
@@ -145,6 +146,27 @@ def test_a_dimension_without_a_group_of_the_program_has_that_of_the_search(
         assert group[2] and set(group[2].split(", ")) <= set(names) - {name}
     assert main(["judge", "--no-search", path, "--program", program.path]) == 1
     assert "conflicts with (by numbers)" not in capsys.readouterr().out
+
+
+@pytest.mark.parametrize("words", [(), ("--no-search",)], ids=["searched", "not searched"])
+def test_json_has_each_group_that_the_lines_have_and_says_whose_it_is(
+        words: tuple[str, ...], program: Program, capsys: pytest.CaptureFixture[str]) -> None:
+    path = str(DRAWINGS / "over-plate-contradiction.drawing")
+    told = ["judge", *words, path, "--program", program.path]
+    assert main(told) == 1
+    lines = capsys.readouterr().out.splitlines()
+    assert main([*told, "--json"]) == 1
+    sketch, = json.loads(capsys.readouterr().out)["sketches"]
+    assert len(sketch["spare"]) == 4
+    for each in sketch["spare"]:
+        start = f"    {quoted(each['name'])}: conflicting"
+        at = next(at for at, line in enumerate(lines) if line.startswith(start))
+        head, _, group = "".join(lines[at + 1:at + 2]).strip().partition(": ")
+        said = {"conflicts with": "", "conflicts with (by numbers)": ""} | {head: group}
+        assert listed(each["follows_from"]) == said["conflicts with"]
+        assert listed(each["follows_from_by_numbers"]) == said["conflicts with (by numbers)"]
+    by_numbers = [each["name"] for each in sketch["spare"] if each["follows_from_by_numbers"]]
+    assert bool(by_numbers) is (not words)  # The search alone gives such a group.
 
 
 def test_a_repeat_says_that_it_repeats(program: Program, tmp_path, capsys) -> None:

@@ -12,6 +12,7 @@ from fractions import Fraction
 from pertxogai.drawing import ORIGIN, Coincident, Constraint, Drawing
 from pertxogai.drawing.places import NM_PER_UM
 from pertxogai.exact import whole_up
+from pertxogai.judging.finding import Finding, Group
 from pertxogai.judging.freedoms import Freedoms, Gone, freedoms
 from pertxogai.judging.measure.deviation import Deviation, Unit, greatest, worst
 from pertxogai.judging.measure.limit import Limit, amount_text
@@ -55,8 +56,9 @@ class Then(Enum):
 class Surplus:
     """A removable dimension, what the rest is without it, and its deviation where the rest is
     placed: it is redundant if that is within the limit. off: None if the rest has no positions, or
-    if more is free without the dimension. then: None if it wasn't tried. rounding: by how much the
-    rounded values of the rest change `off`, in the same unit."""
+    if more is free without the dimension. then: None if it wasn't tried. others: those that it
+    follows from or conflicts with, as the program names them. rounding: by how much the rounded
+    values of the rest change `off`, in the same unit."""
 
     number: int
     name: str
@@ -90,6 +92,15 @@ class Surplus:
         if self.off is None or self.may_be_rounding():
             return None
         return self.off.amount <= self.limit.amount
+
+    def others_by_numbers(self, finding: Finding | None) -> Group:
+        """The others of its group, by numbers: the first group that the search found with it. None
+        if the program names some, or if its deviation isn't known."""
+        if finding is None or self.others or self.off is None:
+            return ()
+        groups = {True: finding.repeats, False: finding.contradictions, None: finding.in_doubt}
+        with_it = (group for group in groups[self.repeats()] if self.name in group)
+        return tuple(name for name in next(with_it, ()) if name != self.name)
 
     def opens(self) -> bool:
         """Whether more is missing without it, and without what has to go beside it."""

@@ -285,18 +285,8 @@ def _removable_lines(each: Surplus, judged: CountedDrawing) -> Iterator[str]:
     yield f"    {name}{_off_text(each)}{then}"
     if each.others:
         yield f"      {FOLLOWS[each.repeats()]}: {listed(each.others)}"
-    elif judged.finding is not None and (others := _group_by_numbers(each, judged.finding)):
+    elif others := each.others_by_numbers(judged.finding):
         yield f"      {FOLLOWS[each.repeats()]} (by numbers): {listed(others)}"
-
-
-def _group_by_numbers(each: Surplus, finding: Finding) -> Group:
-    """The others of the first group that the search found with a removable dimension; none of one
-    that wasn't measured."""
-    if each.off is None:
-        return ()
-    groups = {True: finding.repeats, False: finding.contradictions, None: finding.in_doubt}
-    with_it = (group for group in groups[each.repeats()] if each.name in group)
-    return tuple(name for name in next(with_it, ()) if name != each.name)
 
 
 def _off_text(each: Surplus) -> str:

@@ -36,7 +36,7 @@ def drawing_json(judged: CountedDrawing) -> dict[str, object]:
         "nearly": [asdict(each) for each in judged.nearly],
         "measured_over": list(judgement.measured_off),
         "by_rank": _by_rank(judgement),
-        "spare": [spare_json(each) for each in judgement.surplus],
+        "spare": _spare(judged),
         **_placed_json(judged),
         "by_numbers": {"unmet": None if judgement.unmet is None else list(judgement.unmet)},
         "warnings": [each.text() for each in judged.warnings()],
@@ -147,6 +147,13 @@ def spare_json(each: Surplus) -> SpareJson:
             "rounding": each.rounding,
             "rest": each.then.value if each.then is not None else None,
             "follows_from": list(each.others)}
+
+
+def _spare(judged: CountedDrawing) -> list[dict[str, object]]:
+    """What may go, each with its group by the program, or else by numbers."""
+    return [{**spare_json(each),
+             "follows_from_by_numbers": list(each.others_by_numbers(judged.finding))}
+            for each in judged.judgement.surplus]
 
 
 def _places(drawing: Drawing, solution: Solution) -> dict[str, object]:
