@@ -51,6 +51,12 @@ static void print_moved(const char *text, const double *corner, const double *ed
     }
 }
 
+/* Says why there are no coordinates. Out of memory there is no text, or only its beginning. */
+static void print_failure(int32_t status, const char *text) {
+    int lacks_memory = status == SKETCH_NO_MEMORY || status == SKETCH_WRITE_FAULT;
+    fprintf(stderr, "status %d: %s", (int)status, lacks_memory ? "out of memory\n" : text);
+}
+
 int main(void) {
     char *text;
     size_t size;
@@ -59,7 +65,7 @@ int main(void) {
     if (status == SKETCH_DONE && numbers_of(text, "point A", corner) == 2 && numbers_of(text, "line Bottom", edge) == 3)
         print_moved(text, corner, edge);
     else
-        fprintf(stderr, "status %d: %s", (int)status, text != NULL ? text : "no memory\n");
+        print_failure(status, text);
     free(text);
     return status;
 }

@@ -18,7 +18,8 @@ int main(void) {
     size_t size;
     int32_t status = sketch_run("solve", triangle, sizeof triangle - 1, &text, &size);
     if (status != SKETCH_DONE) {
-        fprintf(stderr, "status %d: %s", (int)status, text != NULL ? text : "no memory\n");
+        int lacks_memory = status == SKETCH_NO_MEMORY || status == SKETCH_WRITE_FAULT;
+        fprintf(stderr, "status %d: %s", (int)status, lacks_memory ? "out of memory\n" : text);
         free(text);
         return status;
     }

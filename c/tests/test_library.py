@@ -1,4 +1,5 @@
 """The library beside the program: the same answers, from many threads, with memory refused, and nothing else shown."""
+import itertools
 import os
 import pathlib
 import shutil
@@ -132,6 +133,21 @@ def test_a_plate_is_moved_to_the_origin(room, tmp_path, sanitizer):
     compiled("cc", "-std=c99", *STRICT, *sanitizer, source, room / "libsketch.a", "-o", tmp_path / "origin")
     assert run(tmp_path / "origin").stdout.decode().splitlines() == [
         "A lies at 0.000, 0.000 mm", "B lies at 100.000, 0.000 mm", "C lies at 100.000, 60.000 mm", "D lies at 0.000, 60.000 mm"]
+
+
+@pytest.mark.parametrize("example", ["places", "origin"])
+def test_an_example_says_that_memory_ran_out(room, tmp_path, example):
+    """Whichever request is the first that is refused: there is no text then, or an empty one, or its beginning."""
+    compiled("cc", "-std=gnu11", *STRICT, HERE / f"examples/{example}.c", HERE / "tests/refusing.c",
+             room / "libsketch.a", "-Wl,--wrap=malloc,--wrap=realloc", "-o", tmp_path / example)
+    statuses = set()
+    for granted in itertools.count():
+        done = run(tmp_path / example, env={"GRANTED": str(granted)})
+        if done.returncode == 0:
+            break
+        statuses.add(done.returncode)
+        assert (done.stdout, done.stderr) == (b"", b"status %d: out of memory\n" % done.returncode)
+    assert statuses == {4, 5}
 
 
 def test_linking_as_the_guide_says(room, tmp_path):
