@@ -14,7 +14,8 @@ struct Answer {
     std::string text;
 };
 
-// Throws std::bad_alloc where memory ran out for the text.
+// Throws std::bad_alloc where sketch_run gave no text. If memory ran out within the call, it answers SKETCH_NO_MEMORY or
+// SKETCH_WRITE_FAULT: look at the status.
 Answer ask(const std::string &command, std::string_view input) {
     char *text = nullptr;
     std::size_t size = 0;
