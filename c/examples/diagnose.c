@@ -18,18 +18,36 @@ static char *answer(const char *command, const char *sketch, int32_t *status) {
     return text != NULL ? text : (char *)calloc(1, 1);
 }
 
+/* The end of the next `count` words of a line. */
+static const char *after_words(const char *line, int count) {
+    line += strcspn(line, " ");
+    while (--count > 0 && *line == ' ') line += 1 + strcspn(line + 1, " ");
+    return line;
+}
+
+/* The end of the constraint with which a line begins. Count its words, and search for none of those that follow: an
+ * element may be called "repeat", or "off". */
+static const char *after_constraint(const char *line) {
+    if (strncmp(line, "distance ", 9) == 0 || strncmp(line, "angle ", 6) == 0) return after_words(line, 4);
+    if (strncmp(line, "block ", 6) != 0) return after_words(line, 3);
+    const char *end = after_words(line, 1);
+    double x, y;
+    while (sscanf(end, " %*s %lf %lf", &x, &y) == 2) end = after_words(end + 1, 3);
+    return end;
+}
+
 /* Each line of `excess` that names a constraint: "c4 : distance A B 41 conflict off -1000000 nm". */
 static void print_excess(char *text) {
     for (char *line = strtok(text, "\n"); line != NULL; line = strtok(NULL, "\n")) {
-        int number, at = 0;
+        int number, at = 0, off = 0;
         if (sscanf(line, "c%d : %n", &number, &at) != 1 || at == 0) continue;
-        const char *repeat = strstr(line, " repeat off "), *conflict = strstr(line, " conflict off ");
-        const char *kind = repeat != NULL ? repeat : conflict;
-        if (kind == NULL) /* the other constraints have no solution: a fault line follows */
-            printf("one too many: %s\n", line + at);
+        const char *constraint = line + at, *rest = after_constraint(constraint);
+        char kind[9];
+        if (sscanf(rest, " %8s off %n", kind, &off) != 1 || off == 0) /* a line after the constraints says why */
+            printf("one too many: %s\n", constraint);
         else
-            printf("%s: %.*s, off by %s\n", repeat != NULL ? "redundant" : "conflicting", (int)(kind - line) - at, line + at,
-                   strstr(kind, " off ") + strlen(" off "));
+            printf("%s: %.*s, off by %s\n", strcmp(kind, "repeat") == 0 ? "redundant" : "conflicting",
+                   (int)(rest - constraint), constraint, rest + off);
     }
 }
 
@@ -48,14 +66,15 @@ static void print_added(char *text, int given) {
         if (is_constraint(line) && ++count > given) printf("missing: %s\n", line);
 }
 
-/* The fault line of `solve`: "fault s1 build height C gap LO HI bits B" is the form that names a number without a root. */
+/* The fault line of `solve`: "fault s1 build height C gap LO HI bits B". LO and HI enclose the number under a root, or
+ * a divisor, and may be too long for 64 bits. */
 static void print_fault(const char *text) {
     char step[16], stage[16], quantity[16], element[17], cause[16];
     double low, high;
     int bits;
     if (sscanf(text, "fault %15s %15s %15s %16s %15s %lf %lf bits %d", step, stage, quantity, element, cause, &low, &high,
                &bits) != 8) {
-        printf("%s", text); /* a report of check, or another form of fault */
+        printf("%s", text); /* another form of fault */
         return;
     }
     double unit = 1.0 / (double)(1LL << bits);

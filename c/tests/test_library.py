@@ -122,6 +122,14 @@ def test_the_examples_say_what_the_guide_shows(room):
     assert run(room / "diagnose").stdout.decode().splitlines() == [
         "conflicting: distance A B 41, off by -1000000 nm", "redundant: distance B C 30, off by 0 nm",
         "missing: distance A C 50", "height of C in step s1: gap, between -5.25 and -5.25"]
+    # an element may have any name, also one that reads like the end of a line
+    source = HERE / "tests/excess_lines.c"
+    compiled("cc", "-std=c99", *STRICT, f"-I{HERE}/examples", source, room / "libsketch.a", "-o", room / "excess_lines")
+    assert run(room / "excess_lines").stdout.decode().splitlines() == [
+        "conflicting: distance repeat off 41, off by -1000000 nm", "redundant: on repeat off, off by 5 nm",
+        "conflicting: angle conflict off 1/1, off by 500000000 ppb",
+        "conflicting: tangent off conflict, off by 0 nm turned drawn + placed -1",
+        "redundant: block repeat 0 0 off 4 0 conflict -1.5 3, off by 0 nm", "one too many: on repeat conflict"]
     compiled("c++", "-std=c++17", *STRICT, HERE / "examples/judge.cpp", room / "libsketch.a", "-o", room / "judge_cpp")
     assert run(room / "judge_cpp").stdout.decode() == "verdict open\nverdict well\n1 refused line 10 E16 no-end\n"
 
