@@ -6,8 +6,8 @@
  * docs/EMBEDDING.md says how to link.
  *
  * The header needs C99 or later, or C++. The library needs nothing but the C library's malloc, realloc, free and memory
- * functions. It has no state: nothing is kept from call to call, and any number of threads may call at once. It never
- * aborts, prints, or opens a file. */
+ * functions. It has no state: nothing is kept from call to call, so live too takes its whole input in one call, and any
+ * number of threads may call at once. It never aborts, prints, or opens a file. */
 #ifndef SKETCH_H
 #define SKETCH_H
 
@@ -33,7 +33,8 @@ enum sketch_status {
                               * lines before */
     SKETCH_USAGE = 2,        /* the command or one of its keys isn't valid: the text is the usage line */
     SKETCH_READ_FAULT = 3,   /* never: reading from memory can't fail */
-    SKETCH_WRITE_FAULT = 4,  /* out of memory while the text was collected: the text is a prefix of it */
+    SKETCH_WRITE_FAULT = 4,  /* out of memory while the text was collected: it is only the beginning of the text, and may
+                              * end within a line */
     SKETCH_NO_MEMORY = 5,    /* out of memory before that: the text is empty; for session and live it is the whole replies
                               * so far */
     SKETCH_NOT_WELL = 6,     /* the sketch isn't fully constrained: the text is the report of check; for complete it follows
@@ -51,12 +52,13 @@ enum sketch_status {
  * command       command_length bytes; the words are separated by spaces, and needn't end in a 0
  * input         input_length bytes
  * output        room for `room` bytes. The text goes here, or the prefix that fits; the bytes after it stay as they were
- * size          receives the length of the whole text. If it is greater than room, call again with that much room
+ * size          receives the length of the whole text. If it is greater than room, call again with that much room: this
+ *               does all the work again
  *
  * All pointers belong to the caller, before and after; the library keeps none of them. None may be null, even if its
- * length is 0, and output and *size must overlap nothing else. A call takes at most 64 KiB of stack.
+ * length or room is 0, and output and *size must overlap nothing else. A call takes at most 64 KiB of stack.
  *
- * SKETCH_WRITE_FAULT and SKETCH_NO_MEMORY both mean out of memory. Any call may answer so.
+ * SKETCH_WRITE_FAULT and SKETCH_NO_MEMORY both mean out of memory, and any call may answer so: treat both alike.
  *
  * It is proved that the status and the text are those of the program. The pointers are trusted. It is proved that
  * SKETCH_WRITE_FAULT comes only where the text needs more memory than was allocated for it so far. It is tested that
@@ -65,11 +67,13 @@ int32_t sketch_answer(const uint8_t *command, size_t command_length, const uint8
                       uint8_t *output, size_t room, size_t *size);
 
 /* The same, with a text that this function allocates by malloc. It ends in a 0 that *size doesn't count. Free it with
- * free().
+ * free(). If the text has more than 4096 bytes, it makes the whole call twice; where that costs too much, call
+ * sketch_answer with a larger buffer.
  *
  * command       ends in a 0
  * input         input_length bytes; may be null if input_length is 0
- * text, size    receive the text and its length. If memory runs out for the text, *text is null and *size is 0
+ * text, size    receive the text and its length. If there is no memory for the text, *text is null and *size is 0, with
+ *               the status SKETCH_NO_MEMORY
  *
  * Written in C, and not proved. */
 static inline int32_t sketch_run(const char *command, const void *input, size_t input_length, char **text,
