@@ -156,7 +156,7 @@ STATUSES = (
     Status(8, "a tolerance is beyond the limit", "the fault line"),
     Status(9, "for `verify`, something of the claim fails; for `measure`, an element has no position",
            "the line that names it"),
-    Status(10, "the arguments can't be read", "nothing"),
+    Status(10, "there is no memory for the arguments", "nothing"),
 )
 
 CODES = (

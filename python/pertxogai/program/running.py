@@ -40,7 +40,7 @@ class Status(IntEnum):
     FAULT = 7  #: a step has no places, or a sign isn't as drawn: the fault line
     TOLERANCE = 8  #: a tolerance is beyond the limit: the fault line
     CLAIM_FAILS = 9  #: something of a claim fails: the line that names it
-    NO_ARGUMENTS = 10  #: the arguments can't be read: nothing
+    NO_ARGUMENTS = 10  #: there is no memory for the arguments: nothing
 
 
 @dataclass(frozen=True)
