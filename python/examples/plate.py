@@ -3,6 +3,7 @@ import sys
 
 from pertxogai.drawing import PointRef, Which, read_drawing, write_drawing
 from pertxogai.judging import judge
+from pertxogai.judging.measure import Unit, greatest
 from pertxogai.program import Program
 
 WORDS = """
@@ -21,5 +22,6 @@ print(judged.verdict.value)
 if judged.solution is not None:
     x_nm, y_nm = judged.solution.spot(PointRef("Hole", Which.CENTRE))
     print("the hole lies at", x_nm, y_nm, "nm")
-    print("the greatest deviation is", max(each.amount for each in judged.deviations))
+    off = greatest(judged.deviations, Unit.NM)
+    print("the greatest deviation is", off.amount if off else 0, "nm")
 print(*write_drawing(drawing).splitlines()[:3], sep="\n")
