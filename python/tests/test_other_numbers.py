@@ -9,7 +9,8 @@ from fractions import Fraction
 import pytest
 
 from conftest import TOP
-from pertxogai.drawing import Arc, Circle, Drawing, DrawingUnsound, PointRef, parameters, read_drawing
+from pertxogai.drawing import (
+    Arc, Circle, Degrees, Drawing, DrawingUnsound, PointRef, parameters, read_drawing)
 from pertxogai.judging.departures import Comparison, warnings
 from pertxogai.judging.edges import Edges
 from pertxogai.judging.measure import Solution
@@ -32,6 +33,23 @@ def with_other_numbers(drawing: Drawing) -> Iterator[Drawing]:
                 yield of.on(drawing, number)
             except DrawingUnsound:
                 pass
+
+
+def test_a_dimension_goes_back_to_its_first_value() -> None:
+    """Also in a drawing that was given other numbers since."""
+    drawing = read_drawing("segment S 0 0 4 0\nsegment T 0 0 0 3\nlength S 40\nlength T 30\n")
+    first, second = parameters(drawing)
+    changed = second.on(first.on(drawing, Fraction(90)), Fraction(50))
+    assert [each.value_um for each in changed.constraints] == [90_000, 50_000]
+    back = first.on(changed, Fraction(40))
+    assert [each.value_um for each in back.constraints] == [40_000, 50_000]
+    assert second.on(back, Fraction(50)) is back
+    turned = read_drawing("segment S 0 0 4 0\nsegment T 0 0 4 4\nangle S T 1/1\n")
+    (angle,) = parameters(turned)
+    assert angle.present == 45 and angle.on(turned, Fraction(45)) is turned
+    wider = angle.on(turned, Fraction(60))
+    assert wider.constraints[0].value == Degrees(Fraction(60))
+    assert angle.on(wider, Fraction(45)).constraints[0].value == Degrees(Fraction(45))
 
 
 def anew(drawing: Drawing) -> Drawing:

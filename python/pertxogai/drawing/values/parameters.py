@@ -65,13 +65,14 @@ class Dimension:
         return drawing.called(self.number)
 
     def on(self, drawing: Drawing, number: Fraction) -> Drawing:
-        """The drawing with another value for it, in its unit; with the present value the drawing
-        itself. An angle that was given by a ratio becomes one in degrees, as a turn. Raises
+        """The drawing with another value for it, in its unit; the drawing itself if it has this
+        value there. `drawing` is the one that it was found in, or that one with other numbers. An
+        angle that was given by a ratio becomes one in degrees, as a turn. Raises
         DrawingUnsound."""
-        if number == self.present:
-            return drawing
         old = drawing.constraints[self.number - 1]
         assert isinstance(old, VALUED)
+        if number == _value(drawing, old):
+            return drawing
         anew: Valued
         if isinstance(old, AngleBetween):
             sense = Sense.SIGNED if isinstance(old.value, Ratio) else old.sense
@@ -117,12 +118,17 @@ def _dimensions(drawing: Drawing) -> Iterator[Dimension]:
     for number, each in enumerate(drawing.constraints, start=1):
         if not isinstance(each, VALUED) or each.expression is not None and each.expression.names:
             continue
-        if not isinstance(each, AngleBetween):
-            yield Dimension(number, Unit.MM, each.value_um / 1000)
-        elif isinstance(each.value, Degrees):
-            yield Dimension(number, Unit.DEGREES, each.value.value)
-        else:
-            yield Dimension(number, Unit.DEGREES, _turn(drawing, each))
+        unit = Unit.DEGREES if isinstance(each, AngleBetween) else Unit.MM
+        yield Dimension(number, unit, _value(drawing, each))
+
+
+def _value(drawing: Drawing, dimension: Valued) -> Fraction:
+    """The value of a dimension, in its unit."""
+    if not isinstance(dimension, AngleBetween):
+        return dimension.value_um / 1000
+    if isinstance(dimension.value, Degrees):
+        return dimension.value.value
+    return _turn(drawing, dimension)
 
 
 def _turn(drawing: Drawing, angle: AngleBetween) -> Fraction:
