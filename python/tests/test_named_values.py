@@ -139,6 +139,17 @@ def test_another_value_is_reckoned_throughout():
         drawing.constraints[0]
 
 
+def test_another_value_for_a_name_that_no_value_has_is_refused():
+    """A misspelt name would else leave the drawing as it is, and good."""
+    drawing = read_drawing("value Width 120\nvalue Half Width/2\nsegment S 0 0 4 0\nlength S Half\n")
+    with pytest.raises(DrawingUnsound) as found:
+        with_values(drawing, {"Width": read_expression("90"), "Widht": read_expression("90")})
+    assert str(found.value) == ("value Widht: 'Widht' is the name of no value: the drawing has "
+                                "Width, Half")
+    with pytest.raises(DrawingUnsound, match="'Width' is the name of no value: the drawing has none"):
+        with_values(read_drawing("segment S 0 0 4 0\n"), {"Width": read_expression("90")})
+
+
 def test_another_value_that_leaves_no_length_is_refused_by_the_constraint():
     with pytest.raises(DrawingUnsound) as found:
         with_values(read_drawing(TEXT), {"Width": read_expression("0")})

@@ -44,9 +44,14 @@ def rounded_roots(drawing: Drawing) -> tuple[int, ...]:
 
 
 def with_values(drawing: Drawing, changes: Mapping[str, Expression]) -> Drawing:
-    """A sound drawing with other expressions for some values, and all expressions computed again.
-    Names that no value has are ignored. Raises DrawingUnsound for a value or constraint that isn't
-    sound then."""
+    """A sound drawing with other expressions for some values, by their names, and all expressions
+    computed again. Raises DrawingUnsound for a name that no value has, and for a value or
+    constraint that isn't sound then."""
+    known = [each.name for each in drawing.values]
+    for name in changes:
+        if name not in known:
+            raise DrawingUnsound(f"value {name}", name, "is the name of no value: the drawing has "
+                                 + (", ".join(known) or "none"))
     values = tuple(replace(each, expression=changes.get(each.name, each.expression))
                    for each in drawing.values)
     return reckoned(drawing.with_numbers(drawing.constraints, values))
