@@ -24,8 +24,9 @@ _PPB = 10 ** 9
 
 @dataclass(frozen=True)
 class Limit:
-    """The limit for each constraint: nanometres for a length, parts per 10^9 for a direction. The
-    key `within` of the language has one number for both, and so has this."""
+    """The limit for each constraint: nanometres for a length, parts per 10^9 for a direction, the
+    same number for both. `Limit(500)` is `--within 500` of a command, and `within=500` of the
+    language."""
 
     amount: int = DEFAULT
 

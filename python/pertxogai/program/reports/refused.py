@@ -12,7 +12,7 @@ _USAGE = "(usage: sketch [ -~]+)"
 
 @dataclass(frozen=True)
 class Usage:
-    """The arguments aren't valid; the line says what is."""
+    """The arguments aren't valid. The line lists all that are, and doesn't say which is wrong."""
 
     line: str
 
