@@ -17,4 +17,4 @@ for sketch in read_freecad(Path(sys.argv[1])):
     for point, (x_nm, y_nm) in good.solution.points.items():
         print(point, x_nm, y_nm)
     text = DrawingSheet(judged, as_drawn=False).dxf(Release.R2010)
-    (folder / f"{sketch.label}.dxf").write_text(text)
+    (folder / Path(f"{sketch.label}.dxf").name).write_text(text)  # a label may have slashes

@@ -4,6 +4,7 @@ from __future__ import annotations
 import os
 import subprocess
 import sys
+import zipfile
 from pathlib import Path
 
 import ezdxf
@@ -38,3 +39,17 @@ def test_of_what_is_left_out_of_the_file_no_dxf_is_written(program: Program, tmp
         lines = told(f"{name}.FCStd", tmp_path, program)
         assert lines[0].startswith("Sketch: ") and lines[1] == f"  left out of the file: {what}"
     assert [*tmp_path.iterdir()] == []
+
+
+def test_a_label_leads_out_of_no_folder(program: Program, tmp_path: Path) -> None:
+    """A label may be any text: the DXF lies in the folder that was asked for."""
+    path, folder = tmp_path / "renamed.FCStd", tmp_path / "folder"
+    old, new = b'<String value="Sketch"/>', b'<String value="../Out"/>'
+    with (zipfile.ZipFile(FILES / "triangle-by-sides.FCStd") as source,
+          zipfile.ZipFile(path, "w") as copy):
+        for name in source.namelist():
+            copy.writestr(name, source.read(name).replace(old, new))
+    folder.mkdir()
+    told(str(path), folder, program)
+    assert [each.name for each in folder.iterdir()] == ["Out.dxf"]
+    assert sorted(each.name for each in tmp_path.iterdir()) == ["folder", "renamed.FCStd"]
