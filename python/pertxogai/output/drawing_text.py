@@ -15,7 +15,6 @@ from pertxogai.output.verdict_text import verdict_text
 from pertxogai.program.called import COMMAND
 
 if TYPE_CHECKING:  # What isn't well, or isn't met, imports what is told of it alone.
-    from pertxogai.judging.finding import Finding, Group
     from pertxogai.judging.judgement import CountedJudgement, Judgement
     from pertxogai.judging.surplus import Surplus
 
