@@ -10,7 +10,8 @@ import pytest
 
 from conftest import TOP
 from pertxogai.drawing import (
-    Arc, Circle, Degrees, Drawing, DrawingUnsound, PointRef, parameters, read_drawing)
+    AngleBetween, Arc, Circle, Degrees, Drawing, DrawingUnsound, PointRef, line_of, parameters,
+    read_drawing)
 from pertxogai.judging.departures import Comparison, warnings
 from pertxogai.judging.edges import Edges
 from pertxogai.judging.measure import Solution
@@ -40,16 +41,17 @@ def test_a_dimension_goes_back_to_its_first_value() -> None:
     drawing = read_drawing("segment S 0 0 4 0\nsegment T 0 0 0 3\nlength S 40\nlength T 30\n")
     first, second = parameters(drawing)
     changed = second.on(first.on(drawing, Fraction(90)), Fraction(50))
-    assert [each.value_um for each in changed.constraints] == [90_000, 50_000]
+    assert [*map(line_of, changed.constraints)] == ["length S 90", "length T 50"]
     back = first.on(changed, Fraction(40))
-    assert [each.value_um for each in back.constraints] == [40_000, 50_000]
+    assert [*map(line_of, back.constraints)] == ["length S 40", "length T 50"]
     assert second.on(back, Fraction(50)) is back
     turned = read_drawing("segment S 0 0 4 0\nsegment T 0 0 4 4\nangle S T 1/1\n")
     (angle,) = parameters(turned)
     assert angle.present == 45 and angle.on(turned, Fraction(45)) is turned
     wider = angle.on(turned, Fraction(60))
-    assert wider.constraints[0].value == Degrees(Fraction(60))
-    assert angle.on(wider, Fraction(45)).constraints[0].value == Degrees(Fraction(45))
+    for drawing, degrees in ((wider, 60), (angle.on(wider, Fraction(45)), 45)):
+        (said,) = drawing.constraints
+        assert isinstance(said, AngleBetween) and said.value == Degrees(Fraction(degrees))
 
 
 def anew(drawing: Drawing) -> Drawing:
