@@ -877,6 +877,57 @@ def test_ends_of_an_arc_that_are_symmetric_about_its_centre_say_more_than_the_ar
     assert (found.missing.count, found.whole.text()) == (0, "turned")
 
 
+ASLANT = "segment S -1 -1 {}\npoint P {}\non P S\n{x} S.start P +1.6\n{x} P 1.6\n{x} S.end +1.6\n"
+
+
+@pytest.mark.parametrize("text, along", [
+    (ASLANT.format("1 10", "1 9", x="x"), "moved along y"),
+    (ASLANT.format("10 1", "9 1", x="y"), "moved along x"),
+])
+def test_a_point_as_far_out_as_the_end_of_its_edge_is_that_end(program, text, along):
+    """S begins on an axis and ends 1.6 from it, as far as P, so that P is its end: of S two
+    freedoms are left, of which one moves the whole. With its length, and as far from the origin,
+    it begins there, and ends root (8.723 8.723 - 1.6 1.6) = 8.575006 along the axis."""
+    found = judge(read_drawing(text), program)
+    assert found.verdict is Verdict.OPEN and found.missing.count == 1 and found.too_many == ()
+    assert found.whole.text() == along
+    whole = judge(read_drawing(text + "length S 8.723\ndistance S.end Origin 8.723\n"), program)
+    assert whole.verdict is Verdict.WELL and max(each.amount for each in whole.deviations) <= 2
+    end = (1_600_000, 8_575_006) if along.endswith("y") else (8_575_006, 1_600_000)
+    for name, told in (("S.start", (0, 0)), ("S.end", end), ("P", end)):
+        lies = whole.solution.spot(ref_of(name))
+        assert max(abs(a - b) for a, b in zip(lies, told)) <= 2, name
+
+
+ABOVE = "point P 6 4\non P S\nvertical P S.end\n"
+
+
+@pytest.mark.parametrize("lines, end", [
+    pytest.param("segment S 0 0 9 5\n" + ABOVE + "coincident S.start Origin\ny S.end 5\nlength S 10\n",
+                 (8_660_254, 5_000_000), id="10 long, of which it rises 5"),
+    pytest.param("segment T 0 0 4 -3\nsegment S T.end 7 1\n" + ABOVE + "coincident T.start Origin\n"
+                 "y T.end -3\nlength T 5\nperpendicular S T\nlength S 5\n",
+                 (7_000_000, 1_000_000), id="square to what goes to 4, -3"),
+    pytest.param("segment S 1 5 8 5\n" + ABOVE + "segment T 0 0 10 0\nparallel S T\n"
+                 "coincident T.start Origin\ny T.end 0\nlength T 10\nx S.start 1\ny S.start 5\nlength S 7\n",
+                 (8_000_000, 5_000_000), id="parallel to what is level"),
+])
+def test_a_point_above_the_end_of_an_edge_that_is_not_upright_is_that_end(program, lines, end):
+    found = judge(read_drawing(lines), program)
+    assert found.verdict is Verdict.WELL and max(each.amount for each in found.deviations) <= 2
+    for name in ("S.end", "P"):
+        lies = found.solution.spot(ref_of(name))
+        assert max(abs(a - b) for a, b in zip(lies, end)) <= 2, name
+
+
+def test_the_ends_of_an_edge_are_two_points(program):
+    """So S is upright, and no point of it is 5 aside; without any one of the four words it is."""
+    found = judge(read_drawing("segment S 0 0 1 10\npoint P 5 4\nLine: on P S\nFoot: x S.start 0\n"
+                               "Top: x S.end 0\nAside: x P 5\n"), program)
+    assert found.verdict is Verdict.OVER
+    assert {each.name for each in found.surplus} == {"Line", "Foot", "Top", "Aside"}
+
+
 def test_what_is_well_by_its_count_alone_is_over(program):
     """P2's x is told twice, and so L3.end's x is 50.3; nothing tells P2's height. L3 runs 27.03 to
     the left and is 27.03 * hypot(5, 2) / 5 long, so of a triangle of 29.1123, 24.5 and 37 the

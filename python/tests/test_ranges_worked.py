@@ -325,7 +325,8 @@ def range_of(text: str, name: str) -> Range:
     (DIP, "V", None, "198"),
     # C lies at -500/(Up - 10): at 10 the lever is level, and beneath C is on the other side.
     (LEVER, "Up", "10.001", "1000000"),
-    (LEVER, "Begin", "0.001", "19.999"),
+    # It lies at -50 Begin/(20 - Begin): at 0 where the lever begins.
+    (LEVER, "Begin", "0", "19.999"),
     # At 30 the two edges are parallel, and no place is 10 from both.
     (BESIDE_TWO, "Up", "30.001", "1000000"),
     # The bore stays within the disc, whose centre may lie in it or not.

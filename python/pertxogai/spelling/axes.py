@@ -149,6 +149,10 @@ class Axes:
         return [leans for leans in self.directions.told
                 if self.directions.between(leans.first, leans.second) != leans.lean]
 
+    def contradictions(self) -> int:
+        """How many equations and directions contradict the others."""
+        return sum(bool(each.amount) for _, each in self.told) + len(self.conflicts())
+
     def repeats(self) -> frozenset[Owner]:
         """The constraints that say only what follows already and is no line of a sketch: that a
         point is itself or lies on its own line, a direction that follows from others, a known

@@ -7,7 +7,7 @@ from dataclasses import replace
 
 from pertxogai.spelling.axes import Axes
 from pertxogai.spelling.facts import Facts
-from pertxogai.spelling.mirrors import with_halves, with_implied
+from pertxogai.spelling.mirrors import with_halves, with_implied, with_presumed
 from pertxogai.spelling.rails import Rails
 from pertxogai.spelling.settling import revalued_axes, settled_axes
 from pertxogai.spelling.style import Style
@@ -32,7 +32,7 @@ class Interpretation:
         while facts is not None:
             axes = settled_axes(facts)
             made.append(axes)
-            facts = with_implied(axes) or with_halves(axes)
+            facts = with_implied(axes) or with_halves(axes) or with_presumed(axes)
         return Interpretation(said, made)
 
     def revalued(self, said: Facts) -> Interpretation:
@@ -44,7 +44,7 @@ class Interpretation:
             known = self.made[len(made)] if len(made) < len(self.made) else None
             axes = revalued_axes(known, facts) if known else settled_axes(facts)
             made.append(axes)
-            facts = with_implied(axes) or with_halves(axes)
+            facts = with_implied(axes) or with_halves(axes) or with_presumed(axes)
         return Interpretation(said, made)
 
     @property

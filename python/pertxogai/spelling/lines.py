@@ -144,7 +144,7 @@ class Lines:
     def _are_one(self, first: Line, second: Line, shared: list[Knot]) -> bool:
         """Whether two lines that share these points are one line, and not the points one: where
         points of them are told apart or the lines parallel, else as they are drawn."""
-        if any(self._told_apart({*pair}) for pair in combinations(shared, 2)):
+        if any(self.told_apart({*pair}) for pair in combinations(shared, 2)):
             return True
         lean = self._known_directions().between(first, second)
         if lean is not None:
@@ -153,7 +153,7 @@ class Lines:
         apart = max(_apart(drawn[one], drawn[other]) for one, other in combinations(shared, 2))
         return min(self._off(first, second), self._off(second, first)) < apart
 
-    def _told_apart(self, pair: set[Knot]) -> bool:
+    def told_apart(self, pair: set[Knot]) -> bool:
         """Whether two points are told apart: the ends of a segment, or at a distance."""
         ends = (own for line, own in self._facts.own.items() if isinstance(line, ShapeRef))
         return any(set(own) == pair for own in ends) or any(

@@ -2,44 +2,85 @@
 mirror images to an axis, which halves the angle between them."""
 from __future__ import annotations
 
+from collections.abc import Collection, Iterator
 from dataclasses import replace
 from fractions import Fraction
 from itertools import combinations
 from math import atan2, cos
+from typing import NamedTuple
 
 from pertxogai.drawing import Slope
 from pertxogai.spelling.axes import Axes, Frame
 from pertxogai.spelling.facts import Facts, Knot, Leans, Line, Owner
 from pertxogai.spelling.lean import SQUARE, Lean
 from pertxogai.spelling.linear import Form
+from pertxogai.spelling.settling import settled_axes
+
+
+class Run(NamedTuple):
+    """How a line runs in the datum's frame, by where two of its points are. is_sure: whether these
+    are known to be two points; else they may be one, and the line run in another way."""
+
+    line: Line
+    ends: tuple[Knot, Knot]
+    lean: Lean
+    is_sure: bool
 
 
 def with_implied(axes: Axes) -> Facts | None:
-    """The facts with the lines that follow to run so in the datum's frame, the first of each
-    class of lines; None where none does."""
-    found: dict[int, tuple[Line, tuple[Knot, Knot], Lean]] = {}
+    """The facts with the lines that surely run so in the datum's frame, the first of each class of
+    lines; None where none does."""
+    found: dict[int, Run] = {}
     for line in axes.lines.all():
         frame = axes.frame(line).number
         if frame and frame not in found:
-            follows = _follows(axes, line)
-            if follows is not None:
-                found[frame] = (line, *follows)
-    if not found:
-        return None
-    leans = [Leans(axes.frames[0].line, line, lean, Owner(0)) for line, _, lean in found.values()]
-    implied = {line: pair for line, pair, _ in found.values()}
+            run = next((each for each in _runs(axes, line) if each.is_sure), None)
+            if run is not None:
+                found[frame] = run
+    return _with_runs(axes, found.values()) if found else None
+
+
+def with_presumed(axes: Axes) -> Facts | None:
+    """The facts with the lines that run along an axis of the datum unless two of their points are
+    one, the first of each class of lines. Where that contradicts the rest, with the first line that
+    doesn't; None where each does, whose points are one."""
+    runs, first = [*_unsure_runs(axes)], dict[int, Run]()
+    for run in runs:
+        first.setdefault(axes.frame(run.line).number, run)
+    known = axes.contradictions()
+    for some in dict.fromkeys((tuple(first.values()), *((run,) for run in runs))):
+        facts = _with_runs(axes, some)
+        if some and settled_axes(facts).contradictions() <= known:
+            return facts
+    return None
+
+
+def _with_runs(axes: Axes, runs: Collection[Run]) -> Facts:
+    """The facts, and how some lines run."""
+    leans = [Leans(axes.frames[0].line, run.line, run.lean, Owner(0)) for run in runs]
+    implied = {run.line: run.ends for run in runs}
     return replace(axes.facts, facts=[*axes.facts.facts, *leans],
                    implied={**axes.facts.implied, **implied})
 
 
-def _follows(axes: Axes, line: Line) -> tuple[tuple[Knot, Knot], Lean] | None:
-    """The first two points of a line by which its direction in the datum's frame follows, and
-    how it leans there; None where none do."""
-    for pair in combinations([each.knot for each in axes.lines.members(line)], 2):
-        lean = _lean_of(*map(axes.system.reduced, _way(axes, axes.frames[0], pair)))
+def _unsure_runs(axes: Axes) -> Iterator[Run]:
+    """How each line may run by the first two of its points that are level, along either axis."""
+    for line in axes.lines.all():
+        if axes.frame(line).number:
+            first: dict[Lean, Run] = {}
+            for run in _runs(axes, line):
+                first.setdefault(run.lean, run)
+            yield from first.values()
+
+
+def _runs(axes: Axes, line: Line) -> Iterator[Run]:
+    """How a line runs by each two of its points from which that follows."""
+    for ends in combinations([each.knot for each in axes.lines.members(line)], 2):
+        ahead, left = map(axes.system.reduced, _way(axes, axes.frames[0], ends))
+        lean = _lean_of(ahead, left)
         if lean is not None and (lean.level() or lean.upright() or _has_company(axes, line)):
-            return pair, lean
-    return None
+            is_known = not ahead.terms and not left.terms
+            yield Run(line, ends, lean, is_known or axes.lines.told_apart({*ends}))
 
 
 def _lean_of(ahead: Form, left: Form) -> Lean | None:
