@@ -900,6 +900,8 @@ def test_a_point_as_far_out_as_the_end_of_its_edge_is_that_end(program, text, al
 
 
 ABOVE = "point P 6 4\non P S\nvertical P S.end\n"
+HANGING = ("segment S 0 0 4.1 3\n" + ABOVE + "point Q 16 8\ncoincident S.start Origin\nlength S 5\nfixed Q\n"
+           "distance S.end Q 13\n")
 
 
 @pytest.mark.parametrize("lines, end", [
@@ -911,6 +913,7 @@ ABOVE = "point P 6 4\non P S\nvertical P S.end\n"
     pytest.param("segment S 1 5 8 5\n" + ABOVE + "segment T 0 0 10 0\nparallel S T\n"
                  "coincident T.start Origin\ny T.end 0\nlength T 10\nx S.start 1\ny S.start 5\nlength S 7\n",
                  (8_000_000, 5_000_000), id="parallel to what is level"),
+    pytest.param(HANGING, (4_000_000, 3_000_000), id="5 from 0, 0 and 13 from 16, 8"),
 ])
 def test_a_point_above_the_end_of_an_edge_that_is_not_upright_is_that_end(program, lines, end):
     found = judge(read_drawing(lines), program)
@@ -918,6 +921,14 @@ def test_a_point_above_the_end_of_an_edge_that_is_not_upright_is_that_end(progra
     for name in ("S.end", "P"):
         lies = found.solution.spot(ref_of(name))
         assert max(abs(a - b) for a, b in zip(lies, end)) <= 2, name
+
+
+def test_what_is_over_only_if_an_edge_is_upright_is_not_over(program):
+    """S ends at 4, 3, and so isn't upright; nothing tells the y of R."""
+    found = judge(read_drawing(HANGING + "point R 9 9\nx R 9\n"), program)
+    assert found.verdict is Verdict.OPEN and found.surplus == ()
+    joint, = found.missing.joints
+    assert (found.missing.count, joint.along) == (1, "y")
 
 
 def test_the_ends_of_an_edge_are_two_points(program):

@@ -100,7 +100,7 @@ def first_good(question: Question, freeze: bool = False, quick: bool = False,
     spelled: the interpretations of the drawing, if some are known."""
     best: Trial | None = None
     seen: list[list[Equation]] = []
-    for spellings in readings(question.drawing) if spelled is None else spelled:
+    for spellings in _with_sure(readings(question.drawing) if spelled is None else spelled):
         if spellings.axes.equations in seen:
             continue
         seen.append(spellings.axes.equations)
@@ -113,6 +113,15 @@ def first_good(question: Question, freeze: bool = False, quick: bool = False,
     if freeze and best.verdict is Verdict.OPEN:
         return _freeze(question, best)
     return best
+
+
+def _with_sure(spelled: Iterable[Interpretation]) -> Iterator[Interpretation]:
+    """The interpretations of a drawing, and after them those without what they presume."""
+    sure = []
+    for each in spelled:
+        yield each
+        sure.append(each.sure())
+    yield from filter(None, sure)
 
 
 def _best_style(question: Question, spellings: Interpretation, quick: bool) -> Trial:
@@ -357,12 +366,16 @@ def _freeze(question: Question, asked: Trial) -> Trial:
 
 def _worth(question: Question, asked: Trial) -> tuple[int, bool, int, int]:
     """What is well and placed before what is well, then what is over, then what leaves less out,
-    then the fewer parts. What is well by its count alone comes behind what is over."""
+    then the fewer parts. What is well by its count alone comes behind what is over; what is over by
+    what is presumed alone, behind all."""
     order = {Verdict.WELL: 3, Verdict.OVER: 2, Verdict.OPEN: 0}
     is_placed = isinstance(asked.solved, Solved)
     worth = order[asked.verdict]
     if asked.verdict is Verdict.WELL and not is_placed and _says_too_much(question, asked.axes):
         worth = 1
+    if asked.verdict is Verdict.OVER and asked.axes.facts.presumes:
+        free = freedoms(question.drawing)
+        worth = 2 if free is None or free.excess else -1
     return worth, is_placed, -len(asked.spelled.left_out), -len(asked.parts)
 
 

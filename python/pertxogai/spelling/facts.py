@@ -175,6 +175,8 @@ class Facts:
     repeats: list[Owner] = field(default_factory=list)
     implied: dict[Line, tuple[Knot, Knot]] = field(default_factory=dict)
     """Lines of which the direction follows from the places of two of their points."""
+    presumes: bool = False
+    """Whether one of these follows only if two points aren't one that may be."""
 
     def says(self, other: Facts) -> bool:
         """Whether others differ by where things are drawn alone."""

@@ -68,6 +68,11 @@ class Interpretation:
         other._before = self._writers
         return other
 
+    def sure(self) -> Interpretation | None:
+        """The interpretation without what it presumes; None where it presumes nothing."""
+        made = [each for each in self.made if not each.facts.presumes]
+        return Interpretation(self.said, made) if len(made) < len(self.made) else None
+
     def rails(self, style: Style) -> Rails:
         """The rails of a style."""
         solves = style.solves()

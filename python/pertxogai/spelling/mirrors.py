@@ -49,7 +49,7 @@ def with_presumed(axes: Axes) -> Facts | None:
         first.setdefault(axes.frame(run.line).number, run)
     known = axes.contradictions()
     for some in dict.fromkeys((tuple(first.values()), *((run,) for run in runs))):
-        facts = _with_runs(axes, some)
+        facts = replace(_with_runs(axes, some), presumes=True)
         if some and settled_axes(facts).contradictions() <= known:
             return facts
     return None
