@@ -295,6 +295,26 @@ def test_what_the_others_say_wholly_is_named_before_what_says_more(text, groups)
     assert found_of(text).repeats == groups
 
 
+@pytest.mark.parametrize("words, groups", [
+    # The middle follows from M's x and M's y, and from neither alone.
+    (("All", "X", "Y", "Half"), (("Half", "Y", "X", "All"),)),
+    # M's y follows from the middle. Without it that is needed, and M's x follows from it.
+    (("All", "X", "Half", "Y"), (("Y", "Half", "All"), ("X", "Half", "All"))),
+    (("Half", "X", "Y", "All"), (("Y", "All", "Half"), ("X", "All", "Half"))),
+])
+def test_all_that_follows_may_go_at_once(words, groups):
+    """Of an edge that stays where it is drawn, with a point in its middle at 0 5: without all that is
+    named first all is told, and just once."""
+    told = {"All": "fixed S", "X": "x M 0", "Y": "y M 5", "Half": "midpoint M S"}
+    edge = "segment S -20 4 20 6\npoint M 1 5\n"
+    found = found_of(edge + "".join(f"{name}: {told[name]}\n" for name in words))
+    assert (set(found.repeats), found.freedoms) == ({*groups}, 0)
+    gone = {group[0] for group in groups}
+    rest = found_of(edge + "".join(f"{name}: {told[name]}\n" for name in words
+                                   if name not in gone))
+    assert (rest.repeats, rest.freedoms) == ((), 0)
+
+
 @pytest.mark.parametrize("text", [
     # A chain of three links of 10 mm that is pulled straight between two points 30 mm apart: to the
     # first order both joints move aside, and either coordinate of its end follows. Neither is so.
@@ -369,8 +389,7 @@ def test_a_fixed_arc_repeats_nothing():
     assert {str(each.point) for each in found.moves} == {"S.start", "S.end"}
     again = found_of(text + "fixed A.end\n")
     # The end's x follows from the direction alone, and its y from the radius too.
-    assert again.repeats == (("constraint 2 (fixed A.end)", "constraint 1 (fixed A)"),
-                             ("constraint 2 (fixed A.end)", "constraint 1 (fixed A)", "the ends of A"))
+    assert again.repeats == (("constraint 2 (fixed A.end)", "constraint 1 (fixed A)", "the ends of A"),)
 
 
 def test_a_fixed_arc_of_which_the_end_is_drawn_off_its_circle_has_no_places():

@@ -44,11 +44,11 @@ def dependencies(rows: Sequence[Row], off: Array, bends: Array,
     latest nowhere, and what is only measured wherever it may be: that it follows is what is asked
     for."""
     sources = [rows[number].source for number in dependent.rows]
-    places = sorted(range(len(sources)), key=lambda place: _lateness(sources[place]), reverse=True)
+    places = sorted(range(len(sources)), key=lambda place: lateness(sources[place]), reverse=True)
     for place, factors in _reduced(dependent.factors, places):
         seen = np.flatnonzero(np.abs(factors) > SEEN * np.abs(factors).max())
         group = {sources[each] for each in seen} - {sources[place]}
-        latest_first = sorted(group, key=_lateness, reverse=True)
+        latest_first = sorted(group, key=lateness, reverse=True)
         parts = factors / max(1.0, float(np.abs(factors).max()))
         yield Dependency((sources[place], *latest_first), abs(float(parts @ off[dependent.rows])),
                          _cancel(parts * bends[dependent.rows]))
@@ -59,7 +59,8 @@ def _cancel(bends: Array) -> bool:
     return abs(float(bends.sum())) <= max(LEAST_BEND, BENT * float(np.abs(bends).sum()))
 
 
-def _lateness(source: Source) -> tuple[int, int]:
+def lateness(source: Source) -> tuple[int, int]:
+    """The greater, the later: shapes before constraints, and what is only measured behind all."""
     return (By.SHAPE, By.CONSTRAINT, By.MEASURED).index(source.by), source.number
 
 

@@ -11,7 +11,6 @@ import numpy as np
 from pertxogai.cached import cached_on
 from pertxogai.drawing import Drawing, PointRef, line_of
 from pertxogai.judging.finding import Finding, Group, PlacesBy
-from pertxogai.judging.freedoms import Twice, freedoms
 from pertxogai.judging.judgement import Judgement
 from pertxogai.judging.measure import Deviation, Solution, measure
 from pertxogai.judging.measure.limit import Limit
@@ -28,6 +27,7 @@ from pertxogai.search.descent import descend
 from pertxogai.search.equations import Equations
 from pertxogai.search.following import loose_columns
 from pertxogai.search.freedom import Freedom, freedom
+from pertxogai.search.redundancies import redundancies
 from pertxogai.search.rounding import solution_of
 from pertxogai.search.solving import Found, solve
 from pertxogai.search.unknowns import By, FloatPointNm, Source
@@ -140,24 +140,10 @@ class Searched:
                             if each.repeats() and each.lasts)
 
     def _groups(self, repeats: Iterable[Dependency]) -> tuple[Group, ...]:
-        groups = map(self._group, sorted(repeats, key=_latest, reverse=True))
-        return tuple(filter(None, dict.fromkeys(groups)))
-
-    def _group(self, dependency: Dependency) -> Group:
-        """Those of a group, the latest first; before them the latest that the others say wholly.
-        None where each says more than they do, so that it is needed."""
-        sources = dict.fromkeys(dependency.sources)
-        twice = {each: self._twice(each) for each in sources}
-        first = next((each for each in sources if twice[each] is Twice.WHOLE), None)
-        if first is None and Twice.IN_PART in twice.values():
-            return ()
-        ordered = dict.fromkeys((first or dependency.sources[0], *sources))
-        return tuple(dict.fromkeys(map(self._called, ordered)))
-
-    def _twice(self, source: Source) -> Twice:
-        """What of a constraint the others say too, by rank; nothing where that isn't known."""
-        free = freedoms(self.drawing)
-        return Twice.NOTHING if free is None or source.by is By.SHAPE else free.twice(source.number)
+        """What follows from others, and these."""
+        groups = redundancies(self.drawing, sorted(repeats, key=_latest, reverse=True))
+        return tuple(dict.fromkeys(tuple(dict.fromkeys(map(self._called, each)))
+                                   for each in groups))
 
     def _names(self, numbers: Numbers) -> Group:
         return tuple(map(self.drawing.called, numbers))
