@@ -22,6 +22,7 @@ from pertxogai.program.library import BUILD as LIBRARY
 
 sys.path.insert(0, str(TOP / "tools"))
 from packing.changes import check_dated  # noqa: E402
+from packing.debian import COMMAND, PACKAGES, ROOT  # noqa: E402
 from packing.gate import Gate  # noqa: E402
 from packing.made import Made, gate_text  # noqa: E402
 from packing.refusal import Refused  # noqa: E402
@@ -190,6 +191,31 @@ def test_the_library_of_packages_that_are_only_unpacked_is_found(installed: Path
     asked = "from pertxogai.program.library import Library; print(Library.find().path)"
     found = done(PYTHON, "-c", asked, env=within(installed))
     assert found.strip() == str(installed / "usr/lib/x86_64-linux-gnu/libsketch.so.1")
+
+
+def a_package(root: Path, version: str) -> Path:
+    """The command of a package below a root; its `main` tells its version and which `sketch` it
+    finds."""
+    command, modules = root / ROOT.programs / "pertxogai", root / PACKAGES / "pertxogai"
+    modules.mkdir(parents=True)
+    command.parent.mkdir(parents=True)
+    command.write_text(COMMAND)
+    (command.parent / "sketch").touch()
+    for file in (command, command.parent / "sketch"):
+        file.chmod(0o755)
+    (modules / "__init__.py").touch()
+    (modules / "commands.py").write_text(
+        f"import shutil\n\ndef main():\n    print({version!r}, shutil.which('sketch'))\n")
+    return command
+
+
+def test_the_command_of_an_unpacked_package_is_its_own_beside_an_older_one(tmp_path: Path) -> None:
+    """What is unpacked to be tried isn't the one that is installed, by pip and on the path."""
+    a_package(tmp_path / "old", "1")
+    command = a_package(tmp_path / "new", "2")
+    old = tmp_path / "old"
+    here = {"PATH": f"{old}/usr/bin:/usr/bin:/bin", "PYTHONPATH": str(old / PACKAGES)}
+    assert done(command, env=here) == f"2 {tmp_path}/new/usr/bin/sketch\n"
 
 
 def test_the_installed_checkers_read_a_claim(installed: Path, tmp_path: Path) -> None:

@@ -19,10 +19,11 @@ COMMAND = """#!/usr/bin/python3
 import os
 import sys
 
-# If the package is only unpacked, its Python package and `sketch` are found from here.
+# If the package is only unpacked, its own Python package and `sketch` come before those that are installed.
 here = os.path.dirname(os.path.realpath(__file__))
-sys.path.append(os.path.join(os.path.dirname(here), "lib", "python3", "dist-packages"))
-os.environ["PATH"] = os.pathsep.join(filter(None, (os.environ.get("PATH", os.defpath), here)))
+if here != "/usr/bin":
+    sys.path.insert(0, os.path.join(os.path.dirname(here), "lib", "python3", "dist-packages"))
+    os.environ["PATH"] = os.pathsep.join(filter(None, (here, os.environ.get("PATH", os.defpath))))
 
 from pertxogai.commands import main
 
