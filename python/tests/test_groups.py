@@ -48,6 +48,18 @@ def test_who_gives_an_arc_its_radius_is_named_beside_its_ends(program: Program, 
                              "Across": {"the ends of East", "Round"}}
 
 
+@pytest.mark.parametrize("size", ["radius C 5", "diameter C 10"])
+@pytest.mark.parametrize("up_mm", ["4", "4.5"])
+def test_who_gives_a_circle_its_radius_is_named_where_a_point_lies_aslant(
+        program: Program, size: str, up_mm: str) -> None:
+    """From 3 to the right and 4 up it is 5 to the centre: each follows from the other three."""
+    found = judge(read_drawing(f"circle C Origin 5\npoint P 3 4\nRound: {size}\nOn: on P C\n"
+                               f"X: x P 3\nY: y P {up_mm}\n"), program)
+    names = {"Round", "On", "X", "Y"}
+    assert found.verdict is Verdict.OVER
+    assert others(found) == {each: names - {each} for each in names}
+
+
 @pytest.mark.parametrize("again_mm", ["5", "5.01"])
 def test_a_length_told_twice_follows_from_the_other(program: Program, again_mm: str) -> None:
     found = judge(read_drawing(f"{TRIANGLE}Again: distance A C {again_mm}\n"), program)
