@@ -939,6 +939,17 @@ def test_the_ends_of_an_edge_are_two_points(program):
     assert {each.name for each in found.surplus} == {"Line", "Foot", "Top", "Aside"}
 
 
+def test_constraints_that_each_say_more_than_the_others_do_are_not_called_too_many(program):
+    """M is the middle of an arc's ends, and its centre, so both ends are as far from the centre: the
+    arc asks nothing more. Without either word more is free. Of 8 freedoms a length, and 2 and 2 of
+    these words, leave 3, of the whole."""
+    found = judge(read_drawing(
+        "segment Flat -9 0 11 1\narc Round 0 1 Flat.end Flat.start\npoint M 1 1\nlength Flat 20\n"
+        "midpoint M Flat\ncoincident M Round.centre\n"), program)
+    assert found.verdict is Verdict.WELL and found.too_many == () and found.repeats == ()
+    assert found.whole.text() == "moved and turned"
+
+
 def test_what_is_well_by_its_count_alone_is_over(program):
     """P2's x is told twice, and so L3.end's x is 50.3; nothing tells P2's height. L3 runs 27.03 to
     the left and is 27.03 * hypot(5, 2) / 5 long, so of a triangle of 29.1123, 24.5 and 37 the

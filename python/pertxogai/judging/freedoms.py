@@ -135,6 +135,10 @@ class Freedoms:
         """How much more is free without some constraints."""
         return sum(map(self.equations, gone)) - self.fewer(gone)
 
+    def may_go(self, number: int, gone: Collection[int] = ()) -> bool:
+        """Whether nothing more is free without a constraint, beside some that have gone."""
+        return self.freed([*gone, number]) == self.freed(gone)
+
     def among(self) -> frozenset[Owner]:
         """Who asks something that others ask together."""
         return frozenset(self.owners[place] for circuit in self.circuits for place in circuit)

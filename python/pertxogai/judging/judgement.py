@@ -210,19 +210,17 @@ class Judgement:
     @cached_property
     def too_many(self) -> tuple[tuple[str, ...], ...]:
         """If it isn't over-constrained: each group of which, by rank, one constraint is redundant
-        all the same, beside those that are reported as redundant."""
-        if self.verdict is Verdict.OVER or self.free is None:
+        all the same, beside those that are reported as redundant. None of which each says more
+        besides, as that a point is the middle of an arc's ends, and its centre."""
+        free = self.free
+        if self.verdict is Verdict.OVER or free is None:
             return ()
         held = {each.owner for each in self.left_out_measured if each.repeats()}
         repeats = {owner.number for owner in self._spelled_repeats() | held if not owner.shape}
         groups = (frozenset(owner for owner in each if not owner.shape)
-                  for each in self.free.too_many(repeats))
-        return tuple(self.names.owners(each) for each in groups if self._may_lose_one(each))
-
-    def _may_lose_one(self, group: frozenset[Owner]) -> bool:
-        """Whether constraints of which one is redundant by rank are no single one that says more
-        besides, as that an arc's ends are symmetric about its centre."""
-        return len(group) > 1 or any(self._twice(each) is not Twice.IN_PART for each in group)
+                  for each in free.too_many(repeats))
+        return tuple(self.names.owners(each) for each in groups
+                     if any(free.may_go(owner.number, repeats) for owner in each))
 
     @property
     def held(self) -> tuple[str, ...]:
