@@ -2,7 +2,6 @@
 
 from __future__ import annotations
 
-from fractions import Fraction
 from functools import lru_cache
 from math import lcm
 from typing import NamedTuple
@@ -25,10 +24,11 @@ class Line(NamedTuple):
 
 
 class Bend(NamedTuple):
-    """How far two lines are off a turn: by the sine of the angle that is too much, squared, and
-    whether the second runs the other way than it should."""
+    """How far two lines are off a turn: by the sine of the angle that is too much, of which the
+    square is `above` / `below`, and whether the second runs the other way than it should."""
 
-    sine_square: Number
+    above: Number
+    below: Number
     backward: bool
 
     def nm(self, first: Line, second: Line) -> int:
@@ -42,13 +42,11 @@ class Bend(NamedTuple):
         return self._amount(PPB * PPB)
 
     def _amount(self, length_square: Number) -> int:
-        over = self.sine_square * length_square
-        if not self.backward:
-            return root_up(over)
-        return root_up(4 * length_square) - root_up(over)
+        over = root_up(-(-self.above * length_square // self.below))
+        return root_up(4 * length_square) - over if self.backward else over
 
 
-LOST = Bend(1, False)
+LOST = Bend(1, 1, False)
 """Of a line whose two ends are one place: it has no direction at all."""
 
 
@@ -62,7 +60,7 @@ def bend(first: Line, second: Line, turn: Turn) -> Bend:
     low, high = _sum(wanted.cosine, aside, wanted.sine, -along)
     over = max(-low, high)
     ahead = _sum(wanted.cosine, along, wanted.sine, aside)[1] >= 0
-    return Bend(Fraction(over * over) / (squares * wanted.below ** 2), not ahead)
+    return Bend(over * over, squares * wanted.below ** 2, not ahead)
 
 
 Ends = tuple[int, int]
@@ -97,7 +95,7 @@ def _sum(one: Ends, times: Number, other: Ends, by: Number) -> tuple[Number, Num
     return min(first) + min(second), max(first) + max(second)
 
 
-@lru_cache(maxsize=256)
+@lru_cache(maxsize=1024)
 def _direction_of(turn: Turn) -> _Wanted:
     """The direction of the x axis, turned. Whole multiples of 45 degrees, which alone have
     fractions for tangents, are exact."""
@@ -117,4 +115,4 @@ def bend_of_lines(first: Line, second: Line, right_angle: bool) -> Bend:
     if squares == 0:
         return LOST
     over = dot(first.way, second.way) if right_angle else cross(first.way, second.way)
-    return Bend(Fraction(over * over) / squares if over else 0, False)
+    return Bend(over * over, squares, False)
