@@ -78,17 +78,24 @@ def known_sum(axes: Axes, upwards: bool, knots: Collection[Knot]) -> KnownSum | 
     """What the drawing says of the datum's coordinates of placed points: one of them, else a sum,
     as of two points that lie symmetric to the origin; None where it says none that a shift of all
     would change."""
-    sums = []
+    found: KnownSum | None = None
+    for each in _known_sums(axes, upwards, knots):
+        if each.total() and (found is None or len(each.factors) < len(found.factors)):
+            found = each
+            if len(found.factors) == 1:
+                break
+    return found
+
+
+def _known_sums(axes: Axes, upwards: bool, knots: Collection[Knot]) -> Iterator[KnownSum]:
+    """What the drawing says of the coordinate of each placed point."""
     for knot in knots:
         place = Coordinate(DATUM, upwards, knot)
         form = Form.of(place) - axes.system.value(place)
         if all(isinstance(each, Coordinate) and each[:2] == place[:2] and each.knot in knots
                for each in form.terms):
-            factors = {each.knot: factor for each, factor in form.terms.items()
-                       if isinstance(each, Coordinate)}
-            sums.append(KnownSum(factors, -form.number))
-    told = sorted((each for each in sums if each.total()), key=lambda each: len(each.factors))
-    return told[0] if told else None
+            yield KnownSum({each.knot: factor for each, factor in form.terms.items()
+                            if isinstance(each, Coordinate)}, -form.number)
 
 
 def _ways(axes: Axes, spots: Mapping[Knot, Vector]) -> Iterator[KnownWay]:
