@@ -10,6 +10,7 @@ from dataclasses import dataclass
 from enum import Enum
 from fractions import Fraction
 
+from pertxogai.cached import cached_on
 from pertxogai.drawing.constraints import (
     AngleBetween, Degrees, Ratio, Sense, Tangent, XDistance, YDistance)
 from pertxogai.drawing.drawing import Drawing
@@ -56,7 +57,7 @@ def way(drawing: Drawing, line: ShapeRef) -> Vector:
 def turn(drawing: Drawing, angle: AngleBetween) -> Turn:
     """The turn of an angle, from the first line's direction to the second's."""
     if isinstance(angle.value, Degrees) and angle.sense is Sense.SIGNED:
-        return Degrees(_within_half_turn(angle.value.value))
+        return _signed_turn(angle)
     first, second = way(drawing, angle.first), way(drawing, angle.second)
     left, ahead = cross(first, second) >= 0, dot(first, second) >= 0
     match angle.value, angle.sense:
@@ -67,6 +68,13 @@ def turn(drawing: Drawing, angle: AngleBetween) -> Turn:
         case Ratio(p, q), _:
             return Slope(abs(p) if left == ahead else -abs(p), q, not ahead)
     raise AssertionError(angle)
+
+
+@cached_on
+def _signed_turn(angle: AngleBetween) -> Degrees:
+    """The turn of an angle in degrees with a sign, wherever its lines are drawn."""
+    assert isinstance(angle.value, Degrees)
+    return Degrees(_within_half_turn(angle.value.value))
 
 
 def _drawn_degrees(drawing: Drawing, angle: AngleBetween, value: Fraction, left: bool,
