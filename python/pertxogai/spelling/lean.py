@@ -41,8 +41,19 @@ class Lean:
                      self.ahead * other.ahead - self.left * other.left,
                      self.ahead * other.left + self.left * other.ahead)
 
+    def __sub__(self, other: Lean) -> Lean:
+        if other.level():
+            return self
+        return _make(self.degrees - other.degrees,
+                     self.ahead * other.ahead + self.left * other.left,
+                     self.left * other.ahead - self.ahead * other.left)
+
     def __neg__(self) -> Lean:
         return self if self.level() else _make(-self.degrees, self.ahead, -self.left)
+
+    def turned(self, degrees: Fraction) -> Lean:
+        """The lean of a line that is turned by so many degrees more."""
+        return _make(self.degrees + degrees, self.ahead, self.left)
 
     def level(self) -> bool:
         """Whether the lines are parallel."""
@@ -141,7 +152,8 @@ def _make(degrees: Fraction, ahead: int, left: int) -> Lean:
         case (1, -1):
             degrees, ahead, left = degrees - 45, 1, 0
     if degrees:
-        degrees %= 180
+        if not 0 <= degrees < 180:
+            degrees %= 180
         if left and degrees >= 45:
             return _make(degrees % 45, *_turn_by_eighths(ahead, left, degrees))
     return Lean(degrees, ahead, left)

@@ -31,15 +31,15 @@ class Angles:
 
     def _tie(self, tracks: list[Track]) -> None:
         """Ties the lines of one frame."""
-        layout = self.layout
+        leans = list(map(self.layout.lean, tracks))
         base, tied = tracks[0], self._tied_classes(tracks)
-        other = next((each for each in tracks if layout.lean(each) != layout.lean(base)), None)
+        other = next((each for each, lean in zip(tracks, leans) if lean != leans[0]), None)
         if other is not None and not tied.are_one(other, base):
             self._tie_to(tied, base, other)
-        for track in tracks:
+        for track, lean in zip(tracks, leans):
             if tied.are_one(track, base):
                 continue
-            if layout.lean(track) != layout.lean(base):
+            if lean != leans[0]:
                 self._tie_to(tied, base, track)
             elif other is not None:
                 self._tie_to(tied, other, track)
@@ -62,7 +62,7 @@ class Angles:
         """Ties a line to another by their angle."""
         layout = self.layout
         tied.join(base, track)
-        self._angle(base, track, -layout.lean(base) + layout.lean(track),
+        self._angle(base, track, layout.lean(track) - layout.lean(base),
                     partial(layout.direction_owners, base, track))
 
     def _near_ties(self, tracks: list[Track]) -> list[tuple[Track, Track, Lean, Owner]]:
