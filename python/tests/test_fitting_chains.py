@@ -10,6 +10,7 @@ import pytest
 
 from pertxogai.drawing import read_drawing
 from pertxogai.fitting import Answer, CheckedFit, Fit, UnknownFit, fit
+from pertxogai.fitting.offs import Offs
 from pertxogai.fitting.placing import Placer
 from pertxogai.fitting.toleranced import Toleranced
 from pertxogai.judging.measure import Limit
@@ -311,7 +312,7 @@ def test_what_can_be_placed_on_one_side_only_is_no_case_between_two(program) -> 
     drawing = read_drawing("check Top y B.end 0 .. 2\n" + TRIANGLE)
     placer = Placer(drawing, program, Limit())
     placer.begin((Toleranced(3, Fraction(500), Fraction(500), False, False),), ())
-    assert placer.around((Fraction("20.5"),), 0) == [(Fraction("19.5"),)]
+    assert placer.around(Offs([Fraction("20.5")]), 0) == [Offs([Fraction("19.5")])]
     assert placer.unplaced and not placer.between
 
 

@@ -16,7 +16,8 @@ from pertxogai.drawing import (
     write_drawing)
 from pertxogai.fitting import CheckedFit, Fit, NoFit, fit
 from pertxogai.fitting.gauges import Gauge
-from pertxogai.fitting.placing import Offs, Placer, Unplaced
+from pertxogai.fitting.offs import Offs
+from pertxogai.fitting.placing import Placer, Unplaced
 from pertxogai.fitting.toleranced import Dimensions, Toleranced, moved
 from pertxogai.judging import Judgement, Question
 from pertxogai.judging.edited import EditedDrawing
@@ -140,7 +141,7 @@ def _has_corners(drawing: Drawing, program: Solver, random: Random) -> bool:
 
 def _corner(dimensions: Sequence[Toleranced], random: Random) -> Offs:
     """A corner by chance."""
-    return tuple(random.choice((-each.below, each.above)) for each in dimensions)
+    return Offs(random.choice((-each.below, each.above)) for each in dimensions)
 
 
 class _Search:
@@ -184,7 +185,7 @@ class _Search:
         for place in self._random.sample(range(len(best)), len(best)):
             each = self._dimensions[place]
             off = each.above if best[place] == -each.below else -each.below
-            other = (*best[:place], off, *best[place + 1:])
+            other = best.replaced({place: off})
             there, here = worth(other), worth(best)
             if there is not None and here is not None and there > here:
                 best = other

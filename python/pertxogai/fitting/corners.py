@@ -11,7 +11,8 @@ from random import Random
 
 from pertxogai.fitting.effects import Effect, ends_of, turning_at
 from pertxogai.fitting.gauges import Way
-from pertxogai.fitting.placing import Case, Offs, Placer
+from pertxogai.fitting.offs import Offs
+from pertxogai.fitting.placing import Case, Placer
 from pertxogai.fitting.sums import Sums
 
 MOST_TOGETHER = 3
@@ -83,7 +84,7 @@ class Corners:
 
     def worst(self) -> Worst:
         """Raises Unplaced and ProgramError."""
-        starts = {side: tuple(each.end(side) for each in self._effects) for side in (-1, 1)}
+        starts = {side: Offs(each.end(side) for each in self._effects) for side in (-1, 1)}
         unsure = self._unsure(starts)
         (at_least, low), (at_greatest, high) = (
             self._extreme(starts[side], unsure, side) for side in (-1, 1))
@@ -102,8 +103,8 @@ class Corners:
 
     def _held(self, offs: Offs) -> Offs:
         """A case with what doesn't move the check as at the base."""
-        return tuple(off if each.gives() > self._noise else each.base.off
-                     for off, each in zip(offs, self._effects))
+        return Offs(off if each.gives() > self._noise else each.base.off
+                    for off, each in zip(offs, self._effects))
 
     def _at(self, offs: Offs) -> int:
         """What is measured in a case."""
@@ -139,7 +140,7 @@ class Corners:
         part = WITHIN if spread * WITHIN > PART * self._noise else Fraction(1)
         for side, start in starts.items():
             other = start[place] + (self._other_end(place, start[place]) - start[place]) * part
-            within = _with(start, {place: other})
+            within = start.replaced({place: other})
             if (not self._placer.is_placed(within)
                     or -PART * self._gain(start, within, side) < spread * part):
                 return True
@@ -162,7 +163,7 @@ class Corners:
         for bit in range(len(places).bit_length()):
             others = {place: self._other_end(place, corner[place])
                       for index, place in enumerate(places, start=1) if index >> bit & 1}
-            if abs(self._at(_with(corner, others)) - value) > self._noise:
+            if abs(self._at(corner.replaced(others)) - value) > self._noise:
                 return True
         return False
 
@@ -213,9 +214,9 @@ class Corners:
 
     def _best_within(self, offs: Offs, place: int, side: int) -> Offs:
         """The worst case of those in which one of the unsure lies otherwise."""
-        three = [_with(offs, {place: off}) for off in ends_of(self._effects[place].dimension)]
+        three = [offs.replaced({place: off}) for off in ends_of(self._effects[place].dimension)]
         where = turning_at([(case[place], self._at(case)) for case in three], self._noise)
-        there = [] if where is None else self._around(_with(offs, {place: where}), place)
+        there = [] if where is None else self._around(offs.replaced({place: where}), place)
         return max([offs, *three, *there], key=lambda case: side * self._at(case))
 
     def _around(self, offs: Offs, place: int) -> list[Offs]:
@@ -228,9 +229,9 @@ class Corners:
         """Corners with all ends of the first of the unsure, and with the other end of the rest."""
         most, rest = unsure[:MOST_TOGETHER], unsure[MOST_TOGETHER:]
         for ends in product(*map(self._states, most)) if most else ():
-            yield _with(start, dict(zip(most, ends)))
+            yield start.replaced(dict(zip(most, ends)))
         if rest:
-            yield _with(start, {place: self._other_end(place, start[place]) for place in rest})
+            yield start.replaced({place: self._other_end(place, start[place]) for place in rest})
 
     def _climbed(self, offs: Offs, unsure: Sequence[int], side: int,
                  left: int) -> tuple[Offs, int]:
@@ -240,7 +241,7 @@ class Corners:
         for _ in range(MOST_ROUNDS):
             before = value
             for place, state in ((place, it) for place in unsure for it in self._states(place)):
-                other, left = _with(offs, {place: state}), left - 1
+                other, left = offs.replaced({place: state}), left - 1
                 there = side * self._at(other) if left > 0 else value
                 if there > value:
                     offs, value = other, there
@@ -254,7 +255,7 @@ class Corners:
         other = [place for place, (one, two) in enumerate(zip(start, best)) if one != two]
         value = self._at(best)
         moving = [place for place in other
-                  if abs(self._at(_with(best, {place: start[place]})) - value) > self._noise]
+                  if abs(self._at(best.replaced({place: start[place]})) - value) > self._noise]
         return frozenset(moving or other)
 
     def _both_ways(self, corners: Sequence[Offs], unsure: Sequence[int]) -> frozenset[int]:
@@ -300,10 +301,6 @@ class Corners:
         return ends[0] if off == ends[-1] else ends[-1]
 
 
-def _with(offs: Offs, others: dict[int, Fraction]) -> Offs:
-    return tuple(others.get(place, off) for place, off in enumerate(offs))
-
-
 def _dot(one: Way, other: Way) -> int:
     return one[0] * other[0] + one[1] * other[1]
 
@@ -312,4 +309,4 @@ def _at_random(effects: Sequence[Effect], count: int) -> Iterator[Offs]:
     """Corners at random: each dimension at an end."""
     random = Random(SEED)
     for _ in range(count):
-        yield tuple(random.choice((each.readings[0], each.readings[-1])).off for each in effects)
+        yield Offs(random.choice((each.readings[0], each.readings[-1])).off for each in effects)

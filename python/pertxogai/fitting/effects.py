@@ -7,6 +7,7 @@ from contextlib import suppress
 from dataclasses import dataclass
 from fractions import Fraction
 
+from pertxogai.cached import cached_on
 from pertxogai.fitting.gauges import Way
 from pertxogai.fitting.placing import Case, Placer, Unplaced
 from pertxogai.fitting.rounding import NOISE
@@ -165,6 +166,7 @@ def _reading(off: Fraction, case: Case, number: int) -> Reading:
     return Reading(off, case.values[number], case.ways[number])
 
 
+@cached_on
 def ends_of(dimension: Toleranced) -> tuple[Fraction, Fraction, Fraction]:
     """How far off a dimension is at its least, within, and at its greatest: within as it is given,
     where that is no end, else in the middle."""

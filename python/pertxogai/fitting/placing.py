@@ -8,6 +8,7 @@ from fractions import Fraction
 from pertxogai.drawing import Drawing, DrawingUnsound
 from pertxogai.fitting.asking import Asking, NotPlaced
 from pertxogai.fitting.gauges import Gauge, Way
+from pertxogai.fitting.offs import Offs
 from pertxogai.fitting.rounding import NOISE
 from pertxogai.fitting.toleranced import Moving, Toleranced
 from pertxogai.judging import DrawingRefused
@@ -20,8 +21,6 @@ BESIDE = Fraction(1, 1000)
 tolerance to either side."""
 MOST_NAMED = 2
 """A case names at most this number of dimensions."""
-Offs = tuple[Fraction, ...]
-"""How far each dimension lies off, in their order, in micrometres or degrees."""
 
 
 class Unplaced(Exception):
@@ -53,13 +52,13 @@ class Placer:
         self._unplaced: dict[Offs, str] = {}
         self._between: set[Offs] = set()
         self._dimensions: Sequence[Toleranced] = ()
-        self._base: Offs = ()
+        self._base = Offs()
         self._gauges: Sequence[Gauge] = ()
 
     def begin(self, dimensions: Sequence[Toleranced], gauges: Sequence[Gauge]) -> None:
         """Says which dimensions may lie off, and what is measured."""
         self._dimensions, self._gauges = dimensions, gauges
-        self._base = tuple(each.base for each in dimensions)
+        self._base = Offs(each.base for each in dimensions)
         self._asking.begin([each.number for each in dimensions if not each.is_angle],
                            [each.number for each in dimensions if each.is_angle])
 
@@ -97,8 +96,8 @@ class Placer:
     def has_gap(self, moving: Collection[int]) -> bool:
         """Whether a part within tolerance can't be placed, with all dimensions held at the base but
         for those of some places, from 0. Raises ProgramError."""
-        held = (tuple(off if place in moving else base for place, (off, base)
-                      in enumerate(zip(offs, self._base))) for offs in self._gaps())
+        held = (Offs(off if place in moving else base for place, (off, base)
+                     in enumerate(zip(offs, self._base))) for offs in self._gaps())
         return not all(map(self.is_placed, held))
 
     @property
@@ -110,7 +109,7 @@ class Placer:
 
     def as_given(self) -> Case:
         """The case in which nothing lies off. Raises Unplaced and ProgramError."""
-        return self.case((Fraction(0),) * len(self._dimensions))
+        return self.case(Offs((Fraction(0),) * len(self._dimensions)))
 
     def base(self) -> Case:
         """The case next to that in which each dimension lies within its tolerance. Raises Unplaced
@@ -124,7 +123,7 @@ class Placer:
 
     def offs_alone(self, place: int, off: Fraction) -> Offs:
         """How far off all are where one dimension is off, and the others are as at the base."""
-        return (*self._base[:place], off, *self._base[place + 1:])
+        return self._base.replaced({place: off})
 
     def case(self, offs: Offs) -> Case:
         """The case with the dimensions so far off. Raises Unplaced and ProgramError."""
@@ -162,7 +161,7 @@ class Placer:
         little = dimension.width() * BESIDE
         ends = max(off - little, -dimension.below), min(off + little, dimension.above)
         both = [beside for end in ends if end != off
-                and self.is_placed(beside := (*offs[:place], end, *offs[place + 1:]))]
+                and self.is_placed(beside := offs.replaced({place: end}))]
         if len(both) == 2:
             self._between.add(offs)
         return both

@@ -9,7 +9,8 @@ from math import cos, hypot, pi, sin
 
 from pertxogai.fitting.effects import Effect, Reading
 from pertxogai.fitting.gauges import Way
-from pertxogai.fitting.placing import Case, Offs
+from pertxogai.fitting.offs import Offs
+from pertxogai.fitting.placing import Case
 
 DIRECTIONS = 720
 """The number of directions along which it is reckoned how far apart two points may come: what lies
@@ -57,8 +58,8 @@ class Sums:
         if self._way is None:
             return None
         way = max(_directions(), key=self._along)
-        return tuple(max(each.states(), key=lambda reading: _along(reading.way, way)).off
-                     for each in self._effects)
+        return Offs(max(each.states(), key=lambda reading: _along(reading.way, way)).off
+                    for each in self._effects)
 
     def _single(self, offs: Offs) -> list[Reading] | None:
         found = [each.at(off) for each, off in zip(self._effects, offs)]

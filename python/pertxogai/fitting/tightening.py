@@ -4,7 +4,8 @@ from __future__ import annotations
 from dataclasses import dataclass
 from fractions import Fraction
 
-from pertxogai.fitting.placing import Offs, Placer
+from pertxogai.fitting.offs import Offs
+from pertxogai.fitting.placing import Placer
 from pertxogai.fitting.results import Answer, CheckedFit, Range
 
 STEP_UM = Fraction(1)
@@ -46,8 +47,7 @@ class _One:
         return self.worst(off).lies_within(self.told.allowed, self.told.noise)
 
     def _with(self, offs: Offs, off: Fraction) -> Offs:
-        return tuple((off if each > 0 else -off) if at == self.place else each
-                     for at, each in enumerate(offs))
+        return offs.replaced({self.place: off if offs[self.place] > 0 else -off})
 
 
 def _most(one: _One, whole: Fraction, step: Fraction) -> int:
