@@ -88,8 +88,7 @@ def test_other_lengths_are_asked_for_as_if_the_drawing_were_read_anew(path, prog
     for offs in cases(drawing):
         anew = Listening(program)
         heard.texts.clear()
-        other = moved(drawing, offs)
-        lying, judged = asking.lying(other, offs), judge_at_once(other, anew)
+        lying, judged = asking.lying(offs), judge_at_once(moved(drawing, offs), anew)
         if len(anew.texts) == 1:
             assert heard.texts == anew.texts and lying.solution == judged.solution
         else:  # It is asked for by near ratios first, and then by finer ones.
@@ -105,7 +104,7 @@ def test_a_plate_of_other_sizes_is_not_encoded_anew(program, monkeypatch) -> Non
     asking.begin(numbers)
     monkeypatch.setattr("pertxogai.fitting.asking.first_good", None)
     offs = {number: Fraction(off) for number, off in zip(numbers, (2000, -1000, 1000, -1000, 1000))}
-    there = asking.lying(moved(drawing, offs), offs)
+    there = asking.lying(offs)
     places = {str(ref): spot for ref, spot in there.solution.points.items()}
     assert places["H.centre"] == (31_000_000, 19_000_000)
     assert places["PTop.start"] == (82_000_000, 59_000_000)
@@ -120,7 +119,7 @@ def test_what_is_in_line_by_values_alone_is_asked_for_anew_where_it_is_not(progr
     for number, spots in ((2, {"P": 20_050_000, "Q": 20_000_000}),
                           (4, {"P": 20_000_000, "Q": 20_050_000})):
         offs = {number: Fraction(50)}
-        there = asking.lying(moved(drawing, offs), offs)
+        there = asking.lying(offs)
         assert {str(ref): spot[1] for ref, spot in there.solution.points.items()} == spots
 
 
@@ -136,13 +135,13 @@ def test_fine_angles_are_asked_for_at_once(program) -> None:
     asking.begin(lengths(drawing))
     heard.texts.clear()
     offs = {2: Fraction(1000)}
-    there = asking.lying(moved(drawing, offs), offs)
+    there = asking.lying(offs)
     (x, y), = (spot for ref, spot in there.solution.points.items() if str(ref) == "A.end")
     assert (abs(x - 87_468_566) <= 1, abs(y - 50_500_000) <= 1) == (True, True)
     assert len(heard.texts) == 1 and there.off_nm <= 2
     heard.texts.clear()
     offs = {3: Fraction(1, 2)}
-    asking.lying(moved(drawing, offs), offs)
+    asking.lying(offs)
     assert len(heard.texts) == 1
 
 
@@ -157,7 +156,7 @@ def test_angles_are_told_finely_also_where_a_drawing_is_asked_for_as_any(program
     monkeypatch.setattr(Asking, "_finely", lambda asking, edited: None)
     asking = Asking(drawing, program, Limit())
     asking.begin(lengths(drawing), (5,))
-    there = asking.lying(drawing, {})
+    there = asking.lying({})
     (x, y), = (spot for ref, spot in there.solution.points.items() if str(ref) == "B.end")
     assert (abs(x - 949_692_621) <= 1, abs(y - 342_020_143) <= 1) == (True, True)
 
@@ -173,7 +172,7 @@ def test_an_angle_that_is_off_a_right_angle_is_asked_for_at_once(program) -> Non
     asking.begin(lengths(drawing), (5,))
     heard.texts.clear()
     offs = {5: Fraction(1, 2)}
-    there = asking.lying(moved(drawing, offs), offs)
+    there = asking.lying(offs)
     (x, y), = (spot for ref, spot in there.solution.points.items() if str(ref) == "B.end")
     assert (abs(x - 99_127_346) <= 1, abs(y - 99_996_192) <= 1) == (True, True)
     assert len(heard.texts) == 1 and there.off_nm <= 2
@@ -190,12 +189,12 @@ def test_other_lengths_at_the_same_other_angle_are_asked_for_by_one_sketch(progr
     asking.begin(lengths(drawing))
     ends = [{3: Fraction(1, 2), 2: Fraction(off)} for off in (-1000, 500)]
     for offs in ends:
-        asking.lying(moved(drawing, offs), offs)
+        asking.lying(offs)
     encoded = []
     monkeypatch.setattr("pertxogai.fitting.asking.written", encoded.append)
     monkeypatch.setattr("pertxogai.fitting.asking.first_good", encoded.append)
     offs = {3: Fraction(1, 2), 2: Fraction(1000), 4: Fraction(-1000)}
-    there = asking.lying(moved(drawing, offs), offs)
+    there = asking.lying(offs)
     (spot,) = (spot for ref, spot in there.solution.points.items() if str(ref) == "B.end")
     x = 101 * cos(radians(30.5)) + 49 * cos(radians(50.5))
     y = 101 * sin(radians(30.5)) + 49 * sin(radians(50.5))
@@ -238,7 +237,7 @@ def test_other_angles_are_asked_for_by_the_sketch_of_the_drawing(turned, program
     monkeypatch.setattr("pertxogai.fitting.asking.written", None)
     monkeypatch.setattr("pertxogai.fitting.asking.first_good", None)
     offs = off_by(turned)
-    there = asking.lying(moved(drawing, offs), offs)
+    there = asking.lying(offs)
     first, second = 10 + turned[0], -20 + turned[1]
     bars = (101, first), (100, first + second), (99.5, first + second + 20 + turned[2])
     places = {str(ref): spot for ref, spot in there.solution.points.items()}
@@ -256,7 +255,7 @@ def test_that_sketch_is_the_one_that_encoding_anew_gives(turned, program) -> Non
         asking = Asking(drawing, heard, Limit())
         asking.begin((2, 4, 6), angles)
         heard.texts.clear()
-        asking.lying(moved(drawing, offs), offs)
+        asking.lying(offs)
         asked.append(heard.texts)
     assert asked[0] == asked[1] and len(asked[0]) == 1
 
@@ -267,7 +266,7 @@ def test_a_bar_that_comes_to_lie_level_is_encoded_anew(program) -> None:
     asking = Asking(drawing, program, Limit())
     asking.begin((2, 4, 6), (3, 5, 7))
     offs = {5: Fraction(10)}
-    there = asking.lying(moved(drawing, offs), offs)
+    there = asking.lying(offs)
     places = {str(ref): spot for ref, spot in there.solution.points.items()}
     bars = (10, 0, 20)
     assert places["C.end"] == (approx(sum(cos(radians(way)) for way in bars) * 1e8, abs=3),

@@ -3,9 +3,9 @@ where that meets each constraint there but for rounding; else as any drawing."""
 from __future__ import annotations
 
 from collections import Counter
-from collections.abc import Iterable
+from collections.abc import Callable, Iterable, Iterator, Sequence
 from contextlib import suppress
-from dataclasses import dataclass, replace
+from dataclasses import replace
 from fractions import Fraction
 from functools import cached_property
 
@@ -14,15 +14,16 @@ from pertxogai.fitting.affine import Probe
 from pertxogai.fitting.encoding import Encoding, Offs
 from pertxogai.fitting.leaning import Turning
 from pertxogai.fitting.template import Template, Told
-from pertxogai.fitting.toleranced import moved
-from pertxogai.judging import Judgement, Question, Trial, first_good
+from pertxogai.fitting.toleranced import Moving
+from pertxogai.fitting.tries import AskBy, Luck, Lying, Tried, Tries
+from pertxogai.judging import DrawingRefused, Judgement, Question, Trial, first_good
 from pertxogai.judging.edited import EditedDrawing
 from pertxogai.judging.judgement import FINE_NM, judge_trial
 from pertxogai.judging.limits import check_fits
 from pertxogai.judging.measure import Deviation, Limit, Solution, Unit
 from pertxogai.judging.trials import answered, finer, placed
 from pertxogai.language import NotHeld, Refusal
-from pertxogai.program import Solver
+from pertxogai.program import ProgramError, Solver
 from pertxogai.program.reports import Solved, Verdict
 from pertxogai.spelling import Care, Rails, Style, written
 from pertxogai.spelling.facts import Facts
@@ -33,8 +34,6 @@ ROUNDED_NM = 10
 """By no more all is met but for the rounding of places."""
 ENOUGH = 2
 """Once this number of cases with the same angles is asked for, their sketch is kept."""
-MOST_FAILURES = 3
-"""Of a way to ask this number of failures is borne, and one more for each success."""
 STYLE = Style.VALUES
 """The style that is tried first; a drawing that is placed by another is asked for as any."""
 
@@ -42,16 +41,11 @@ FINE = Care(fine=True, within=4e-10)
 """Angles that are no ratios are told within 0.4 nanometres for each metre."""
 
 
+NO_TRIES: Tries = {}
+
+
 class NotPlaced(Exception):
     """A drawing isn't placed, or a constraint isn't met. The message says why."""
-
-
-@dataclass(frozen=True)
-class Lying:
-    """Where a drawing lies. off_nm: how far that constraint is off which is off most."""
-
-    solution: Solution
-    off_nm: int
 
 
 class OffDrawing(EditedDrawing):
@@ -69,27 +63,12 @@ class OffDrawing(EditedDrawing):
         return self.analysis.facts
 
 
-class Luck:
-    """Whether something is still tried, which mostly failed lately."""
-
-    def __init__(self) -> None:
-        self._left = MOST_FAILURES
-
-    @property
-    def is_left(self) -> bool:
-        """Whether it is worth a try."""
-        return self._left > 0
-
-    def note(self, has_succeeded: bool) -> None:
-        """Takes what came of a try."""
-        self._left = min(MOST_FAILURES, self._left + 1) if has_succeeded else self._left - 1
-
-
 class Asking:
     """Asks for a drawing with dimensions off. nominal: what becomes of the drawing itself."""
 
     def __init__(self, drawing: Drawing, program: Solver, limit: Limit) -> None:
         self._known, self._program, self._limit = EditedDrawing(drawing), program, limit
+        self._moving = Moving(drawing)
         check_fits(drawing)
         question = Question(drawing, program, limit)
         asked = first_good(question, spelled=self._known.readings())
@@ -99,8 +78,8 @@ class Asking:
         self._met: Judgement | None = None
         if self._is_plain(asked):
             self._met = self._finely(self._known) if self._care.fine else self.nominal
-        self._fine, self._alike, self._leaning = Luck(), Luck(), Luck()
-        self._lengths: tuple[int, ...] = ()
+        self._luck = {way: Luck() for way in AskBy}
+        self._lengths: dict[int, None] = {}
         self._angles: tuple[int, ...] = ()
         self._turning: Template | None = None
         self._templates: dict[Turned, Template | None] = {}
@@ -119,51 +98,98 @@ class Asking:
 
     def begin(self, lengths: Iterable[int], angles: Iterable[int] = ()) -> None:
         """Says which dimensions may be off."""
-        self._lengths, self._angles = tuple(lengths), tuple(angles)
+        self._lengths, self._angles = dict.fromkeys(lengths), tuple(angles)
         if self._angles:
             with suppress(DrawingUnsound, NotHeld, Refusal):
                 self._turning = self._made_turning()
 
-    def lying(self, drawing: Drawing, offs: Offs) -> Lying:
-        """Where the drawing lies with the dimensions of some numbers off, by so much. Raises
-        NotPlaced, and the exceptions of `judge`."""
-        found = self._by_template(drawing, offs)
-        if found is not None:
-            return found
-        edited, judged = OffDrawing(drawing, self._known), None
-        if self._met is not None and self._care_with(offs).fine and self._fine.is_left:
-            judged = self._finely(edited)
-            self._fine.note(judged is not None)
-        return self._of(judged or self._judged(edited))
+    def lying(self, offs: Offs, tried: Tries = NO_TRIES) -> Lying:
+        """Where the drawing lies with the dimensions of some numbers off, by so much. tried: what
+        came of ways that were tried already. Raises NotPlaced, DrawingUnsound where a dimension
+        can't have such a value, and the exceptions of `judge`."""
+        found = Tried()
+        for way in self._ways(offs, self._is_again):
+            found = tried.get(way) or self._by(way, offs)
+            self._luck[way].note(found)
+            if found.is_last:
+                break
+        if found.lying is None:
+            raise NotPlaced(found.why)
+        return found.lying
+
+    def expected(self, cases: Sequence[Offs]) -> list[tuple[AskBy, ...]]:
+        """The ways to ask for each of a few cases, as far as that is known before they are asked
+        for."""
+        seen = self._seen + Counter(map(self._turned, cases))
+        return [tuple(self._ways(each, lambda turned: self._is_kept(turned, seen)))
+                for each in cases]
+
+    def _ways(self, offs: Offs, is_again: Callable[[Turned], bool]) -> Iterator[AskBy]:
+        """The ways to ask for a case, in turn, without those that mostly failed lately. is_again:
+        whether so many cases with the same angles off are asked for that their sketch is kept."""
+        turns = any(number not in self._lengths for number in offs)
+        if turns and self._turning is not None and self._luck[AskBy.TURNED].is_left:
+            yield AskBy.TURNED
+        if (not turns or is_again(self._turned(offs))) and self._luck[AskBy.KEPT].is_left:
+            yield AskBy.KEPT
+        if self._met is not None and self._care_with(offs).fine and self._luck[AskBy.FINE].is_left:
+            yield AskBy.FINE
+        yield AskBy.ANY
+
+    def tries(self, offs: Offs, ways: Sequence[AskBy]) -> Tries:
+        """What comes of ways to ask for a case, up to the last that has to be tried, or that raises
+        an exception: that one is left to be tried where the case is asked for."""
+        found = {}
+        with suppress(DrawingRefused, DrawingUnsound, NotHeld, ProgramError, Refusal):
+            for way in ways:
+                found[way] = self._by(way, offs)
+                if found[way].is_last:
+                    break
+        return found
+
+    def _by(self, way: AskBy, offs: Offs) -> Tried:
+        """What comes of one way, which doesn't depend on what was asked for before. Raises the
+        exceptions of `judge`."""
+        drawing = self._moving.moved(offs)
+        match way:
+            case AskBy.TURNED:
+                return self._told(drawing, self._turning, offs)
+            case AskBy.KEPT:
+                turned = self._turned(offs)
+                lengths = {number: off for number, off in offs.items() if number in self._lengths}
+                return self._told(drawing, self._kept(turned), lengths)
+            case AskBy.FINE:
+                judged = self._finely(OffDrawing(drawing, self._known))
+                return Tried() if judged is None else self._of(judged)
+            case AskBy.ANY:
+                return self._of(self._judged(OffDrawing(drawing, self._known)))
+
+    def _turned(self, offs: Offs) -> Turned:
+        """The angles among the dimensions that are off."""
+        return frozenset(each for each in offs.items() if each[0] not in self._lengths)
+
+    def _is_again(self, turned: Turned) -> bool:
+        """Whether the sketch with these angles off is kept, now that one more case with them is
+        asked for."""
+        self._seen[turned] += 1
+        return self._is_kept(turned, self._seen)
+
+    def _is_kept(self, turned: Turned, seen: Counter[Turned]) -> bool:
+        """Whether the sketch with these angles off is kept where so many cases with each set of
+        angles were asked for."""
+        return turned in self._templates or seen[turned] >= ENOUGH
 
     def _care_with(self, offs: Offs) -> Care:
         """How angles are told with these dimensions off: finely where one of them is an angle,
         since few angles have ratios."""
         return self._care if all(number in self._lengths for number in offs) else FINE
 
-    def _by_template(self, drawing: Drawing, offs: Offs) -> Lying | None:
-        """The same by a sketch that is known, with other angles or lengths; None where not all is
-        met so."""
-        lengths = {number: off for number, off in offs.items() if number in self._lengths}
-        if self._turning is not None and len(lengths) < len(offs) and self._leaning.is_left:
-            found = self._told(drawing, self._turning, offs, self._leaning)
-            if found is not None:
-                return found
-        template = self._template({number: off for number, off in offs.items()
-                                   if number not in lengths})
-        if template is None or not self._alike.is_left:
-            return None
-        return self._told(drawing, template, lengths, self._alike)
-
-    def _told(self, drawing: Drawing, template: Template, offs: Offs, luck: Luck) -> Lying | None:
-        """Where a drawing lies by a sketch that is known; None where it has no such, or where not
-        all is met."""
-        told = template.told(offs)
-        if told is None:
-            return None
-        found = self._measured(drawing, told, template.placed(told, offs, self._program))
-        luck.note(found is not None)
-        return found
+    def _told(self, drawing: Drawing, template: Template | None, offs: Offs) -> Tried:
+        """What comes of asking by a sketch that is known."""
+        told = None if template is None else template.told(offs)
+        if template is None or told is None:
+            return Tried(is_asked=False)
+        return Tried(self._measured(drawing, told, template.placed(told, offs, self._program)))
 
     def _measured(self, drawing: Drawing, told: Told, solution: Solution | None) -> Lying | None:
         """Where a drawing lies, if all is met there as in the drawing itself."""
@@ -176,18 +202,13 @@ class Asking:
         is_near = told.is_near and not _is_exact(deviations)
         return None if is_near else Lying(solution, off_nm)
 
-    def _template(self, turned: Offs) -> Template | None:
-        """The sketch of the drawing with angles so far off, once that was asked for a few times;
-        None where there is none."""
-        key = frozenset(turned.items())
-        if key not in self._templates:
-            self._seen[key] += 1
-            if turned and self._seen[key] < ENOUGH:
-                return None
-            self._templates[key] = None
+    def _kept(self, turned: Turned) -> Template | None:
+        """The sketch of the drawing with these angles off; None where there is none."""
+        if turned not in self._templates:
+            self._templates[turned] = None
             with suppress(DrawingUnsound, NotHeld, Refusal):
-                self._templates[key] = self._made(turned)
-        return self._templates[key]
+                self._templates[turned] = self._made(dict(turned))
+        return self._templates[turned]
 
     def _made(self, turned: Offs) -> Template | None:
         """The sketch of the drawing with angles so far off."""
@@ -216,7 +237,7 @@ class Asking:
 
     def _encoded(self, offs: Offs) -> Encoding | None:
         """How the drawing is encoded with dimensions off; None where something is told twice."""
-        edited = OffDrawing(moved(self._known.drawing, offs), self._known)
+        edited = OffDrawing(self._moving.moved(offs), self._known)
         axes = next(edited.readings()).axes
         if axes.surplus() or axes.conflicts():
             return None
@@ -254,12 +275,12 @@ class Asking:
                 return finely
         return judge_trial(edited, asked, question)
 
-    def _of(self, judged: Judgement) -> Lying:
-        """Where a drawing lies that was judged. Raises NotPlaced."""
+    def _of(self, judged: Judgement) -> Tried:
+        """Where a drawing lies that was judged, or why it doesn't count."""
         why = self._why_not(judged)
         if why or judged.solution is None:
-            raise NotPlaced(why)
-        return Lying(judged.solution, _greatest(judged.deviations))
+            return Tried(why=why)
+        return Tried(Lying(judged.solution, _greatest(judged.deviations)))
 
     def _why_not(self, judged: Judgement) -> str:
         """Why what was placed doesn't count; nothing where it does."""

@@ -10,7 +10,7 @@ from pertxogai.fitting.asking import Asking, NotPlaced
 from pertxogai.fitting.gauges import Gauge, Way
 from pertxogai.fitting.offs import Offs
 from pertxogai.fitting.rounding import NOISE
-from pertxogai.fitting.toleranced import Moving, Toleranced
+from pertxogai.fitting.toleranced import Toleranced
 from pertxogai.judging import DrawingRefused
 from pertxogai.judging.measure import Limit
 from pertxogai.language import NotHeld, Refusal
@@ -45,7 +45,6 @@ class Placer:
 
     def __init__(self, drawing: Drawing, program: Solver, limit: Limit) -> None:
         self._drawing, self._asking = drawing, Asking(drawing, program, limit)
-        self._moving = Moving(drawing)
         self.nominal = self._asking.nominal
         self._known: dict[Offs, Case] = {}
         self._within: dict[Offs, Case] = {}
@@ -180,7 +179,7 @@ class Placer:
     def _placed(self, offs: Offs) -> Case:
         by_number = {each.number: off for each, off in zip(self._dimensions, offs) if off}
         try:
-            there = self._asking.lying(self._moving.moved(by_number), by_number)
+            there = self._asking.lying(by_number)
         except (DrawingRefused, DrawingUnsound, NotHeld, NotPlaced, Refusal) as why:
             raise Unplaced(f"{self._told(by_number)}: {why}") from None
         return Case(tuple(gauge.measured(there.solution) for gauge in self._gauges),
