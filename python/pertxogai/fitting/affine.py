@@ -8,7 +8,9 @@ from collections.abc import Iterable, Mapping
 from dataclasses import dataclass
 from fractions import Fraction
 from math import lcm
+from typing import Generic, TypeVar
 
+Key = TypeVar("Key")
 BASE = 10 ** 9
 """Each off is this number of times as small as the one before."""
 PARTS = 5040
@@ -25,10 +27,36 @@ class Affine:
 
     def value(self, offs: Mapping[int, Fraction]) -> Fraction:
         """What it is with the dimensions of these numbers so far off, in micrometres."""
-        parts = [(slope.numerator * off.numerator, slope.denominator * off.denominator)
-                 for number, slope in self.slopes.items() if (off := offs.get(number))]
-        whole = lcm(*(below for _, below in parts))
-        return self.at + Fraction(sum(above * (whole // below) for above, below in parts), whole)
+        return Affines({0: self}).values(offs)[0]
+
+
+class Affines(Generic[Key]):
+    """Numbers that change evenly, by their keys, which are worked out together."""
+
+    def __init__(self, of: Mapping[Key, Affine]) -> None:
+        self._of = of
+        self._per = lcm(*(slope.denominator for each in of.values()
+                          for slope in each.slopes.values()))
+        self._slopes = {key: [(number, int(slope * self._per))
+                              for number, slope in each.slopes.items()]
+                        for key, each in of.items()}
+
+    def values(self, offs: Mapping[int, Fraction]) -> dict[Key, Fraction]:
+        """What they are with the dimensions of these numbers so far off, in micrometres."""
+        below = lcm(*(off.denominator for off in offs.values()))
+        steps = {number: off.numerator * (below // off.denominator)
+                 for number, off in offs.items()}
+        return {key: _sum(self._of[key].at, sum(slope * steps[number] for number, slope in slopes
+                                                if number in steps), self._per * below)
+                for key, slopes in self._slopes.items()}
+
+
+def _sum(number: Fraction, above: int, below: int) -> Fraction:
+    """A number and the fraction above / below."""
+    if not above:
+        return number
+    return Fraction(number.numerator * below + above * number.denominator,
+                    number.denominator * below)
 
 
 class Probe:
