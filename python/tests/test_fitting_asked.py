@@ -96,6 +96,26 @@ def test_other_lengths_are_asked_for_as_if_the_drawing_were_read_anew(path, prog
                        for here, there in zip(spot, judged.solution.points[ref]))
 
 
+@pytest.mark.parametrize("path", FITS, ids=lambda path: path.stem)
+def test_parts_of_micrometres_are_asked_for_by_that_sketch_at_a_larger_scale(path, program,
+                                                                             monkeypatch) -> None:
+    drawing, heard = read_drawing(path.read_text()), Listening(program)
+    asking, numbers = Asking(drawing, heard, Limit()), lengths(drawing)
+    asking.begin(numbers)
+    asking.lying({numbers[0]: Fraction(1)})
+    monkeypatch.setattr("pertxogai.fitting.asking.written", None)
+    monkeypatch.setattr("pertxogai.fitting.asking.first_good", None)
+    for off in (Fraction(5, 2), Fraction(-9, 8), Fraction(3)):
+        anew, offs = Listening(program), {numbers[0]: off, numbers[-1]: 3 * off}
+        heard.texts.clear()
+        lying, judged = asking.lying(offs), judge_at_once(moved(drawing, offs), anew)
+        if len(anew.texts) == 1:
+            assert heard.texts == anew.texts and lying.solution == judged.solution
+        else:  # It is asked for by near ratios first, and then by finer ones.
+            assert all(abs(here - there) <= 1 for ref, spot in lying.solution.points.items()
+                       for here, there in zip(spot, judged.solution.points[ref]))
+
+
 def test_a_plate_of_other_sizes_is_not_encoded_anew(program, monkeypatch) -> None:
     # The hole is 31 by 19 from the corner then, and of a radius of 5.5.
     drawing = read_drawing(PLATE)

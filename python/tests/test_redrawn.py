@@ -50,8 +50,9 @@ def known(drawing: Drawing) -> EditedDrawing:
 
 
 def _shown(each) -> dict[str, object]:
-    return {**{name: value for name, value in vars(each).items() if name != "said"},
-            "owners": each.owners}
+    return {**{name: value for name, value in vars(each).items() if name not in ("said", "sheet")},
+            "owners": each.owners, "drawn": (each.sheet.points, each.sheet.lines),
+            "values": [draft.value_um for draft in each.sheet.drafts]}
 
 
 def moves(drawing: Drawing) -> Iterator[Move]:

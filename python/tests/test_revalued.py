@@ -22,8 +22,9 @@ DRAWINGS = sorted([*TESTS.glob("fits/*.drawing"), *TESTS.glob("drawings/*.drawin
 def spelled(edited: EditedDrawing) -> list[dict[str, object]]:
     """All that the program would be told of a drawing, and who says it."""
     found = [each.spelled(style) for each in edited.readings() for style in Style]
-    return [{**{name: value for name, value in vars(each).items() if name != "said"},
-             "owners": each.owners} for each in found]
+    return [{**{name: value for name, value in vars(each).items() if name not in ("said", "sheet")},
+             "owners": each.owners, "drawn": (each.sheet.points, each.sheet.lines),
+             "values": [draft.value_um for draft in each.sheet.drafts]} for each in found]
 
 
 def otherwise(drawing: Drawing, random: Random) -> Iterator[Drawing]:

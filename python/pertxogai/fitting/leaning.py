@@ -3,12 +3,12 @@ ties them, so that the drawing isn't encoded anew for each set of angles."""
 from __future__ import annotations
 
 from collections.abc import Mapping, Sequence
-from dataclasses import dataclass, replace
+from dataclasses import dataclass, field, replace
 from fractions import Fraction
+from functools import cached_property
 from math import cos, pi
 
-from pertxogai.drawing import Degrees
-from pertxogai.fitting.affine import Affine, Probe
+from pertxogai.fitting.affine import Affine, Affines, Probe
 from pertxogai.fitting.encoding import Encoding, Offs
 from pertxogai.fitting.ties import Leaning, Leans, Tied, Ties
 from pertxogai.language import Point, Sketch
@@ -19,18 +19,35 @@ from pertxogai.spelling.rails import Rail
 from pertxogai.spelling.spelled import Heading, Track
 
 HALF_TURN = 180
+MOST_KEPT = 64
+"""The lines of a sketch are kept as they lean with this number of sets of angles off at most: cases
+with the same angles off are asked for one after the other."""
 
 
 @dataclass(frozen=True)
 class Turned:
-    """The lines of a sketch as they lean with angles off, and what ties them there."""
+    """The lines of a sketch as they lean with angles off, and what ties them there. spelled: the
+    sketch itself."""
 
+    spelled: Spelled
     leans: Leans
     tied: Tied
 
-    def headings(self, spelled: Spelled) -> tuple[Heading, ...]:
+    @cached_property
+    def headings(self) -> tuple[Heading, ...]:
         """Which way the lines run: each as it does in the sketch itself, but for the turn."""
+        spelled = self.spelled
         return tuple(self._heading(each, spelled.tracks[each.name]) for each in spelled.headings)
+
+    @cached_property
+    def element_lines(self) -> list[str]:
+        """The lines of help in the language."""
+        return self.tied.element_lines(self.spelled.scale)
+
+    @cached_property
+    def constraint_lines(self) -> list[str]:
+        """What ties the lines, in the language."""
+        return self.tied.constraint_lines()
 
     def _heading(self, heading: Heading, track: Track | None) -> Heading:
         lean = None if track is None or isinstance(track, Rail) else self.leans.get(track)
@@ -53,6 +70,9 @@ class Turning:
     slopes: Mapping[Line, Affine]
     itself: Tied
     before: int
+    _kept: dict[tuple[Fraction, ...], Turned | None] = field(
+        default_factory=dict, init=False, repr=False, compare=False)
+    """How the lines lean, by the degrees by which each of them turns."""
 
     @staticmethod
     def of(here: Encoding, there: Encoding, care: Care, probe: Probe) -> Turning | None:
@@ -67,28 +87,45 @@ class Turning:
         known = {line: slope for line, slope in slopes.items() if slope is not None}
         if len(known) < len(slopes):
             return None
-        ties, leans = Ties(layout, spelled.scale), {line: here.axes.lean(line) for line in lines}
+        ties = Ties(layout, spelled.scale, dict(layout.sheet.lines))
+        leans = {line: here.axes.lean(line) for line in lines}
         points = sum(isinstance(each, Point) for each in spelled.sketch.elements)
         before = points + len(layout.names)
         found = Turning(spelled, ties, leans, known, ties.written(leans), before)
         return found if found._cut(spelled, found.itself) is not None else None
 
+    def scaled(self, spelled: Spelled) -> Turning:
+        """The same of the same sketch at another scale."""
+        ties = self.ties.scaled(spelled.scale)
+        return replace(self, spelled=spelled, ties=ties, itself=ties.written(self.leans))
+
     def turned(self, offs: Offs) -> Turned | None:
         """How the lines lean and are tied with these dimensions off; None where one becomes level
         or upright, which is another sketch."""
-        leans = {}
-        for track, lean in self.leans.items():
-            leans[track] = lean + Lean.of(Degrees(self.slopes[track].value(offs)))
-            if leans[track].level() or leans[track].upright():
-                return None
-        return Turned(leans, self.ties.written(leans))
+        turns = self._turns.values(offs)
+        degrees = tuple(turns.values())
+        if degrees not in self._kept:
+            if len(self._kept) >= MOST_KEPT:
+                self._kept.clear()
+            self._kept[degrees] = self._turned_by(turns)
+        return self._kept[degrees]
 
-    def lines(self, lines: Sequence[str], tied: Tied) -> list[str]:
+    @cached_property
+    def _turns(self) -> Affines[Line]:
+        return Affines(self.slopes)
+
+    def _turned_by(self, turns: Mapping[Line, Fraction]) -> Turned | None:
+        """The same, by the degrees by which each line turns."""
+        leans = {track: self.leans[track].turned(degrees) for track, degrees in turns.items()}
+        if any(lean.level() or lean.upright() for lean in leans.values()):
+            return None
+        return Turned(self.spelled, leans, self.ties.written(leans))
+
+    def lines(self, lines: Sequence[str], turned: Turned) -> list[str]:
         """The lines of the sketch's text with its lines tied otherwise."""
         before, first = 1 + self.before, 1 + len(self.spelled.sketch.elements)
-        return [*lines[:before], *(each.text() for each in tied.elements(self.spelled.scale)),
-                *lines[before + len(self.itself.helps):first],
-                *(each.text() for each in tied.constraints()),
+        return [*lines[:before], *turned.element_lines,
+                *lines[before + len(self.itself.helps):first], *turned.constraint_lines,
                 *lines[first + len(self.itself.drafts):]]
 
     def back(self, there: Spelled, offs: Offs) -> Spelled | None:

@@ -4,12 +4,13 @@ drawing as ever, so a sketch that says something else shows."""
 from __future__ import annotations
 
 from collections.abc import Mapping
-from dataclasses import dataclass, replace
+from dataclasses import dataclass, field, replace
 from fractions import Fraction
+from functools import cached_property, lru_cache
 
 from pertxogai.drawing import Arc, Circle, Drawing
 from pertxogai.exact import whole_near
-from pertxogai.fitting.affine import Affine, Probe
+from pertxogai.fitting.affine import Affine, Affines, Probe
 from pertxogai.fitting.encoding import Encoding, Offs
 from pertxogai.fitting.leaning import Turning
 from pertxogai.judging import Trial
@@ -52,6 +53,9 @@ class Template:
     shifts: tuple[Affine, Affine]
     numbers: frozenset[int]
     turning: Turning | None = None
+    _scaled: dict[int, Template] = field(default_factory=dict, init=False, repr=False,
+                                         compare=False)
+    """The same at other scales."""
 
     @staticmethod
     def of(drawing: Drawing, asked: Trial, probe: Probe, there: Encoding,
@@ -83,30 +87,70 @@ class Template:
 
     def told(self, offs: Offs) -> Told | None:
         """The sketch with these dimensions off; None where one of them may not be, where a value
-        can't be told in whole micrometres, or isn't above 0, or where a line becomes level or
-        upright. Raises NotHeld where one is beyond the language's."""
-        lines = self._lines(offs) if self.numbers.issuperset(offs) else None
-        if lines is None:
+        can't be told in whole micrometres at any scale, or isn't above 0, or where a line becomes
+        level or upright. Raises NotHeld where one is beyond the language's."""
+        if not self.numbers.issuperset(offs):
             return None
+        values = self._changed(offs)
+        scale = self._scale(values) if all(value > 0 for value in values.values()) else None
+        return None if scale is None else self._at(scale)._told(values, offs)
+
+    def _changed(self, offs: Offs) -> dict[int, Fraction]:
+        """The distances that change, in micrometres, by their places."""
+        constraints = self.asked.spelled.sketch.constraints
+        return {place: value for place, value in self._distances.values(offs).items()
+                if isinstance(constraints[place], Distance)}
+
+    @cached_property
+    def _distances(self) -> Affines[int]:
+        return Affines(self.distances)
+
+    @cached_property
+    def _sizes(self) -> Affines[str]:
+        return Affines(self.radii)
+
+    def _scale(self, values: Mapping[int, Fraction]) -> int | None:
+        """How many times as large as the drawing the sketch is told with these values: as it is,
+        where they are whole micrometres then, else as encoding anew does; None where some aren't
+        then either."""
+        spelled = self.asked.spelled
+        if _are_whole(values, spelled.scale):
+            return spelled.scale
+        scale = spelled.sheet.scale(values)
+        return scale if _are_whole(values, scale) else None
+
+    def _at(self, scale: int) -> Template:
+        """The same at another scale."""
+        spelled = self.asked.spelled
+        if scale == spelled.scale:
+            return self
+        if scale not in self._scaled:
+            other = spelled.scaled(scale)
+            turning = None if self.turning is None else self.turning.scaled(other)
+            self._scaled[scale] = replace(self, asked=replace(self.asked, spelled=other),
+                                          turning=turning)
+        return self._scaled[scale]
+
+    def _told(self, values: Mapping[int, Fraction], offs: Offs) -> Told | None:
+        """The sketch at its scale, with these values and these dimensions off."""
+        lines = self._lines(values)
         if self.turning is None:
             return Told("\n".join(lines), self.asked, bool(self.asked.spelled.near))
         turned, spelled = self.turning.turned(offs), self.asked.spelled
         if turned is None:
             return None
-        asked = replace(self.asked, spelled=replace(spelled, headings=turned.headings(spelled)))
-        return Told("\n".join(self.turning.lines(lines, turned.tied)), asked, turned.tied.is_near)
+        asked = replace(self.asked, spelled=replace(spelled, headings=turned.headings))
+        return Told("\n".join(self.turning.lines(lines, turned)), asked, turned.tied.is_near)
 
-    def _lines(self, offs: Offs) -> list[str] | None:
-        """The lines of the sketch's text with these lengths off."""
+    def _lines(self, values: Mapping[int, Fraction]) -> list[str]:
+        """The lines of the sketch's text with these values. Raises NotHeld."""
         spelled = self.asked.spelled
         lines, first = spelled.sketch.text().split("\n"), 1 + len(spelled.sketch.elements)
-        for place, value in self.distances.items():
+        for place, value in values.items():
             constraint = spelled.sketch.constraints[place]
-            told = value.value(offs) * spelled.scale
-            if isinstance(constraint, Distance):
-                if told.denominator != 1 or told <= 0:
-                    return None
-                lines[first + place] = replace(constraint, length_um=told.numerator).text()
+            assert isinstance(constraint, Distance)
+            length_um = value.numerator * spelled.scale // value.denominator
+            lines[first + place] = _line(constraint, length_um)
         return lines
 
     def _settled(self, found: Solution, offs: Offs) -> Solution | None:
@@ -118,11 +162,22 @@ class Template:
         x_nm, y_nm = (each.numerator for each in by)
         points = (found.points if not any(by) else
                   {ref: (x + x_nm, y + y_nm) for ref, (x, y) in found.points.items()})
-        radii = {name: whole_near(each.value(offs) * NM_PER_UM)
-                 for name, each in self.radii.items()}
+        radii = {name: whole_near(value * NM_PER_UM)
+                 for name, value in self._sizes.values(offs).items()}
         if any(radius <= 0 for radius in radii.values()):
             return None
         return replace(found, points=points, radii=radii)
+
+
+def _are_whole(values: Mapping[int, Fraction], scale: int) -> bool:
+    """Whether values are whole micrometres, so many times as large."""
+    return all(scale % value.denominator == 0 for value in values.values())
+
+
+@lru_cache(maxsize=4096)
+def _line(distance: Distance, length_um: int) -> str:
+    """The line of a distance of another length. Raises NotHeld."""
+    return replace(distance, length_um=length_um).text()
 
 
 def _are_alike(one: Spelled, other: Spelled) -> bool:

@@ -6,7 +6,7 @@ from dataclasses import dataclass
 from fractions import Fraction
 from functools import lru_cache
 
-from pertxogai.language import Angle, Constraint, Element, On
+from pertxogai.language import Angle, Constraint, On
 from pertxogai.language.numbers import nearest_whole
 from pertxogai.spelling import Axes, Care, Rails, Style
 from pertxogai.spelling.drafts import Draft, Owners, PointUm, line_between
@@ -21,13 +21,15 @@ from pertxogai.spelling.writer.tracks import Tracks
 
 Leans = Mapping[Line, Lean]
 """How each line leans against the first axis of its frame."""
+Lines = Mapping[str, tuple[PointUm, PointUm]]
+"""Where each line is drawn, by its name."""
 
 
 @dataclass(frozen=True)
 class Tied:
     """The lines of help and the constraints that tie the lines of a sketch."""
 
-    helps: Mapping[str, tuple[PointUm, PointUm]]
+    helps: Lines
     drafts: Sequence[Draft]
 
     @property
@@ -35,16 +37,29 @@ class Tied:
         """Whether an angle is told by a ratio next to it."""
         return any(each.is_near for each in self.drafts)
 
-    def elements(self, scale: int) -> list[Element]:
+    def element_lines(self, scale: int) -> list[str]:
         """The lines of help in the language, so many times larger."""
-        return [line_between(name, ends, scale) for name, ends in self.helps.items()]
+        return [_element_line(name, ends, scale) for name, ends in self.helps.items()]
 
     def constraints(self) -> list[Constraint]:
         """The constraints in the language: angles, and points on lines of help."""
         return [_constraint(each.first, each.second, each.ratio) for each in self.drafts]
 
+    def constraint_lines(self) -> list[str]:
+        """Their lines."""
+        return [_constraint_line(each.first, each.second, each.ratio) for each in self.drafts]
+
 
 @lru_cache(maxsize=4096)
+def _element_line(name: str, ends: tuple[PointUm, PointUm], scale: int) -> str:
+    return line_between(name, ends, scale).text()
+
+
+@lru_cache(maxsize=4096)
+def _constraint_line(first: str, second: str, ratio: tuple[int, int] | None) -> str:
+    return _constraint(first, second, ratio).text()
+
+
 def _constraint(first: str, second: str, ratio: tuple[int, int] | None) -> Constraint:
     return On(first, second) if ratio is None else Angle(first, second, *ratio)
 
@@ -70,13 +85,16 @@ class Leaning(Layout):
 
 class Ties(Angles):
     """Ties the lines of a layout by other leans, in a sketch that is so many times as large as the
-    drawing. What ties two lines by one angle is kept."""
+    drawing. What ties two lines by one angle is kept. drawn: the lines before they are tied."""
 
-    def __init__(self, layout: Leaning, scale: int) -> None:
+    def __init__(self, layout: Leaning, scale: int, drawn: Lines) -> None:
         super().__init__(layout)
-        self._leaning, self._scale = layout, scale
-        self._drawn = dict(layout.sheet.lines)
+        self._leaning, self._scale, self._drawn = layout, scale, drawn
         self._known: dict[tuple[str, str, Lean], Tied] = {}
+
+    def scaled(self, scale: int) -> Ties:
+        """The same in a sketch of another scale."""
+        return Ties(self._leaning, scale, self._drawn)
 
     def written(self, leans: Leans) -> Tied:
         """What ties the lines where they lean so."""

@@ -2,7 +2,7 @@
 owners."""
 from __future__ import annotations
 
-from collections.abc import Callable, Iterable, Sequence
+from collections.abc import Callable, Iterable, Mapping, Sequence
 from dataclasses import dataclass, field
 from fractions import Fraction
 from functools import lru_cache
@@ -21,6 +21,7 @@ ROOM_UM = Fraction(250_000_000)
 """How large a drawing may become, in micrometres: a quarter of what the language holds."""
 
 
+NO_OTHERS: Mapping[int, Number] = {}
 Owners = Callable[[], frozenset[Owner]]
 """Who says something; it is called only where that is asked for."""
 
@@ -71,10 +72,12 @@ class Sheet:
     drafts: list[Draft] = field(default_factory=list)
     told: dict[int, Worded] = field(default_factory=dict)
 
-    def scale(self) -> int:
+    def scale(self, others: Mapping[int, Number] = NO_OTHERS) -> int:
         """How many times larger the sketch is told, so that its values are whole micrometres where
-        they can be."""
-        values = [each.value_um for each in self.drafts if each.value_um is not None]
+        they can be. others: the values of some drafts, by their places from 0, where they are
+        others."""
+        values = [others.get(place, each.value_um) for place, each in enumerate(self.drafts)
+                  if each.value_um is not None]
         spots = [each for spot in self.points.values() for each in spot]
         room = ROOM_UM / max(1, *values, *spots, -min(0, *spots, *values))
         fitting = [scale for scale in SCALES if scale <= room] or [1]

@@ -2,12 +2,12 @@
 from __future__ import annotations
 
 from collections.abc import Mapping
-from dataclasses import dataclass, field
+from dataclasses import dataclass, field, replace
 from functools import cached_property
 from typing import NamedTuple
 
 from pertxogai import language
-from pertxogai.spelling.drafts import Owners, Rounded
+from pertxogai.spelling.drafts import Owners, Rounded, Sheet
 from pertxogai.spelling.facts import DATUM, Knot, Line, Owner
 from pertxogai.spelling.linear import Number
 from pertxogai.spelling.rails import Rail
@@ -70,7 +70,8 @@ class Spelled:
     headings: the direction of each line. left_out: the constraints of the drawing that aren't in
     the sketch. rounded: values that had to be rounded. near: the numbers of the angles that are
     passed as a near ratio. behind: the auxiliary lines behind a rail. unmeasured: the auxiliary
-    points between which a distance stands for something without a value."""
+    points between which a distance stands for something without a value. sheet: the same before it
+    was put on a grid."""
 
     style: Style
     sketch: language.Sketch
@@ -84,11 +85,17 @@ class Spelled:
     near: tuple[int, ...]
     behind: dict[str, Behind]
     unmeasured: frozenset[tuple[str, str]]
+    sheet: Sheet = field(repr=False, compare=False)
 
     @cached_property
     def owners(self) -> tuple[frozenset[Owner], ...]:
         """The constraints of the drawing behind each constraint of the sketch, in order."""
         return tuple(said() for said in self.said)
+
+    def scaled(self, scale: int) -> Spelled:
+        """The same, so many times as large as the drawing."""
+        sketch, rounded = self.sheet.sketch(scale)
+        return replace(self, sketch=sketch, scale=scale, rounded=rounded)
 
     def tied(self) -> bool:
         """Whether a line of it is tied to the datum's axes; otherwise all of it may turn."""

@@ -90,7 +90,7 @@ class Writer:
         left_out = (frozenset(layout.left_out) | layout.rails.lost) - told
         return Spelled(layout.style, sketch, scale, said, dict(layout.points), tracks, headings,
                        left_out, rounded, near, dict(layout.behind),
-                       frozenset(layout.unmeasured))
+                       frozenset(layout.unmeasured), layout.sheet)
 
     def _drop_idle(self) -> None:
         """Takes away lines that hold nothing: with two constraints at most, of which one at most
