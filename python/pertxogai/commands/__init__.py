@@ -33,7 +33,7 @@ FILE = "a sketch: .sketch, .drawing, .FCStd, .slvs, .dxf"
 CHART = "a chart of how much each dimension contributes, as SVG"
 FITTED = "a .drawing with tolerances and checks"
 FREEZE = "fix lengths and radii that have no dimension at their drawn values"
-JOBS = "how many {} are judged at a time (default: as many as processors)"
+JOBS = "how many {} at a time (default: as many as processors)"
 NAMES = "values or dimensions, by name or as `judge` calls them (default: all)"
 FOLDER = "where to write the table of verdicts and the drawings (default: print the table)"
 PART = "only every N-th line of the table, beginning with the K-th"
@@ -99,7 +99,7 @@ def _add_judge(commands: Commands) -> None:
     judge.set_defaults(act=_judge)
     _add_freeze(judge)
     judge.add_argument("file", type=Path, nargs="+", metavar="FILE", help=FILE)
-    _add_jobs(judge, "files")
+    _add_jobs(judge, "files are judged")
     judge.add_argument("--json", action="store_true", help="print one object of JSON for each file")
     judge.add_argument("--write", type=Path, metavar="OUT", help=WRITE)
     _add_more(judge)
@@ -166,7 +166,7 @@ def _add_family(commands: Commands) -> None:
     family.add_argument("--copy", action="store_true",
                         help="copy the file, with the values of each good variant, to NAME")
     family.add_argument("--part", type=_part, default="1/1", metavar="K/N", help=PART)
-    _add_jobs(family, "variants")
+    _add_jobs(family, "variants are judged")
     family.add_argument("--sketch", metavar="NAME", help=SKETCH)
 
 
@@ -177,6 +177,7 @@ def _add_fit(commands: Commands) -> None:
     fitting.add_argument("file", type=Path, metavar="FILE", help=FITTED)
     fitting.add_argument("--json", action="store_true", help="print one object of JSON")
     fitting.add_argument("-o", "--output", type=Path, metavar="OUT.svg", help=CHART)
+    _add_jobs(fitting, "cases are placed")
     fitting.add_argument("--sketch", metavar="NAME", help=SKETCH)
 
 
@@ -198,7 +199,7 @@ def _add_freeze(parser: argparse.ArgumentParser) -> None:
 
 
 def _add_jobs(parser: argparse.ArgumentParser, what: str) -> None:
-    """Adds the option that says how many of these are judged at a time."""
+    """Adds the option that says how many of these are done at a time."""
     at_once = os.cpu_count() or 1
     parser.add_argument("--jobs", type=int, default=at_once, metavar="N", help=JOBS.format(what))
 

@@ -4,7 +4,8 @@ from __future__ import annotations
 import argparse
 import json
 
-from pertxogai.commands.judging import chosen, made_of, program_of
+from pertxogai.commands.judging import chosen, made_of
+from pertxogai.commands.solvers import solver_of
 from pertxogai.exits import CommandError, Exit
 from pertxogai.files.atomic import written_whole
 from pertxogai.files.kinds import DesignerDrawing, read_inputs
@@ -18,12 +19,14 @@ from pertxogai.output.fit_text import fit_lines
 def fit_file(options: argparse.Namespace) -> Exit:
     """Prints what tolerances do to what must fit in a file, and draws the chart where that is asked
     for. Raises CommandError, InputRefused, FileRefusal and ProgramError."""
+    if options.jobs < 1:
+        raise CommandError("--jobs takes a whole number from 1 on")
     one = chosen(read_inputs(options.file), options.sketch)
     if not isinstance(one, DesignerDrawing):
         raise CommandError(f"{options.file}: checks are lines of a .drawing, and none of a sketch "
                            "of the language")
     with made_of(one):
-        found = fit(one.drawing, program_of(options), options.within)
+        found = fit(one.drawing, solver_of(options), options.within, options.jobs)
     if options.json:
         sketches = [fit_json(one.name, found)]
         print(json.dumps({"file": str(options.file), "sketches": sketches}, indent=2))

@@ -18,7 +18,8 @@ __all__ = ["Answer", "CheckedFit", "Dimensions", "Fit", "Limits", "NoFit", "Rang
            "Toleranced", "UnknownFit", "Worst", "fit"]
 
 
-def fit(drawing: Drawing, program: Solver, limit: Limit = Limit()) -> Fit | NoFit:
-    """The results of the checks of a sound drawing, or why nothing is known. Raises the exceptions
-    of `judge`."""
-    return fit_of(drawing, program, limit)
+def fit(drawing: Drawing, program: Solver, limit: Limit = Limit(), jobs: int = 1) -> Fit | NoFit:
+    """The results of the checks of a sound drawing, or why nothing is known. jobs: how many
+    processes place cases; what comes of it is the same with any number. Raises the exceptions of
+    `judge`."""
+    return fit_of(drawing, program, limit, jobs)

@@ -123,28 +123,41 @@ class Corners:
             still = [place for place in gives
                      if gives[place] <= self._noise and place not in unsure]
             unsure += self._moving(starts, still)
-            unsure += [place for place in gives
-                       if self._noise < gives[place] <= TIMES * bend and place not in unsure
-                       and (len(gives) <= MANY or self._is_doubtful(starts, place))]
+            little = [place for place in gives
+                      if self._noise < gives[place] <= TIMES * bend and place not in unsure]
+            unsure += little if len(gives) <= MANY else self._doubtful(starts, little)
         return sorted(unsure, key=lambda place: -gives[place])
 
     def _bend(self, corners: Sequence[Offs]) -> int:
         """How far corners are off the sums of the effects at most."""
+        self._placer.expect(corners)
         rests = (self._sums.rest(offs, self._case(offs)) for offs in corners)
         return max((abs(rest) for rest in rests if rest is not None), default=0)
 
-    def _is_doubtful(self, starts: Mapping[int, Offs], place: int) -> bool:
-        """Whether at one of the worst corners a dimension that lies a little within doesn't make
-        the check better as it does by itself, or isn't placed there."""
+    def _doubtful(self, starts: Mapping[int, Offs], places: Sequence[int]) -> list[int]:
+        """Those of the dimensions of which one, a little within at one of the worst corners,
+        doesn't make the check better as it does by itself, or isn't placed there."""
+        self._placer.expect(self._a_little_within(start, place)
+                            for place in places for start in starts.values())
+        return [place for place in places
+                if any(self._is_doubtful(side, start, place) for side, start in starts.items())]
+
+    def _is_doubtful(self, side: int, start: Offs, place: int) -> bool:
+        """The same of one dimension at one of these corners."""
+        within, spread = self._a_little_within(start, place), abs(self._effects[place].spread)
+        return (not self._placer.is_placed(within)
+                or -PART * self._gain(start, within, side) < spread * self._part_within(place))
+
+    def _a_little_within(self, start: Offs, place: int) -> Offs:
+        """A corner with one dimension a little within."""
+        way = self._other_end(place, start[place]) - start[place]
+        return start.replaced({place: start[place] + way * self._part_within(place)})
+
+    def _part_within(self, place: int) -> Fraction:
+        """What part of its tolerance a dimension is put within: all where a little wouldn't be more
+        than rounding."""
         spread = abs(self._effects[place].spread)
-        part = WITHIN if spread * WITHIN > PART * self._noise else Fraction(1)
-        for side, start in starts.items():
-            other = start[place] + (self._other_end(place, start[place]) - start[place]) * part
-            within = start.replaced({place: other})
-            if (not self._placer.is_placed(within)
-                    or -PART * self._gain(start, within, side) < spread * part):
-                return True
-        return False
+        return WITHIN if spread * WITHIN > PART * self._noise else Fraction(1)
 
     def _moving(self, starts: Mapping[int, Offs], still: Sequence[int]) -> Sequence[int]:
         """Those of the dimensions that don't move the check by themselves which do at one of the
@@ -152,20 +165,25 @@ class Corners:
         corners = starts.values()
         if not any(self._move_together(corner, still) for corner in corners):
             return []
+        self._placer.expect(case for place in still for corner in corners
+                            for case in self._others(corner, [place]))
         alone = [place for place in still
                  if any(self._move_together(corner, [place]) for corner in corners)]
         return alone or still
 
     def _move_together(self, corner: Offs, places: Sequence[int]) -> bool:
-        """Whether dimensions at their other ends move the check from a corner: each of them is put
-        there in one of a few cases, and each two of them are at unlike ends in one."""
-        value = self._at(corner)
-        for bit in range(len(places).bit_length()):
-            others = {place: self._other_end(place, corner[place])
-                      for index, place in enumerate(places, start=1) if index >> bit & 1}
-            if abs(self._at(corner.replaced(others)) - value) > self._noise:
-                return True
-        return False
+        """Whether dimensions at their other ends move the check from a corner."""
+        value, others = self._at(corner), self._others(corner, places)
+        self._placer.expect(others)
+        return any(abs(self._at(other) - value) > self._noise for other in others)
+
+    def _others(self, corner: Offs, places: Sequence[int]) -> list[Offs]:
+        """A few cases with dimensions at their other ends than in a corner: each of them is there
+        in one, and each two of them are at unlike ends in one."""
+        numbered = list(enumerate(places, start=1))
+        return [corner.replaced({place: self._other_end(place, corner[place])
+                               for index, place in numbered if index >> bit & 1})
+                for bit in range(len(places).bit_length())]
 
     def _extreme(self, start: Offs, unsure: Sequence[int],
                  side: int) -> tuple[Offs, frozenset[int]]:
@@ -176,7 +194,9 @@ class Corners:
         if self._gain(start, best, side) <= self._noise and not self._turning():
             return start, frozenset()
         best, left = self._worst_known(best, side), MOST_TRIED
-        begins = sorted(self._begins(start, unsure), key=lambda offs: -side * self._at(offs))
+        begins = list(self._begins(start, unsure))
+        self._placer.expect(begins)
+        begins.sort(key=lambda offs: -side * self._at(offs))
         for begin in (best, *begins[:MOST_BEGUN]):
             offs, left = self._climbed(begin, unsure, side, left)
             best = max(best, offs, key=lambda case: side * self._at(case))
@@ -206,6 +226,7 @@ class Corners:
         where by a parabola the check turns round."""
         for _ in range(MOST_ROUNDS):
             before = self._at(offs)
+            self._placer.expect(case for place in unsure for case in self._at_ends(offs, place))
             for place in unsure:
                 offs = self._best_within(offs, place, side)
             if abs(self._at(offs) - before) <= self._noise:
@@ -214,10 +235,14 @@ class Corners:
 
     def _best_within(self, offs: Offs, place: int, side: int) -> Offs:
         """The worst case of those in which one of the unsure lies otherwise."""
-        three = [offs.replaced({place: off}) for off in ends_of(self._effects[place].dimension)]
+        three = self._at_ends(offs, place)
         where = turning_at([(case[place], self._at(case)) for case in three], self._noise)
         there = [] if where is None else self._around(offs.replaced({place: where}), place)
         return max([offs, *three, *there], key=lambda case: side * self._at(case))
+
+    def _at_ends(self, offs: Offs, place: int) -> list[Offs]:
+        """A case with one dimension at its ends, and within."""
+        return [offs.replaced({place: off}) for off in ends_of(self._effects[place].dimension)]
 
     def _around(self, offs: Offs, place: int) -> list[Offs]:
         """A case between the ends of a dimension, or those beside it; none where it can't be placed
@@ -239,8 +264,10 @@ class Corners:
         still be tried of those that are left."""
         value = side * self._at(offs)
         for _ in range(MOST_ROUNDS):
-            before = value
-            for place, state in ((place, it) for place in unsure for it in self._states(place)):
+            before, others = value, [(place, state) for place in unsure
+                                     for state in self._states(place)]
+            self._placer.expect(offs.replaced({place: state}) for place, state in others)
+            for place, state in others:
                 other, left = offs.replaced({place: state}), left - 1
                 there = side * self._at(other) if left > 0 else value
                 if there > value:

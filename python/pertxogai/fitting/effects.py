@@ -108,6 +108,8 @@ def effects(placer: Placer, dimensions: Sequence[Toleranced],
     end of its tolerance is held as it is given where it doesn't move the check wherever it can be
     placed. Raises Unplaced where it does, and ProgramError."""
     base = placer.base()
+    placer.expect(placer.offs_alone(place, off) for place, dimension in enumerate(dimensions)
+                  for off in ends_of(dimension))
     return tuple(_effect(_One(placer, place, number), dimension,
                          _reading(dimension.base, base, number))
                  for place, dimension in enumerate(dimensions))

@@ -3,6 +3,7 @@ squares, and which dimension gives how much."""
 from __future__ import annotations
 
 from collections.abc import Iterator, Sequence
+from contextlib import closing
 from dataclasses import replace
 from fractions import Fraction
 from math import sqrt
@@ -32,19 +33,23 @@ ALIKE = 100
 """In millionths: what dimensions give is told as finely."""
 
 
-def fit_of(drawing: Drawing, program: Solver, limit: Limit) -> Fit | NoFit:
+def fit_of(drawing: Drawing, program: Solver, limit: Limit, jobs: int) -> Fit | NoFit:
     """What tolerances do to a sound drawing. Raises ProgramError, DrawingRefused, Refusal and
     NotHeld as `judge` does."""
-    said = drawing.tolerancing.checks
-    if not said:
+    if not drawing.tolerancing.checks:
         return NoFit(("there is no check: add a line such as check Gap distance P S 2 .. 2.5",))
-    placer = Placer(drawing, program, limit)
+    with closing(Placer(drawing, program, limit, jobs)) as placer:
+        return _fit_placed(drawing, placer, limit)
+
+
+def _fit_placed(drawing: Drawing, placer: Placer, limit: Limit) -> Fit | NoFit:
+    """The same, where cases are placed by this."""
     good = good_of(JudgedDrawing("", drawing, placer.nominal, limit=limit))
     if isinstance(good, NotGood):
         return NoFit(tuple(f"with nominal dimensions it isn't good: {each.text}"
                            for each in good.reasons))
     dimensions = Dimensions.of(drawing, good.solution)
-    gauges = [_gauges(each, good) for each in said]
+    gauges = [_gauges(each, good) for each in drawing.tolerancing.checks]
     placer.begin(dimensions.toleranced, [gauge for each in gauges if not
                                          isinstance(each, UnknownFit) for gauge in each])
     try:

@@ -1,16 +1,18 @@
 """A drawing placed by the program with dimensions that lie off."""
 from __future__ import annotations
 
-from collections.abc import Collection, Mapping, Sequence
+from collections.abc import Collection, Iterable, Mapping, Sequence
 from dataclasses import dataclass
 from fractions import Fraction
 
 from pertxogai.drawing import Drawing, DrawingUnsound
+from pertxogai.fitting.ahead import Ahead
 from pertxogai.fitting.asking import Asking, NotPlaced
 from pertxogai.fitting.gauges import Gauge, Way
 from pertxogai.fitting.offs import Offs
 from pertxogai.fitting.rounding import NOISE
 from pertxogai.fitting.toleranced import Toleranced
+from pertxogai.fitting.tries import AskBy, Tries
 from pertxogai.judging import DrawingRefused
 from pertxogai.judging.measure import Limit
 from pertxogai.language import NotHeld, Refusal
@@ -41,10 +43,11 @@ class Case:
 
 class Placer:
     """Places a drawing with its dimensions off, and measures the checks there. What was tried is
-    kept."""
+    kept. jobs: how many of the cases that are expected are placed at a time."""
 
-    def __init__(self, drawing: Drawing, program: Solver, limit: Limit) -> None:
+    def __init__(self, drawing: Drawing, program: Solver, limit: Limit, jobs: int = 1) -> None:
         self._drawing, self._asking = drawing, Asking(drawing, program, limit)
+        self._ahead = Ahead(self._tries, jobs)
         self.nominal = self._asking.nominal
         self._known: dict[Offs, Case] = {}
         self._within: dict[Offs, Case] = {}
@@ -149,6 +152,19 @@ class Placer:
             return False
         return True
 
+    def expect(self, cases: Iterable[Offs]) -> None:
+        """Says which cases are asked for next, so that they may be placed side by side. What comes
+        of them is the same without that."""
+        if self._ahead.jobs == 1:
+            return
+        anew = {offs: self._by_number(offs) for offs in cases
+                if offs not in self._known and offs not in self._unplaced}
+        self._ahead.want(dict(zip(anew, self._asking.expected(list(anew.values())))))
+
+    def close(self) -> None:
+        """Ends the processes that place cases side by side."""
+        self._ahead.close()
+
     def around(self, offs: Offs, place: int) -> list[Offs]:
         """A case with the dimension of that place, from 0, between its ends, where it can be
         placed. Else those of the two cases that can with that dimension a little less and a little
@@ -177,13 +193,21 @@ class Placer:
         return self._gauges[number].noise
 
     def _placed(self, offs: Offs) -> Case:
-        by_number = {each.number: off for each, off in zip(self._dimensions, offs) if off}
+        by_number = self._by_number(offs)
         try:
-            there = self._asking.lying(by_number)
+            there = self._asking.lying(by_number, self._ahead.taken(offs))
         except (DrawingRefused, DrawingUnsound, NotHeld, NotPlaced, Refusal) as why:
             raise Unplaced(f"{self._told(by_number)}: {why}") from None
         return Case(tuple(gauge.measured(there.solution) for gauge in self._gauges),
                     tuple(gauge.way(there.solution) for gauge in self._gauges), there.off_nm)
+
+    def _by_number(self, offs: Offs) -> dict[int, Fraction]:
+        """How far the dimensions that lie off do so, by the numbers of their constraints."""
+        return {each.number: off for each, off in zip(self._dimensions, offs) if off}
+
+    def _tries(self, offs: Offs, ways: Sequence[AskBy]) -> Tries:
+        """What comes of ways to ask for a case."""
+        return self._asking.tries(self._by_number(offs), ways)
 
     def _told(self, by_number: dict[int, Fraction]) -> str:
         """Which dimensions lie off."""
