@@ -13,10 +13,10 @@ from pertxogai.drawing import (
 from pertxogai.drawing.tolerances.check import Check
 from pertxogai.exact import Number, Vector, between, cross, dot, root, square
 from pertxogai.fitting.rounding import NOISE, noise_of
+from pertxogai.fitting.toleranced import MILLIONTHS
 from pertxogai.judging.measure import PointNm, Solution
 from pertxogai.judging.measure.placed import Placed
 
-MILLIONTHS = 1_000_000
 NOTHING = 20
 """In millionths: what is no more is 0 but for rounding."""
 PARALLEL = 1000

@@ -5,6 +5,7 @@ from math import ceil, degrees
 
 from pertxogai.drawing import AngleBetween, ParallelDistance, PointLineDistance, ShapeRef, Valued
 from pertxogai.exact import Vector, between, dot, root, square
+from pertxogai.fitting.toleranced import MILLIONTHS
 from pertxogai.judging.measure.placed import Placed
 
 NOISE = 20
@@ -12,7 +13,6 @@ NOISE = 20
 to whole nanometres, and of angles to ratios."""
 OFF_NM = 1.5
 """The rounding of a point, with as much again for that of the numbers behind it."""
-MILLIONTHS = 1_000_000
 
 
 def noise_of(asked: Valued, placed: Placed) -> int:
