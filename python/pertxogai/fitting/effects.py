@@ -57,6 +57,7 @@ class Effect:
         """The greatest that was measured."""
         return max(each.value for each in self.readings)
 
+    @cached_on
     def gives(self) -> int:
         """How much of it the dimension gives to either side: half of the greatest change."""
         return (self.greatest - self.least + 1) // 2
@@ -82,6 +83,7 @@ class Effect:
         known = (self.base, *self.readings)
         return next((each for each in known if each.off == off), None)
 
+    @cached_on
     def turn(self) -> Reading | None:
         """Where between the ends the check is beyond what it is at both; None where it isn't."""
         if len(self.readings) < 3:
@@ -91,11 +93,12 @@ class Effect:
         most = max(within, key=lambda each: max(low - each.value, each.value - high))
         return most if not low - self.noise <= most.value <= high + self.noise else None
 
-    def states(self) -> list[Reading]:
+    @cached_on
+    def states(self) -> tuple[Reading, ...]:
         """Where the check may be worst: both ends, and where it turns."""
         turn = self.turn()
-        return list(dict.fromkeys([self.readings[0], *([turn] if turn else []),
-                                   self.readings[-1]]))
+        return tuple(dict.fromkeys([self.readings[0], *([turn] if turn else []),
+                                    self.readings[-1]]))
 
     def end(self, side: int) -> Fraction:
         """How far off the dimension is where the check times a side is greatest by it alone."""
