@@ -1,7 +1,7 @@
 """What comes of cases, worked out in several processes before each case is asked for."""
 from __future__ import annotations
 
-from collections.abc import Callable, Iterator, Mapping, Sequence
+from collections.abc import Callable, Container, Iterator, Mapping, Sequence
 from contextlib import contextmanager
 from typing import TYPE_CHECKING
 
@@ -41,13 +41,21 @@ class Ahead:
         and isn't begun is given up. Raises ProcessKilled."""
         if self.jobs == 1 or len(cases) < (FEW if self._pool is None else 2):
             return
-        self._waiting = {offs: waiting for offs, waiting in self._waiting.items()
-                         if not waiting[0].cancel()}
+        self._give_up(cases)
         anew = [each for each in cases.items() if each[0] not in self._waiting]
         size = -(-len(anew) // (CHUNKS * self.jobs)) or 1
         with _alive():
             for start in range(0, len(anew), size):
                 self._submit(anew[start:start + size])
+
+    def _give_up(self, cases: Container[Offs]) -> None:
+        """Gives up what isn't begun, without these cases."""
+        wanted = {future for offs, (future, _) in self._waiting.items() if offs in cases}
+        for future, _ in self._waiting.values():
+            if future not in wanted:
+                future.cancel()
+        self._waiting = {offs: waiting for offs, waiting in self._waiting.items()
+                         if not waiting[0].cancelled()}
 
     def _submit(self, chunk: Chunk) -> None:
         if self._pool is None:

@@ -9,7 +9,7 @@ from fractions import Fraction
 from itertools import product
 from random import Random
 
-from pertxogai.fitting.effects import Effect, ends_of, turning_at
+from pertxogai.fitting.effects import Effect, turning_at
 from pertxogai.fitting.gauges import Way
 from pertxogai.fitting.offs import Offs
 from pertxogai.fitting.placing import Case, Placer
@@ -36,6 +36,9 @@ WITHIN = Fraction(1, 8)
 PART = 4
 """A dimension is sure where that makes the check better by no less than this part of what it does
 by itself."""
+NEXT = 2
+"""Once a case changed, what is tried from there is expected of this number of dimensions: it may
+change again."""
 SAMPLES = 8
 """This number of corners is placed besides, taken at random: the same in each run."""
 SEED = 2768
@@ -138,7 +141,7 @@ class Corners:
         """Those of the dimensions of which one, a little within at one of the worst corners,
         doesn't make the check better as it does by itself, or isn't placed there."""
         self._placer.expect(self._a_little_within(start, place)
-                            for place in places for start in starts.values())
+                            for start in starts.values() for place in places)
         return [place for place in places
                 if any(self._is_doubtful(side, start, place) for side, start in starts.items())]
 
@@ -165,7 +168,7 @@ class Corners:
         corners = starts.values()
         if not any(self._move_together(corner, still) for corner in corners):
             return []
-        self._placer.expect(case for place in still for corner in corners
+        self._placer.expect(case for corner in corners for place in still
                             for case in self._others(corner, [place]))
         alone = [place for place in still
                  if any(self._move_together(corner, [place]) for corner in corners)]
@@ -225,13 +228,19 @@ class Corners:
         """A case from which it is no worse to put one of the unsure between its ends: within, and
         where by a parabola the check turns round."""
         for _ in range(MOST_ROUNDS):
-            before = self._at(offs)
-            self._placer.expect(case for place in unsure for case in self._at_ends(offs, place))
-            for place in unsure:
+            first = offs
+            for number, place in enumerate(unsure):
+                if number == 0 or offs is not first:
+                    self._expect_ends(offs, unsure[number:] if offs is first else
+                                      unsure[number:number + NEXT])
                 offs = self._best_within(offs, place, side)
-            if abs(self._at(offs) - before) <= self._noise:
+            if abs(self._at(offs) - self._at(first)) <= self._noise:
                 break
         return offs
+
+    def _expect_ends(self, offs: Offs, places: Sequence[int]) -> None:
+        """Says that a case is asked for next with each of some dimensions at its ends."""
+        self._placer.expect(case for place in places for case in self._at_ends(offs, place))
 
     def _best_within(self, offs: Offs, place: int, side: int) -> Offs:
         """The worst case of those in which one of the unsure lies otherwise."""
@@ -242,7 +251,7 @@ class Corners:
 
     def _at_ends(self, offs: Offs, place: int) -> list[Offs]:
         """A case with one dimension at its ends, and within."""
-        return [offs.replaced({place: off}) for off in ends_of(self._effects[place].dimension)]
+        return [offs.replaced({place: off}) for off in self._effects[place].dimension.ends]
 
     def _around(self, offs: Offs, place: int) -> list[Offs]:
         """A case between the ends of a dimension, or those beside it; none where it can't be placed
@@ -264,10 +273,8 @@ class Corners:
         still be tried of those that are left."""
         value = side * self._at(offs)
         for _ in range(MOST_ROUNDS):
-            before, others = value, [(place, state) for place in unsure
-                                     for state in self._states(place)]
-            self._placer.expect(offs.replaced({place: state}) for place, state in others)
-            for place, state in others:
+            before = value
+            for place, state in ((place, it) for place in unsure for it in self._states(place)):
                 other, left = offs.replaced({place: state}), left - 1
                 there = side * self._at(other) if left > 0 else value
                 if there > value:

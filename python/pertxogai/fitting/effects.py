@@ -6,6 +6,7 @@ from collections.abc import Iterable, Sequence
 from contextlib import suppress
 from dataclasses import dataclass
 from fractions import Fraction
+from functools import cached_property
 
 from pertxogai.cached import cached_on
 from pertxogai.fitting.gauges import Way
@@ -80,8 +81,12 @@ class Effect:
 
     def at(self, off: Fraction) -> Reading | None:
         """What was measured with the dimension so far off; None where it wasn't."""
-        known = (self.base, *self.readings)
-        return next((each for each in known if each.off == off), None)
+        return self._by_off.get(off)
+
+    @cached_property
+    def _by_off(self) -> dict[Fraction, Reading]:
+        """The readings, by how far off the dimension is: as all others are given before others."""
+        return {each.off: each for each in (*reversed(self.readings), self.base)}
 
     @cached_on
     def turn(self) -> Reading | None:
@@ -112,7 +117,7 @@ def effects(placer: Placer, dimensions: Sequence[Toleranced],
     placed. Raises Unplaced where it does, and ProgramError."""
     base = placer.base()
     placer.expect(placer.offs_alone(place, off) for place, dimension in enumerate(dimensions)
-                  for off in ends_of(dimension))
+                  for off in dimension.ends)
     return tuple(_effect(_One(placer, place, number), dimension,
                          _reading(dimension.base, base, number))
                  for place, dimension in enumerate(dimensions))
@@ -143,7 +148,7 @@ class _One:
 
 
 def _effect(one: _One, dimension: Toleranced, base: Reading) -> Effect:
-    three = ends_of(dimension)
+    three = dimension.ends
     try:
         readings = [one.reading(off) for off in three]
     except Unplaced:
@@ -169,14 +174,6 @@ def _moves(one: _One, offs: Iterable[Fraction], base: Reading) -> bool:
 
 def _reading(off: Fraction, case: Case, number: int) -> Reading:
     return Reading(off, case.values[number], case.ways[number])
-
-
-@cached_on
-def ends_of(dimension: Toleranced) -> tuple[Fraction, Fraction, Fraction]:
-    """How far off a dimension is at its least, within, and at its greatest: within as it is given,
-    where that is no end, else in the middle."""
-    low, high = -dimension.below, dimension.above
-    return low, (Fraction(0) if low < 0 < high else (low + high) / 2), high
 
 
 def turning_at(readings: Sequence[tuple[Fraction, int]], noise: int) -> Fraction | None:

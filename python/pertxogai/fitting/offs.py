@@ -5,9 +5,20 @@ from collections.abc import Mapping
 from fractions import Fraction
 
 
+class Off(Fraction):
+    """How far one dimension lies off, in micrometres or degrees. Its hash is worked out once, since
+    that of a fraction takes long: cases are looked up by it again and again."""
+
+    _hash: int | None = None
+
+    def __hash__(self) -> int:
+        if self._hash is None:
+            self._hash = super().__hash__()
+        return self._hash
+
+
 class Offs(tuple[Fraction, ...]):
-    """How far each dimension lies off, in their order, in micrometres or degrees. Its hash is
-    worked out once, since that of many fractions takes long."""
+    """How far each dimension lies off, in their order. Its hash is worked out once too."""
 
     _hash: int | None = None
 

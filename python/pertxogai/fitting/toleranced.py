@@ -4,6 +4,7 @@ from __future__ import annotations
 from collections.abc import Mapping
 from dataclasses import dataclass, replace
 from fractions import Fraction
+from functools import cached_property
 from math import atan2, degrees
 
 from pertxogai.drawing import (
@@ -12,6 +13,7 @@ from pertxogai.drawing import (
 from pertxogai.drawing.constraint_checks import check_constraint
 from pertxogai.drawing.tolerances.iso2768 import Table
 from pertxogai.exact import between, cross, root, square
+from pertxogai.fitting.offs import Off
 from pertxogai.judging.measure import Solution
 from pertxogai.judging.measure.placed import Placed
 
@@ -37,11 +39,18 @@ class Toleranced:
     is_angle: bool
     is_general: bool
 
-    @property
+    @cached_property
     def base(self) -> Fraction:
         """How far off it is where all others are tried: as it is given, or at the end next to that
         where both lie on one side."""
-        return min(max(Fraction(0), -self.below), self.above)
+        return Off(min(max(Fraction(0), -self.below), self.above))
+
+    @cached_property
+    def ends(self) -> tuple[Fraction, Fraction, Fraction]:
+        """How far off it is at its least, within, and at its greatest: within as it is given, where
+        that is no end, else in the middle."""
+        low, high = Off(-self.below), Off(self.above)
+        return low, self.base if low < 0 < high else Off((low + high) / 2), high
 
     def width(self) -> Fraction:
         """From the least to the greatest value."""
@@ -49,7 +58,8 @@ class Toleranced:
 
     def has(self, off: Fraction) -> bool:
         """Whether it may be so far off."""
-        return -self.below <= off <= self.above
+        low, _, high = self.ends
+        return off is low or off is high or low <= off <= high
 
 
 @dataclass(frozen=True)
