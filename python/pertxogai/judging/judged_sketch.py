@@ -6,9 +6,10 @@ from typing import Any
 
 from pertxogai import _former
 from pertxogai.judging.choices import Tried, beneath, tried
+from pertxogai.judging.deciding import deciding
 from pertxogai.judging.limits import TextRefused
 from pertxogai.judging.measure.limit import Limit
-from pertxogai.language import ClusterName, Constraint, Refusal, Sketch
+from pertxogai.language import Constraint, Refusal, Sketch
 from pertxogai.program import Answer, Solver, Status
 from pertxogai.program.reports import (
     Cause, CheckReport, ConstraintFault, ExcessReport, Fault, FrameFault, NotAReport, NumberFault,
@@ -115,28 +116,18 @@ def _done_answer(name: str, answer: Answer, text: str) -> Answer:
 
 
 def concerned(judged: JudgedSketch) -> tuple[Constraint, ...]:
-    """The constraints that a fault is about: the one beyond its limit, or all that the step has
-    joined."""
+    """The constraints that a fault is about: the one beyond its limit, or those that decide how
+    the elements lie at which the step joins its clusters."""
     fault, constraints = judged.fault, judged.sketch.constraints
     if isinstance(fault, ConstraintFault):
         return (constraints[fault.constraint - 1],)
     if isinstance(fault, TurnedFault) and not fault.of.is_step:
         return (constraints[fault.of.number - 1],)
     if isinstance(fault, (NumberFault, RangeFault)):
-        return _joined_constraints(judged.plan, fault.at.step)
+        return deciding(judged.plan, fault.at.step) if judged.plan else ()
     if isinstance(fault, TurnedFault):
-        return _joined_constraints(judged.plan, fault.of.number)
+        return deciding(judged.plan, fault.of.number) if judged.plan else ()
     return ()
-
-
-def _joined_constraints(plan: Plan | None, step: int) -> tuple[Constraint, ...]:
-    """The constraints of the clusters that a step joins, where these are its own leaves."""
-    if plan is None:
-        return ()
-    joined = plan.steps[step - 1].joins
-    return tuple(
-        leaf.constraint for leaf in plan.leaves if ClusterName(False, leaf.number) in joined
-    )
 
 
 def what_to_do(fault: Fault, turned: Tried | None = None) -> str:

@@ -10,6 +10,9 @@ from pertxogai.output.verdict_text import verdict_text
 from pertxogai.program.reports import (
     Cause, Fault, FrameFault, NumberFault, Off, OverPart, RangeFault, Spare, TurnedFault)
 
+MOST_CONCERNED = 12
+"""The most constraints of a fault that are listed."""
+
 
 def sketch_lines(judged: JudgedSketch) -> Iterator[str]:
     """Everything that is reported of it, in lines to read; the first has the verdict."""
@@ -54,7 +57,10 @@ def _fault_lines(judged: JudgedSketch) -> Iterator[str]:
     """What fails, the constraints that it is about, and what helps."""
     if judged.fault:
         yield f"  can't be placed as drawn ({_cause(judged.fault)}): {judged.fault.text().strip()}"
-        yield from (f"    of {constraint.text()}" for constraint in concerned(judged))
+        constraints = concerned(judged)
+        yield from (f"    of {each.text()}" for each in constraints[:MOST_CONCERNED])
+        if len(constraints) > MOST_CONCERNED:
+            yield f"    and of {len(constraints) - MOST_CONCERNED} more"
         yield from (f"  {line}" for line in tried_lines(judged.sketch, judged.tried))
         yield f"  what to do: {what_to_do(judged.fault, judged.tried)}"
 

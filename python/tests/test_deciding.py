@@ -1,0 +1,100 @@
+"""Which constraints a fault of a sketch is about: those that decide how the elements lie at which the step that fails
+joins its clusters."""
+from __future__ import annotations
+
+import pytest
+
+from conftest import TOP
+from pertxogai.judging import concerned, judge_sketch
+from pertxogai.judging.deciding import deciding
+from pertxogai.output import sketch_json, sketch_lines
+from pertxogai.program import Program
+from pertxogai.program.reports import read_plan
+
+POINTS = "sketch 1\npoint A 0 0\npoint B 80 0\npoint C 90 50\npoint D 10 60\n"
+QUADRILATERAL = POINTS + """line AB 0 0 80 0
+circle K 30 12 12
+on A AB
+on B AB
+distance A B 80
+distance B C 51
+distance C D 82
+distance D A 61
+distance A C 140
+tangent AB K
+distance A K 32
+end
+"""
+"""A B and B C reach 131 from A, and A C asks for 140. D and K hang on these without taking part."""
+UNTOLD = POINTS + """distance A D 61
+distance D B 90
+distance A B 80
+distance D C 82
+distance C B 51
+point E 130 10
+distance A E {}
+distance C E 60
+end
+"""
+"""E lies by A and by C, of which no line gives the distance: the first five lengths decide it."""
+
+
+def of_fault(text: str, program: Program) -> list[str]:
+    return [each.text() for each in concerned(judge_sketch("it", text, program))]
+
+
+def test_the_three_lengths_of_a_triangle_within_a_larger_sketch(program: Program) -> None:
+    judged = judge_sketch("it", QUADRILATERAL, program)
+    three = ["distance A B 80", "distance B C 51", "distance A C 140"]
+    assert [each.text() for each in concerned(judged)] == three
+    assert sketch_json(judged)["fault"]["constraints"] == three
+    assert [line for line in sketch_lines(judged) if line.startswith("    of ")] == [f"    of {each}" for each in three]
+
+
+def test_where_no_length_is_given_between_two_all_that_hold_them_are_named(program: Program) -> None:
+    """A and C are less than 200 apart, so that 300 and 60 don't meet at E."""
+    found = of_fault(UNTOLD.format(300), program)
+    assert found == ["distance A D 61", "distance D B 90", "distance A B 80", "distance D C 82", "distance C B 51",
+                     "distance A E 300", "distance C E 60"]
+
+
+def test_a_triangle_by_itself(program: Program) -> None:
+    text = (TOP / "examples/no-triangle.sketch").read_text()
+    assert of_fault(text, program) == ["distance A B 5", "distance A C 1", "distance B C 1"]
+
+
+CHAIN = """verdict well
+elements 5
+constraints 7
+steps 3
+leaf c1 : distance A B 4
+leaf c2 : distance A C 3
+leaf c3 : distance B C 5
+leaf c4 : distance A D 3
+leaf c5 : distance B D 3
+leaf c6 : distance C E 2
+leaf c7 : distance D E 2
+step s1 joins c3 c2 c1 at C A B keeps c1 turn +
+step s2 joins s1 c5 c4 at B D A keeps s1 turn -
+step s3 joins s2 c7 c6 at D E C keeps s2 turn +
+"""
+
+
+@pytest.mark.parametrize("step, numbers", [(1, {1, 2, 3}), (2, {1, 4, 5}), (3, {1, 2, 3, 4, 5, 6, 7})])
+def test_beneath_the_least_cluster_that_has_both(step: int, numbers: set[int]) -> None:
+    """Of s1 the second step needs A and B, which c1 ties alone; of s2 the third needs C and D, which only all five do."""
+    plan = read_plan(CHAIN)
+    of = {leaf.number for leaf in plan.leaves if leaf.constraint in deciding(plan, step)}
+    assert of == numbers
+
+
+def test_of_many_the_first_are_listed(program: Program) -> None:
+    """Twelve of the 19 lengths of a chain of triangles, and how many more there are."""
+    points = "".join(f"point P{k} {10 * k} {(k % 2) * 10}\n" for k in range(11))
+    sides = "distance P0 P1 14\n" + "".join(
+        f"distance P{k - 2} P{k} 20\ndistance P{k - 1} P{k} 14\n" for k in range(2, 10))
+    text = f"sketch 1\n{points}{sides}distance P0 P10 300\ndistance P9 P10 14\nend\n"
+    judged = judge_sketch("it", text, program)
+    lines = [line for line in sketch_lines(judged) if line.startswith(("    of ", "    and of "))]
+    assert len(concerned(judged)) == 19 and len(lines) == 13
+    assert lines[-1] == "    and of 7 more"
