@@ -251,6 +251,20 @@ distance Side.end Base 40
 coincident Base.start Rim.start
 angle Base +10deg
 """
+PINNED_BASE = """value W 22
+segment Base 0 0 72 13
+segment Side Base.start 22.91 44.78
+segment Far Side.end Base.end
+segment Top Side.end 72.11 53.67
+segment Pin Top.end 70.82 60.85
+Short: length Base 70
+length Side 50.3
+distance Side.end Base 40
+parallel Top Base
+length Top 50
+perpendicular Pin Base
+length Pin W/3
+"""
 FLAT_RHOMBUS = """segment South 0 0 31 0
 segment East South.end 44 27
 segment North East.end 14 26
@@ -387,6 +401,16 @@ def test_a_value_that_is_rounded_hides_no_other_constraint(text: str, least: str
     assert low.fault.kind is FaultKind.ROUNDING and low.at <= Fraction(least) * 33 / 32
     for number in range(int(low.at * 1000), 46):
         assert ranging.fault(of, Fraction(number, 1000)) is None
+
+
+def test_a_value_that_is_rounded_hides_no_other_of_its_line() -> None:
+    """Pin's end lies 40 and a third of 22 from Base, which no sketch holds; the 40 are the height's.
+    Where Base is 17 micrometres long, its end lies at 16,729.49 and 3,020.60 nm, and the nearest
+    whole ones are 0.48 beside its line: the height, of which the foot is 30.5 mm along, is off by
+    860, which is more than two thirds of a micrometre."""
+    low = range_of(PINNED_BASE, "Short").low
+    assert low.fault.kind is FaultKind.ROUNDING
+    assert Fraction("0.017") < low.at <= Fraction("0.0265") * 33 / 32
 
 
 @pytest.mark.parametrize(("text", "name", "why"), [

@@ -2,19 +2,23 @@
 numbers."""
 from __future__ import annotations
 
-from collections.abc import Callable, Sequence
-from dataclasses import dataclass, replace
+from collections import Counter
+from collections.abc import Callable, Mapping, Sequence
+from dataclasses import dataclass, field, replace
+from fractions import Fraction
 from functools import partial
 from typing import TypeVar
 
 from pertxogai.drawing import Constraint, Drawing, Segment
+from pertxogai.drawing.places import NM_PER_UM
+from pertxogai.exact import whole_up
 from pertxogai.judging import (
     DrawingRefused, JudgedDrawing, Judgement, Names, Question, Trial, judge_at_once,
     reasons_against)
 from pertxogai.judging.departures import Comparison, Warned
 from pertxogai.judging.edges import Edges
 from pertxogai.judging.faults import failure
-from pertxogai.judging.measure import Deviation, Implied, Limit
+from pertxogai.judging.measure import Deviation, Implied, Limit, Unit
 from pertxogai.judging.measure.measuring import measure
 from pertxogai.judging.mirrored import Pieces
 from pertxogai.judging.printed import is_tied
@@ -40,9 +44,8 @@ Key = int | Constraint | Implied
 @dataclass(frozen=True)
 class Held:
     """Where the edges of a drawing lie in which each constraint holds. nearly: the first that is
-    off by more than two thirds of the limit, and neither is so at the present number nor has a
-    value that is rounded for the program, which is off by the same wherever it is; None where none
-    is."""
+    off by more than two thirds of the limit, and by as much as values of its own are rounded for
+    the program, and isn't so at the present number; None where none is."""
 
     edges: Edges
     nearly: Deviation | None = None
@@ -54,8 +57,8 @@ class Way:
     the drawing, lie mirrored, and come to cross, and how it is told: by which reading and style.
     reading: None where no single one will do, as where a value was read off a placed part, so that
     all ways are tried for each number. before: how the reading spells it. always: what is off by
-    more than two thirds of the limit at the present number. rounded: the constraints of which a
-    value is rounded for the program."""
+    more than two thirds of the limit at the present number. rounded: the constraints of which
+    values are rounded for the program, and by how many nanometres."""
 
     drawing: Drawing
     program: Solver
@@ -69,7 +72,7 @@ class Way:
     reading: Reading | None
     before: Interpretation | None
     always: frozenset[Key]
-    rounded: frozenset[Key] = frozenset()
+    rounded: Mapping[Key, int] = field(default_factory=dict)
 
     @staticmethod
     def of(drawing: Drawing, program: Solver, limit: Limit = Limit(),
@@ -109,11 +112,12 @@ class Way:
         return self._held(found.edges, deviations, found.rounded)
 
     def _held(self, edges: Edges, deviations: Sequence[Deviation],
-              rounded: frozenset[Key]) -> Held:
-        """Edges that are placed so that each constraint holds. rounded: the constraints of which a
-        value is rounded."""
-        nearly = (each for each in _less(self.limit).beyond(deviations)
-                  if _key(each) not in self.always | rounded)
+              rounded: Mapping[Key, int]) -> Held:
+        """Edges that are placed so that each constraint holds. rounded: those of which values are
+        rounded, and by how many nanometres."""
+        less = _less(self.limit)
+        nearly = (each for each in less.beyond(deviations) if _key(each) not in self.always
+                  and _but_for_rounding(each, rounded) > less.amount)
         return Held(edges, next(nearly, None))
 
     def _by_one(self, drawing: Drawing, reading: Reading) -> Held | Fault:
@@ -218,10 +222,22 @@ def _key(off: Deviation) -> Key:
     return off.of if off.number is None else off.number
 
 
-def _rounded(spelled: Spelled) -> frozenset[Key]:
-    """The constraints of which a value is rounded for the program."""
-    return frozenset(owner.number for each in spelled.rounded
-                     for owner in spelled.owners[each.number - 1] if not owner.shape)
+def _rounded(spelled: Spelled) -> Mapping[Key, int]:
+    """By how many nanometres the values of each constraint are rounded for the program together; a
+    line may have those of several. Those of which none is rounded aren't in it."""
+    found = Counter[Key]()
+    for each in spelled.rounded:
+        by_nm = whole_up((Fraction(each.exact_um) - each.told_um) * NM_PER_UM)
+        for owner in spelled.owners[each.number - 1]:
+            if not owner.shape:
+                found[owner.number] += by_nm
+    return found
+
+
+def _but_for_rounding(off: Deviation, rounded: Mapping[Key, int]) -> int:
+    """How far a constraint is off besides what its own values are rounded by, in its unit. They
+    turn nothing."""
+    return off.amount - (rounded.get(_key(off), 0) if off.unit is Unit.NM else 0)
 
 
 def _is_free(trial: Trial) -> bool:
