@@ -8,7 +8,7 @@ import pytest
 
 from pertxogai.commands import main
 from pertxogai.drawing import read_drawing
-from pertxogai.judging import judge, judge_sketch
+from pertxogai.judging import CountedDrawing, judge, judge_sketch
 from pertxogai.judging.groups import groups_of
 from pertxogai.judging.judgement import Judgement
 from pertxogai.judging.judged_drawing import JudgedDrawing
@@ -16,6 +16,7 @@ from pertxogai.judging.naming import listed, quoted
 from pertxogai.output import drawing_json, drawing_lines, sketch_json, sketch_lines
 from pertxogai.program import Program
 from pertxogai.program.reports import Verdict, read_why
+from pertxogai.search import search_judged
 from pertxogai.search.searched import Searched
 
 DRAWINGS = Path(__file__).parent / "drawings"
@@ -58,6 +59,23 @@ def test_who_gives_a_circle_its_radius_is_named_where_a_point_lies_aslant(
     names = {"Round", "On", "X", "Y"}
     assert found.verdict is Verdict.OVER
     assert others(found) == {each: names - {each} for each in names}
+
+
+@pytest.mark.parametrize("last, group", [
+    (("Y", "Half"), ["      follows from (by numbers): 'Y', 'X', 'All'"]), (("Half", "Y"), [])])
+def test_a_group_says_all_that_a_middle_follows_from(program: Program, last: tuple[str, str],
+                                                     group: list[str]) -> None:
+    """Half says M's x and M's y, as X and Y do with All. The program leaves a line out of y alone, and
+    what that follows from isn't what Half follows from."""
+    told = {"Y": "y M 5", "Half": "midpoint M S"}
+    drawing = read_drawing("segment S -20 4 20 6\npoint M 1 5\nAll: fixed S\nX: x M 0\n"
+                           + "".join(f"{name}: {told[name]}\n" for name in last))
+    found = judge(drawing, program)
+    assert others(found)["Half"] == set() and others(found)["Y"] == {"All", "Half"}
+    lines = [*drawing_lines(CountedDrawing(
+        "edge", drawing, found, finding=search_judged(drawing, found, program)))]
+    half = lines.index("    'Half': redundant, off by 0 nm; without it the rest is well")
+    assert [line for line in lines[half + 1:half + 2] if line.startswith("      ")] == group
 
 
 @pytest.mark.parametrize("again_mm", ["5", "5.01"])

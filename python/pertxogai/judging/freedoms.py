@@ -139,6 +139,21 @@ class Freedoms:
         """Whether nothing more is free without a constraint, beside some that have gone."""
         return self.freed([*gone, number]) == self.freed(gone)
 
+    def follows(self, number: int, others: Collection[Owner]) -> bool:
+        """Whether all that a constraint asks follows from what others and the shapes ask. Raises
+        TooMany."""
+        inside = {Owner(number), *others}
+        rows, mine = Rows[Decimal](NONE), list[Row]()
+        with localcontext(EXACT):
+            for circuit in self.circuits:
+                left, rest = rows.add({
+                    -1 - place if self.owners[place].shape or self.owners[place] in inside
+                    else place: value for place, value in circuit.items()})
+                if left <= NONE:
+                    mine.append({-1 - key: value for key, value in rest.items()
+                                 if key < 0 and self.owners[-1 - key] == Owner(number)})
+            return rank(mine) == self.equations(number)
+
     def among(self) -> frozenset[Owner]:
         """Who asks something that others ask together."""
         return frozenset(self.owners[place] for circuit in self.circuits for place in circuit)

@@ -4,15 +4,18 @@ names them.
 The group of a dimension is the least of the kept lines that it follows from: without any one of
 them it wouldn't. What has to go beside it is left out before it, so it is in no group. A line may
 be said by several of the designer's words; then all of them are named, but for those that by rank
-take no part in anything that is too much."""
+take no part in anything that is too much. Of what asks several equations the program may leave out
+one alone: then the group isn't that of the dimension, and there is none."""
 from __future__ import annotations
 
 from collections.abc import Collection, Mapping, Sequence
+from contextlib import suppress
 from dataclasses import replace
 from itertools import islice
 from types import MappingProxyType
 
-from pertxogai.judging.freedoms import freedoms
+from pertxogai.judging.freedoms import Freedoms, Twice, freedoms
+from pertxogai.judging.jets import TooMany
 from pertxogai.judging.naming import Names
 from pertxogai.judging.trials import written_by
 from pertxogai.program import Solver
@@ -41,16 +44,24 @@ def groups_of(names: Names, program: Solver, numbers: Mapping[int, Collection[in
         report = _why(names, program, order)
         found[number] = _others(names, report, order, Owner(number))
         left -= work_of(check, report.stays_over())
-    taking_part = _taking_part(names)
-    told = {number: names.owners(others if taking_part is None else others & taking_part)
+    free = freedoms(names.drawing)
+    told = {number: names.owners(others if free is None or not free.excess
+                                 else _by_rank(names, free, number, others))
             for number, others in found.items()}
     return MappingProxyType({number: others for number, others in told.items() if others})
 
 
-def _taking_part(names: Names) -> frozenset[Owner] | None:
-    """Who by rank takes part in something that is too much; None where that can't be told."""
-    free = freedoms(names.drawing)
-    return free.among() if free is not None and free.excess else None
+def _by_rank(names: Names, free: Freedoms, number: int,
+             others: frozenset[Owner]) -> frozenset[Owner]:
+    """Those of a group that by rank take part in something that is too much; none where of the
+    several equations of a dimension, which all follow from others, not all follow from these and
+    from what is no line of the sketch."""
+    if len(free.factors(number)) > 1 and free.twice(number) is Twice.WHOLE:
+        silent = free.among().difference(*names.spelled.owners)
+        with suppress(TooMany):
+            if not free.follows(number, others | silent):
+                return frozenset()
+    return others & free.among()
 
 
 def _told_last(names: Names, owner: Owner, beside: frozenset[Owner]) -> Sequence[int]:

@@ -94,13 +94,15 @@ class Surplus:
         return self.off.amount <= self.limit.amount
 
     def others_by_numbers(self, finding: Finding | None) -> Group:
-        """The others of its group, by numbers: the first group that the search found with it. None
-        if the program names some, or if its deviation isn't known."""
+        """The others of its group, by numbers: of the group that the search found for it, or of the
+        only one with it. None if the program names some, or if its deviation isn't known."""
         if finding is None or self.others or self.off is None:
             return ()
         groups = {True: finding.repeats, False: finding.contradictions, None: finding.in_doubt}
-        with_it = (group for group in groups[self.repeats()] if self.name in group)
-        return tuple(name for name in next(with_it, ()) if name != self.name)
+        with_it = [group for group in groups[self.repeats()] if self.name in group]
+        its_own = [group for group in with_it if group[0] == self.name]
+        found = its_own[:1] or (with_it if len(with_it) == 1 else [])
+        return tuple(name for group in found for name in group if name != self.name)
 
     def opens(self) -> bool:
         """Whether more is missing without it, and without what has to go beside it."""
