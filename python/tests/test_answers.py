@@ -345,6 +345,20 @@ def test_a_circle_dimensioned_across_the_line_that_it_touches_has_a_radius(progr
     assert not any(each.amount for each in judged.deviations)
 
 
+def test_a_circle_that_touches_one_across_its_line_has_a_radius_too(program):
+    # Ball is drawn above the line, and lies 8 below: its radius is 8. Next, 20 from there, touches it
+    # from outside, so its radius is 12, and Last's, 30 from Next, is 18; Same is as large as Next.
+    judged = judge(read_drawing(
+        "circle Ball 20 8 8\ncircle Next 40 8 12\ncircle Last 70 8 18\ncircle Same 0 50 12\n"
+        "tangent Ball XAxis\ntangent Ball Next\ntangent Next Last\nequal Same Next\n"
+        "x Ball 20\ny Ball -8\nx Next 40\ny Next -8\nx Last 70\ny Last -8\nx Same 0\n"
+        "y Same 50\n"), program)
+    assert judged.verdict is Verdict.WELL and judged.undimensioned == ()
+    assert judged.solution.radii == {"Ball": 8_000_000, "Next": 12_000_000, "Last": 18_000_000,
+                                     "Same": 12_000_000}
+    assert not any(each.amount for each in judged.deviations)
+
+
 @pytest.mark.parametrize(("radius", "gone"), [("7", [(DepartureKind.GONE, ("Flat",))]), ("7.001", [])])
 def test_an_edge_that_came_to_nothing_is_warned_of(program, radius, gone):
     """The flat of a shaft, 7 away from the centre: at the radius 7 it is a point of the circle."""

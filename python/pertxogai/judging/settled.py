@@ -31,18 +31,11 @@ def settled(drawing: Drawing, asked: Trial, shape: Shape) -> Settled:
     whose radius would have to be 0 or less by what is told, and that the places tell no other, is
     as it is drawn, so that what tells its radius is measured as off."""
     points = _points(asked, shape)
-    radii: dict[str, int] = {}
-    unsized = []
-    sizes = cache(partial(_sizes, asked, points))
-    for rim in drawing.geometry:
-        if isinstance(rim, (Circle, Arc)):
-            radius = _radius(asked, sizes, rim.name)
-            if radius is None:
-                unsized.append(rim.name)
-            if radius is None or radius <= 0:
-                radius = whole_near(drawing.drawn_radius_um(rim.name) * NM_PER_UM)
-            radii[rim.name] = radius
-    return Settled(Solution(points, radii), tuple(unsized))
+    radii = _radii(drawing, asked, cache(partial(_sizes, asked, points)))
+    drawn = {name: whole_near(drawing.drawn_radius_um(name) * NM_PER_UM) for name in radii}
+    found = {name: radius or drawn[name] for name, radius in radii.items()}
+    unsized = (name for name, radius in radii.items() if radius is None)
+    return Settled(Solution(points, found), tuple(unsized))
 
 
 def solution_of(drawing: Drawing, asked: Trial, shape: Shape) -> Solution:
@@ -65,12 +58,18 @@ def _sizes(asked: Trial, points: dict[PointRef, PointNm]) -> Sizes:
     return Sizes(facts, {**spots, ORIGIN_KNOT: (0, 0)})
 
 
-def _radius(asked: Trial, sizes: Callable[[], Sizes], name: str) -> int | None:
-    """A radius that is told; else, or where that is 0 or less since the centre lies across a line
-    that it touches, the one that the places tell; else None. sizes: what the places tell, which
+def _radii(drawing: Drawing, asked: Trial,
+           sizes: Callable[[], Sizes]) -> dict[str, int | None]:
+    """Each rim's radius: the one that is told; None where nothing tells it, 0 where it would be 0 or
+    less. Where one is told to be that, since its centre lies across a line that it touches, others
+    may rest on it: then each has the one that the places tell. sizes: what the places tell, which
     few drawings need."""
-    told = asked.rails.size(RadiusOf(name))
-    if told is not None and told > 0:
-        return whole_near(told * NM_PER_UM)
-    placed = sizes().radius_nm(name)
-    return 0 if placed is None and told is not None else placed
+    told = {rim.name: asked.rails.size(RadiusOf(rim.name)) for rim in drawing.geometry
+            if isinstance(rim, (Circle, Arc))}
+    is_across = any(each is not None and each <= 0 for each in told.values())
+    found: dict[str, int | None] = {}
+    for name, size in told.items():
+        found[name] = sizes().radius_nm(name) if size is None or is_across else None
+        if found[name] is None and size is not None:
+            found[name] = max(0, whole_near(size * NM_PER_UM))
+    return found
