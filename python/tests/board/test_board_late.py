@@ -2,6 +2,7 @@
 that has given up, or not at all."""
 from __future__ import annotations
 
+import time
 from pathlib import Path
 
 import pytest
@@ -15,6 +16,8 @@ from selenium.webdriver.common.by import By
 from selenium.webdriver.common.keys import Keys
 
 CHANGED = "the drawing has changed: choose again"
+MOMENT_SECONDS = 0.3
+"""Once nothing has changed for so long, it is asked what completes a drawing."""
 MEASURED = """drawing 1
 segment A 0 0 40 0
 segment B 0 20 40 20
@@ -197,6 +200,33 @@ def test_what_is_proposed_of_a_drawing_isnt_added_to_another(page: Page) -> None
     wait_for("told", lambda: page.told("hint") == CHANGED)
     page.verdict("well")
     assert lines_of(page, "length PlateRight 79") == 1
+
+
+WEIGHED_LATE = """
+window.asked_ = [];
+const { fetch: before } = window;
+const moment = () => new Promise((done) => { setTimeout(done, 20); });
+window.fetch = async (path, options) => {
+  window.asked_.push(path);
+  const response = await before(path, options);
+  while (path === 'call/weigh' && !window.isHeld) await moment();
+  return response;
+};
+"""
+"""Keeps the names of all calls; what else is told of an answer comes once another call is held."""
+
+
+def test_what_completes_a_drawing_is_looked_for_once(page: Page) -> None:
+    """Though it is told meanwhile by which values the drawing is constructed."""
+    page.driver.execute_script(COUNTS + WEIGHED_LATE)
+    with page.held("complete"):
+        page.begin(CRANK, "open")
+        page.wait("it is looked for", "return window.isHeld")
+        page.wait("more is told", "return document.querySelector('#verdict .certified')")
+        time.sleep(2 * MOMENT_SECONDS)
+    page.wait("what completes it", "return document.querySelector('#proposals button')")
+    settle(page)
+    assert page.driver.execute_script("return window.asked_").count("call/complete") == 1
 
 
 def test_a_constraint_is_asked_for_once_by_a_double_click(page: Page) -> None:

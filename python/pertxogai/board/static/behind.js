@@ -17,6 +17,12 @@ export class Behind {
   timer = undefined;
   /** What is asked, one after the other, so that there is room for all else. */
   asked = Promise.resolve();
+  /**
+   * The texts that are asked about, or wait for that: meanwhile none of them is asked about again,
+   * as where more is told of an answer.
+   * @type {Set<string>}
+   */
+  texts = new Set();
 
   /**
    * `call` asks about a text; `told` hears the answer while that text stands.
@@ -37,9 +43,10 @@ export class Behind {
    */
   later(text) {
     clearTimeout(this.timer);
-    if (text === null) return;
-    const ask = () => this.ask(text);
+    if (text === null || this.texts.has(text)) return;
+    const ask = () => this.ask(text).finally(() => { this.texts.delete(text); });
     this.timer = window.setTimeout(() => {
+      this.texts.add(text);
       this.asked = this.asked.then(ask, ask);
     }, REST);
   }
