@@ -117,6 +117,21 @@ def test_zoom_buttons(page: Page) -> None:
         before, rel=0.01)
 
 
+POINTS = "point P 10 10\npoint Q 50 40\n"
+
+
+def test_fit_shows_points_alone_wherever_the_board_was(page: Page) -> None:
+    """The box of the origin and both points goes from 0 0 to 50 40."""
+    page.begin(POINTS, "open")
+    width, height = board_box(page)[2:4]
+    for key in "+-":
+        page.keys(key, key, key, "0")
+        page.settled()
+        (x, y), (u, v) = page.at("Origin"), page.at("Q")
+        assert ((x + u) / 2, (y + v) / 2) == pytest.approx((width / 2, height / 2), abs=1)
+        assert u - x > width / 2 or y - v > height / 2
+
+
 def test_arrows_go_through_a_toolbar(page: Page) -> None:
     def focused() -> str:
         return str(page.driver.execute_script("return document.activeElement.dataset.tool"))
@@ -259,3 +274,14 @@ def test_the_scale_that_is_offered_fits_what_is_dragged_away_too(page: Page,
     told = subprocess.run(["pdftotext", printed(page, tmp_path, None), "-"],
                           capture_output=True, text=True, check=True)
     assert {"1:2", "100"} <= set(told.stdout.split())
+
+
+def test_of_points_alone_there_is_no_sheet(page: Page) -> None:
+    page.begin(POINTS, "open")
+    page.driver.execute_script("window.print = () => { window.isPrinted = true; };")
+    page.click("#export summary")
+    page.click("#print")
+    field = page.wait("a scale", "return document.querySelector('#value[open] input')")
+    field.send_keys(Keys.ENTER)
+    wait_for("told", lambda: page.told("hint") == "Nothing is drawn that could be printed.")
+    assert not page.driver.execute_script("return window.isPrinted")

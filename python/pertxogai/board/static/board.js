@@ -568,10 +568,11 @@ export class Board {
     const corners = this.boxes().flatMap(([left, low, right, high]) => [
       this.plane.toPlane([left, low]), this.plane.toPlane([right, high])]);
     const { between: shown, drawn, free } = this.shown;
+    const { shapes, marks } = this.answer.drawing;
     const hidden = free ? {} : drawn.points;
-    const points = [...Object.values(shown.points), ...Object.values(hidden),
-      ...this.answer.drawing.marks.flatMap(toldPlaces)];
-    this.plane.fit(corners.length ? [...points, ...corners] : points.slice(1), this.size());
+    const places = [...Object.values(shown.points), ...Object.values(hidden),
+      ...marks.flatMap(toldPlaces), ...corners];
+    this.plane.fit(shapes.length ? places : [], this.size());
     this.draw();
   }
 
@@ -584,23 +585,17 @@ export class Board {
     if (this.boxes().some(isBeside)) this.fit();
   }
 
-  /**
-   * The box of all edges, in pixels: left, high, right, low; null where there is none.
-   * @returns {number[] | null}
-   */
+  /** The box of all edges, in pixels; null where there is none. */
   edgeBox() {
-    const { node } = this.layers.edges;
-    if (!node.childElementCount) return null;
-    const { x, y, width, height } = /** @type {SVGGElement} */ (node).getBBox();
-    return [x, y, x + width, y + height];
+    return boxOf(this.layers.edges);
   }
 
-  /** The boxes of all edges, and of the other shape, in pixels: left, low, right, high. */
+  /** The boxes of all edges, and of the other shape, in pixels. */
   boxes() {
-    const nodes = [this.layers.edges.node, this.layers.other.node];
-    return nodes.filter((node) => node.childElementCount).map((node) => {
-      const { x, y, width, height } = /** @type {SVGGElement} */ (node).getBBox();
-      return [x, y, x + width, y + height];
+    const { edges, other } = this.layers;
+    return [edges, other].flatMap((layer) => {
+      const box = boxOf(layer);
+      return box ? [box] : [];
     });
   }
 
@@ -619,6 +614,17 @@ export class Board {
     const { width, height } = this.node.getBoundingClientRect();
     return { width: Math.max(width, 50), height: Math.max(height, 50) };
   }
+}
+
+/**
+ * The box of what a layer shows, in pixels: left, high, right, low; null where that is nothing, as
+ * of points, which have no edges.
+ * @param {Layer} layer
+ * @returns {number[] | null}
+ */
+function boxOf({ node }) {
+  const { x, y, width, height } = /** @type {SVGGElement} */ (node).getBBox();
+  return width || height ? [x, y, x + width, y + height] : null;
 }
 
 /**
