@@ -132,6 +132,19 @@ def test_fit_shows_points_alone_wherever_the_board_was(page: Page) -> None:
         assert u - x > width / 2 or y - v > height / 2
 
 
+def test_the_hint_is_read_whole_in_a_narrow_window(page: Page, resized) -> None:
+    """The longest takes three lines; the zoom buttons lie above it."""
+    resized(390, 844)
+    page.keys("v")
+    page.settled()
+    told, cut, below = page.driver.execute_script(
+        "const hint = document.getElementById('hint'), zoom = document.getElementById('zoom');"
+        "return [hint.textContent, hint.scrollHeight - hint.clientHeight,"
+        "  zoom.getBoundingClientRect().bottom - hint.getBoundingClientRect().top];")
+    assert told.startswith("Click selects") and told.endswith("the wheel zooms.")
+    assert cut <= 1 and below <= 0
+
+
 def test_arrows_go_through_a_toolbar(page: Page) -> None:
     def focused() -> str:
         return str(page.driver.execute_script("return document.activeElement.dataset.tool"))
