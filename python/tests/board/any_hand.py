@@ -42,6 +42,8 @@ DRAWN = (DRAWINGS / "plate-by-values.drawing", DRAWINGS / "open-four-bar.drawing
 GONE = (ElementNotInteractableException, ElementClickInterceptedException,
         StaleElementReferenceException)
 """What is told of a button that has gone, or lies under another, between the look and the click."""
+TURNED = "#pieces[aria-pressed=true]", "#checked [aria-expanded=true]"
+"""What shows a drawing otherwise by a click, and as at first by another."""
 PLACES = """
 const board = document.getElementById('board').getBoundingClientRect();
 return [...document.querySelectorAll(`#board ${arguments[0]}`)].map((each) => {
@@ -114,7 +116,8 @@ class Hand:
 
     def give_up(self) -> None:
         """Lets go of all, and selects nothing; the pointer and the focus lie where nothing is, the
-        panel is open at its text, and that can be read."""
+        panel is open at its text, and that can be read. What the hand has had shown otherwise is
+        shown as at first."""
         for _ in range(6):
             pressed(self.page, Keys.ESCAPE)
         self.page.hover(3, 3)
@@ -125,6 +128,9 @@ class Hand:
         while self.is_refused() and not self.page.count("#undo[aria-disabled=true]"):
             self._undo()
             settle(self.page)
+        for turned in TURNED:
+            if self.page.count(turned):
+                self.page.click(turned)
         self.page.driver.execute_script("document.activeElement.blur()")
 
     # Where it goes.

@@ -1,22 +1,27 @@
-"""The board in a real browser under a hand that does anything: no error in the console, no drawing
-that is lost, no answer that is stale. PERTXOGAI_SEEDS and PERTXOGAI_ACTIONS have it do more:
-`PERTXOGAI_SEEDS=10 PERTXOGAI_ACTIONS=300` takes some minutes a seed. PERTXOGAI_PATIENCE=5 has it
-wait five times as long, on a slow machine."""
+"""The board in a real browser under a hand that does anything: no error in the console or of the
+server, no drawing that is lost, no answer that is stale. PERTXOGAI_SEEDS and PERTXOGAI_ACTIONS have
+it do more: `PERTXOGAI_SEEDS=10 PERTXOGAI_ACTIONS=300 pytest -rP` takes some minutes a seed, and
+tells of each how much was compared, and what wasn't. PERTXOGAI_PATIENCE=5 has it wait five times as
+long, on a slow machine."""
 from __future__ import annotations
 
 import os
 import random
+from collections.abc import Iterator
+from dataclasses import dataclass, field, replace
 
 import pytest
 
-from all_shown import answered, counting, differences, settle, sight_of, stale_in
+from all_shown import (
+    Sight, counting, differences, errors, is_hurried, is_loaded, opened_by, sight_of)
 from any_hand import Hand
-from boards import DRAWINGS, Served
+from boards import DRAWINGS, Served, served
 from browsing import Page
 
 from pertxogai.program import Program
 
 pytest.importorskip("numpy", reason="copies are held by rank, by Debian's python3-numpy")
+pytest.importorskip("scipy", reason="shapes of what is open are found by Debian's python3-scipy")
 
 SEEDS = range(int(os.environ.get("PERTXOGAI_SEEDS", "1")))
 ACTIONS = int(os.environ.get("PERTXOGAI_ACTIONS", "40"))
@@ -29,34 +34,6 @@ LOOK = 100
 """After so many actions the hand gives all up, and what is shown is looked at."""
 MOST_STEPS = 500
 """So many texts are kept to be undone."""
-
-
-@pytest.mark.parametrize("seed", SEEDS)
-def test_a_hand_that_does_anything(page: Page, board: Served, program: Program, seed: int) -> None:
-    hand = Hand(page, random.Random(seed))
-    begun = BEGUN[seed % len(BEGUN)]
-    with counting(page):
-        if begun:
-            page.type(begun.read_text(encoding="utf-8"))
-            page.wait("a drawing", "return document.querySelector('.edges [data-name]')")
-            page.keys("0")
-            page.settled()
-        for number in range(1, ACTIONS + 1):
-            hand.act()
-            if number % LOOK == 0 or number == ACTIONS:
-                looked_at(page, program, hand, f"seed {seed}, action {number}")
-        kept(page, board, program, hand)
-
-
-def looked_at(page: Page, program: Program, hand: Hand, where: str) -> None:
-    """The hand gives all up: the page shows what its text is answered, and told of no error."""
-    hand.give_up()
-    text = settle(page)
-    last = f"{where}: {hand.done[-40:]}\n{text}"
-    assert page.faults() == [], last
-    assert stale_in(page, program, text) == [], last
-
-
 STEP = """
 const [button, done] = arguments, area = document.getElementById('text'), before = area.value;
 document.getElementById(button).click();
@@ -70,11 +47,91 @@ look();
 nothing more to be undone."""
 
 
-def kept(page: Page, board: Served, program: Program, hand: Hand) -> None:
-    """Undoes all, and does as much again: the hand may have undone its last changes itself, and
-    these stay undone. Then loads the page anew, with workers that know nothing. All is the same
-    each time."""
-    text, is_first = settle(page), page.count("#undo[aria-disabled=true]") > 0
+@dataclass
+class Watch:
+    """Looks at a page under a hand, and compares it with another board's. compared: how often; in
+    part: where something wasn't compared since the search was short of time, and what differed."""
+
+    hand: Hand
+    other: Served
+    compared: int = 0
+    in_part: list[str] = field(default_factory=list)
+
+    def look(self, where: str) -> Sight:
+        """The hand gives all up: the page shows what another board shows of the drawing that the
+        browser keeps, and neither of them was told of an error."""
+        page = self.hand.page
+        self.hand.give_up()
+        here = sight_of(page)
+        assert errors(page) == [], self._last(where, here)
+        with opened_by(page, self.other):
+            there = sight_of(page)
+            assert errors(page) == [], self._last(where, here)
+        self.compare(where, here, there)
+        return here
+
+    def compare(self, where: str, here: Sight, there: Sight) -> None:
+        """Two sights are alike; where the search was short of time, but for what hangs on it."""
+        self.compared += 1
+        found = differences(here, there)
+        if found and is_hurried(here):
+            self.in_part.append("\n".join([where, *found]))
+            found = differences(here.without_search(), there.without_search())
+        assert found == [], self._last(where, here)
+
+    def _last(self, where: str, sight: Sight) -> str:
+        return f"{where}: {self.hand.done[-40:]}\n{sight.text}"
+
+    def told(self) -> str:
+        """How much was compared."""
+        return "\n".join([
+            f"{len(self.hand.done)} acts; {self.compared} sights compared, {len(self.in_part)} of "
+            "them without what a search short of time had found", *self.in_part])
+
+
+@pytest.fixture
+def other(program: Program) -> Iterator[Served]:
+    """Another board, that knows nothing of what is asked of the first."""
+    with served(program) as found:
+        yield found
+
+
+@pytest.mark.parametrize("seed", SEEDS)
+def test_a_hand_that_does_anything(page: Page, board: Served, other: Served, seed: int) -> None:
+    hand = Hand(page, random.Random(seed))
+    watch, begun = Watch(hand, other), BEGUN[seed % len(BEGUN)]
+    with counting(page):
+        if begun:
+            page.type(begun.read_text(encoding="utf-8"))
+            page.wait("a drawing", "return document.querySelector('.edges [data-name]')")
+            page.keys("0")
+            page.settled()
+        for number in range(1, ACTIONS + 1):
+            hand.act()
+            if number % LOOK == 0 and number < ACTIONS:
+                watch.look(f"action {number}")
+        kept(watch, board)
+    print(f"seed {seed}: {watch.told()}")
+
+
+def kept(watch: Watch, board: Served) -> None:
+    """Undoes all, and does as much again; then loads the page anew, with workers that know nothing.
+    All is the same each time."""
+    page, seen = watch.hand.page, watch.look("the last action")
+    undone_and_redone(page, watch.hand, seen.text)
+    watch.compare("undone and redone", seen, sight_of(page))
+    assert errors(page) == []
+    board.workers.stop()
+    page.driver.refresh()
+    is_loaded(page)
+    watch.compare("loaded anew", seen, sight_of(page))
+    assert errors(page) == []
+
+
+def undone_and_redone(page: Page, hand: Hand, text: str) -> None:
+    """Undoes all, to the text with which the drawing was begun, and does as much again: the hand
+    may have undone its last changes itself, and these stay undone."""
+    is_first = page.count("#undo[aria-disabled=true]") > 0
     page.driver.execute_script("document.getElementById('text').focus()")  # It is written at once.
     texts = [text]
     while not is_first:
@@ -84,11 +141,48 @@ def kept(page: Page, board: Served, program: Program, hand: Hand) -> None:
     assert texts[-1] == hand.first or len(texts) == MOST_STEPS, hand.done
     for before in reversed(texts[:-1]):
         assert page.driver.execute_async_script(STEP, "redo")[0] == before, hand.done
-    before = sight_of(page)
-    board.workers.stop()
-    page.driver.refresh()
-    page.wait("the page", "return document.getElementById('verdict').dataset.verdict")
-    after, (_, is_hurried) = sight_of(page), answered(program, text)
-    found = [] if is_hurried and after.text == text else differences(before, after)
-    assert not found, "\n".join([*found, f"{hand.done[-40:]}", text])
-    assert page.faults() == []
+
+
+# What two sights don't have alike.
+
+SEEN = Sight(
+    "drawing 1\nsegment A 0 0 40 0\nlength A 40\n",
+    points={"Origin": [100, 300], "A.start": [100, 300], "A.end": [260, 300]},
+    paths={"A": [[100, 300], [148, 300], [196, 300], [260, 300]]}, edges={"A": ["shape", "red"]},
+    marks=[[1, "40", "markgroup", None]], signs={"moves": 1},
+    panel={"verdict": ["open", "3 degrees of freedom"], "asked": ["1 length A 40"]})
+
+
+def test_a_sight_at_another_place_and_scale_is_the_same() -> None:
+    def shown(place: list[float]) -> list[float]:
+        return [2 * place[0] + 7, 2 * place[1] - 30]
+    there = replace(SEEN, points={name: shown(place) for name, place in SEEN.points.items()},
+                    paths={name: list(map(shown, places)) for name, places in SEEN.paths.items()})
+    assert differences(SEEN, there) == []
+
+
+@pytest.mark.parametrize("what, there", [
+    ("text", replace(SEEN, text="")),
+    ("edges", replace(SEEN, edges={"A": ["shape free", "red"]})),
+    ("edges", replace(SEEN, edges={"A": ["shape", "blue"]})),
+    ("signs", replace(SEEN, signs={"moves": 0})),
+    ("marks", replace(SEEN, marks=[[1, "41", "markgroup", None]])),
+    ("asked", replace(SEEN, panel={**SEEN.panel, "asked": []})),
+    ("A.end", replace(SEEN, points={**SEEN.points, "A.end": [260, 301]})),
+    ("edge A", replace(SEEN, paths={"A": [[100, 300], [148, 301], [196, 301], [260, 300]]})),
+])
+def test_what_is_shown_otherwise_is_told(what: str, there: Sight) -> None:
+    (found,) = differences(SEEN, there)
+    assert found.startswith(f"{what}: ")
+
+
+def test_what_a_search_finds_is_left_out_and_nothing_else() -> None:
+    there = replace(SEEN, edges={"A": ["shape free", "blue"]}, signs={"moves": 2},
+                    points={**SEEN.points, "A.end": [100, 140]},
+                    panel={**SEEN.panel, "verdict": ["open", "2 degrees of freedom"]})
+    assert differences(SEEN.without_search(), there.without_search()) == []
+    for other in (replace(SEEN, text=""), replace(SEEN, edges={}),
+                  replace(SEEN, marks=[[1, "41", "markgroup", None]]),
+                  replace(SEEN, panel={**SEEN.panel, "asked": []}),
+                  replace(SEEN, panel={**SEEN.panel, "verdict": ["well"]})):
+        assert len(differences(SEEN.without_search(), other.without_search())) == 1
