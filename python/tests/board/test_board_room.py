@@ -117,6 +117,28 @@ def test_zoom_buttons(page: Page) -> None:
         before, rel=0.01)
 
 
+HALVES = """arc A 62 40 52.096 36.699 71.904 43.301
+arc B 61 43 70.904 46.301 51.096 39.699
+arc C 0 46 -4.868 63.038 4.868 28.962
+arc D 84 70 88.868 52.962 79.132 87.038
+"""
+"""Arcs of just half a circle, whose ends lie opposite each other."""
+
+
+def test_half_a_circle_is_no_more_than_half_at_every_zoom(page: Page) -> None:
+    """SVG calls an arc large that is more than half a circle."""
+    page.begin(HALVES, "open")
+    large = []
+    for key in "+++++-------":
+        page.keys(key)
+        page.settled()
+        paths = page.driver.execute_script(
+            "return [...document.querySelectorAll('#board .edges .shape')].map("
+            "  (each) => each.getAttribute('d'));")
+        large += [re.findall(r"A\S+ \S+ 0 ([01]) 0 ", path) for path in paths]
+    assert large == [["0"]] * 48
+
+
 POINTS = "point P 10 10\npoint Q 50 40\n"
 
 

@@ -8,6 +8,9 @@
 /** @typedef {import('./protocol').Shape} Shape */
 /** @typedef {import('./view.js').View} View */
 
+/** Radians by which an arc of half a circle may be more in pixels, which are rounded. */
+const HALF_WITHIN = 1e-9;
+
 /**
  * The path of a shape in pixels; null for a point.
  * @param {Shape} shape
@@ -130,7 +133,7 @@ export function ring([x, y], r) {
  * @param {number} [radius]
  */
 export function bow(centre, start, end, radius) {
-  const isLarge = swept(centre, start, end) > Math.PI;
+  const isLarge = swept(centre, start, end) > Math.PI + HALF_WITHIN;
   const r = radius || apart(centre, start);
   return `M${start[0]} ${start[1]}A${r} ${r} 0 ${isLarge ? 1 : 0} 0 ${end[0]} ${end[1]}`;
 }
