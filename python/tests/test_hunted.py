@@ -79,3 +79,20 @@ def test_a_hole_between_two_sides_has_no_height(program: Program) -> None:
     gone = {each.name: each for each in found.surplus}
     for name in ("Width", "Left", "Right"):
         assert gone[name].then is Then.OPEN and gone[name].off.amount == 5_000_000
+
+
+def test_a_point_is_further_from_the_far_side_of_a_slot_by_its_width(
+        program: Program) -> None:
+    """The slot is 10.9 wide, P2 lies beside it, 15.9 from the near side and 23.1 from the other: 7.2
+    more. Without any one of the four that say so nothing is too much. The symmetry, which holds P3,
+    has no words in the sketch language, so that the program calls the rest just enough."""
+    found = judge(read_drawing(
+        "point P1 8.2 37\npoint P2 14.8 32.6\npoint P3 21.6 28.2\n"
+        "segment S4 76.1 -0.4 107.6 -5.2\narc A5 108.5 0 S4.end 109.4 5.5\n"
+        "segment S6 A5.end 77.8 10.4\narc A7 77 5.1 S6.end S4.start\n"
+        "symmetric P1 P3 about P2\ntangent S4 A5\ntangent A5 S6\ntangent S6 A7\ntangent A7 S4\n"
+        "Same: equal A5 A7\nNear: distance P2 S6 15.9\ndistance P1 P2 8\n"
+        "distance P3 A5.centre 91.4\nWide: diameter A5 10.9\nangle S6 +171.1deg\nlength S6 32\n"
+        "Far: distance P2 S4 23.1\ndistance P1 S4.end 108.1\n"), program)
+    assert found.verdict is Verdict.OVER
+    assert {"Same", "Near", "Wide", "Far"} <= {each.name for each in found.surplus}

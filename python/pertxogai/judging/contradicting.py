@@ -3,11 +3,12 @@ rest, and is told to the program as that."""
 from __future__ import annotations
 
 from collections.abc import Iterator
+from dataclasses import replace
 from fractions import Fraction
 
 from pertxogai.drawing import Drawing
 from pertxogai.drawing.places import NM_PER_UM
-from pertxogai.judging.freedoms import freedoms
+from pertxogai.judging.freedoms import Freedoms, freedoms
 from pertxogai.judging.from_parts import distance, forms_of_parts
 from pertxogai.judging.measure.limit import Limit
 from pertxogai.judging.printed import PrintedPlaces
@@ -43,16 +44,24 @@ def contradictions(rails: Rails, spelled: Spelled, report: PartsReport,
 def too_many(drawing: Drawing, spelled: Spelled) -> Iterator[Contradiction]:
     """Each constraint, and each arc of which the ends couldn't be spelled, though the rest is just
     enough, and one is too many of those by rank: nothing tells how far it is off. An arc's ends may
-    stand for another that is too many, since they tell its radius. Else it may say where the whole
-    lies, as a mirror in an axis that nothing else is told from."""
+    stand for another that is too many, since they tell its radius; so does what holds a shape in
+    itself. Else it may say where the whole lies, as a mirror in an axis that nothing else is told
+    from."""
     said = spelled.left_out.union(*spelled.owners)
     free = freedoms(drawing)
     if free is None or not free.excess:
         return
     among = free.among()
     for owner in sorted(spelled.left_out):
-        if owner.number and (owner.shape or owner in among):
+        if owner.number and (owner.shape or owner in among or _holds(drawing, owner.number, free)):
             yield Contradiction(None, frozenset({owner}), said - {owner})
+
+
+def _holds(drawing: Drawing, number: int, free: Freedoms) -> bool:
+    """Whether without a constraint more of a drawing moves in itself, and not only the whole."""
+    constraints = drawing.constraints[:number - 1] + drawing.constraints[number:]
+    rest = freedoms(replace(drawing, constraints=constraints))
+    return rest is not None and rest.lacks > free.lacks
 
 
 def _middles(rails: Rails, spelled: Spelled,
