@@ -23,6 +23,7 @@ from pertxogai.judging.judged_drawing import JudgedDrawing
 from pertxogai.judging.shortage import shortage_of
 from pertxogai.output import drawing_json, drawing_lines
 from pertxogai.program.reports import Verdict, read_excess
+from pertxogai.search import search
 from pertxogai.spelling import Rails, Style, axes_of
 from pertxogai.spelling.facts import RadiusOf
 from pertxogai.spelling.linear import Form
@@ -962,6 +963,21 @@ def test_constraints_that_each_say_more_than_the_others_do_are_not_called_too_ma
         "midpoint M Flat\ncoincident M Round.centre\n"), program)
     assert found.verdict is Verdict.WELL and found.too_many == () and found.repeats == ()
     assert found.whole.text() == "moved and turned"
+
+
+def test_nothing_is_redundant_since_it_holds_of_an_edge_without_a_length(program):
+    """S3 runs from the origin to -12, -5, at atan 5/12 = 22.62 degrees to the x axis and 67.38 to
+    S1, and 60 are told. Without Lean, or without Up, S1 is drawn to end where it begins, and a
+    direction of it holds since it has none."""
+    drawing = read_drawing(
+        "segment S1 0 0 0 10\nsegment S2 S1.end -12 5\nsegment S3 S2.end S1.start\n"
+        "coincident S1.start Origin\nUp: vertical S1\nequal S2 S3\nlength S2 13\n"
+        "Slope: angle XAxis S3 +5/12\nLean: angle S1 S3 60deg\n")
+    found = judge(drawing, program)
+    assert found.verdict is Verdict.OVER
+    assert {each.name for each in found.surplus} == {"Slope", "Up", "Lean"}
+    assert not any(each.repeats() for each in found.surplus)
+    assert search(drawing).repeats == ()
 
 
 def test_what_is_well_by_its_count_alone_is_over(program):

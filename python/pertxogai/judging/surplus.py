@@ -131,7 +131,7 @@ def what_may_go(question: Question, asked: Trial) -> tuple[Surplus, ...]:
         trials.try_all(numbers)
     untried = [number for number in numbers if number not in trials.found]
     found = [*trials.found.values(), *untried_surplus(drawing, untried)]
-    return tuple(sorted(_consistent(found, free.excess), key=_order))
+    return tuple(sorted(_consistent(found, free.excess, trials.idle), key=_order))
 
 
 def untried_surplus(drawing: Drawing, numbers: Iterable[int]) -> tuple[Surplus, ...]:
@@ -155,12 +155,15 @@ def _is_corner(drawing: Drawing, number: int) -> bool:
     return isinstance(joins, Coincident) and ORIGIN not in (joins.first, joins.second)
 
 
-def _consistent(found: Sequence[Surplus], excess: int) -> Iterator[Surplus]:
+def _consistent(found: Sequence[Surplus], excess: int,
+                idle: Collection[int]) -> Iterator[Surplus]:
     """What may go. Where one alone is too much and one repeats the rest, so do all: one that is
-    off by more is so on another shape of its rest, and that isn't told."""
+    off by more is so on another shape of its rest, and that isn't told; nor is what idle ones are
+    off, by their places."""
     repeats = excess == 1 and any(each.repeats() for each in found)
     for each in found:
-        yield replace(each, off=None, rounding=0) if repeats and each.repeats() is False else each
+        is_told = each.number not in idle and not (repeats and each.repeats() is False)
+        yield each if is_told else replace(each, off=None, rounding=0)
 
 
 def _order(each: Surplus) -> tuple[bool, int, int, int]:
@@ -216,12 +219,15 @@ class _Counted:
 
 class _Trials:
     """A drawing that is over, tried without some of its constraints: each rest once, as that of a
-    line that stands many times. found: what may go, by its place."""
+    line that stands many times. found: what may go, by its place. idle: the places of those that
+    hold where another of the rest is off, which says nothing, as of the direction of an edge that
+    has shrunk to nothing."""
 
     def __init__(self, question: Question, free: Freedoms) -> None:
         self.drawing, self.free, self.limit = question.drawing, free, question.limit
         self.program = _Counted(Remembering(question.program))
         self.found: dict[int, Surplus] = {}
+        self.idle: set[int] = set()
         self._known: dict[tuple[Constraint, ...], Trial] = {}
         self._fine: dict[tuple[Constraint, ...], Trial] = {}
         self._stay: frozenset[int] = frozenset()
@@ -279,23 +285,28 @@ class _Trials:
         off = None
         if asked.verdict is not Verdict.OVER and not is_freed:
             off = self._off(number, gone, asked)
-        beyond = self._beyond(number)
+        beyond = self._beyond(frozenset({number}))
         then = _then(self._without(frozenset({number}))) if beyond is None else Then.NOT_GOOD
-        return Surplus(number, self.drawing.called(number), off, then, self.limit, beside=others,
-                       beyond=beyond, lacks=asked.verdict is Verdict.OPEN
-                       and (is_freed or not self.free.lacks))
+        lacks = asked.verdict is Verdict.OPEN and (is_freed or not self.free.lacks)
+        return self._noted(Surplus(number, self.drawing.called(number), off, then, self.limit,
+                                   beside=others, beyond=beyond, lacks=lacks), gone)
 
-    def _beyond(self, gone: int) -> Deviation | None:
-        """What is off the most where the rest without a constraint is placed, by more than the
+    def _beyond(self, gone: frozenset[int]) -> Deviation | None:
+        """What is off the most where the rest without some constraints is placed, by more than the
         limit: by its place in the drawing. Raises _Enough."""
-        rest, alone = without(self.drawing, {gone}), frozenset({gone})
-        most = self._off_the_most(rest, self._without(alone))
-        if most is not None and self._without(alone).spelled.near:
+        rest = without(self.drawing, gone)
+        most = self._off_the_most(rest, self._without(gone))
+        if most is not None and self._without(gone).spelled.near:
             self._spend_on(rest)
-            most = self._off_the_most(rest, self._without_finely(alone))
+            most = self._off_the_most(rest, self._without_finely(gone))
         if most is None or most.number is None:
             return most
-        return replace(most, number=most.number + (most.number >= gone))
+        return replace(most, number=self._kept(gone)[most.number - 1])
+
+    def _kept(self, gone: frozenset[int]) -> list[int]:
+        """The places of the constraints of a rest in the drawing."""
+        return [number for number in range(1, len(self.drawing.constraints) + 1)
+                if number not in gone]
 
     def _off_the_most(self, rest: Drawing, asked: Trial) -> Deviation | None:
         """What of a rest is off the most where it is placed, by more than the limit."""
@@ -346,9 +357,15 @@ class _Trials:
         asked, off = self._measured_finely(tried.number, tried.off, gone)
         lines = self._rounded_lines(asked.spelled, gone)
         self._spend_on_rounding(2 * len(lines))
-        return replace(tried, off=off, rounding=moved_by_rounding(
-            asked.spelled, lines, off, lambda spelled: self._off(
-                tried.number, gone, told_by(asked, spelled, self.program))))
+        rounding = moved_by_rounding(asked.spelled, lines, off, lambda spelled: self._off(
+            tried.number, gone, told_by(asked, spelled, self.program)))
+        return self._noted(replace(tried, off=off, rounding=rounding), gone)
+
+    def _noted(self, tried: Surplus, gone: frozenset[int]) -> Surplus:
+        """The same, noted where it holds idly."""
+        if tried.repeats() and self._beyond(gone):
+            self.idle.add(tried.number)
+        return tried
 
     def _measured_finely(self, number: int, off: Deviation,
                          gone: frozenset[int]) -> tuple[Trial, Deviation]:
@@ -371,8 +388,7 @@ class _Trials:
     def _rounded_lines(self, spelled: Spelled, gone: frozenset[int]) -> list[int]:
         """The lines of a rest of which the value was rounded, and of whose words one by rank takes
         part in something that is too many; from 1."""
-        kept = [number for number in range(1, len(self.drawing.constraints) + 1)
-                if number not in gone]
+        kept = self._kept(gone)
         among = {each if each.shape else Owner(kept.index(each.number) + 1)
                  for each in self.free.among() if each.shape or each.number not in gone}
         return [line for line in rounded_lines(spelled)

@@ -122,20 +122,23 @@ class Searched:
     def _unsolved(self, limit: Limit) -> Finding:
         """What is found without places: the freedoms are those without the latest constraint of
         what is taken for a contradiction. Where the search has ended with an edge or a rim that has
-        shrunk to nothing, it is stuck, and nothing is told to contradict."""
+        shrunk to nothing, it is stuck, and nothing is told to repeat or to contradict."""
         free = self.freedom if self.equations.unknowns.count <= MOST_RANKED else None
         found = clashes(self.equations, self.found, free, limit.amount)
         latest = found.latest()
         rest = Searched(without(self.drawing, latest), REST_SECONDS) if latest else self
-        told = Finding(rest.freedom.count, rest.freedom.motions.of_the_whole, True,
-                       repeats=self._groups(found.repeats))
+        told = Finding(rest.freedom.count, rest.freedom.motions.of_the_whole, True)
         if has_shrunk(self.equations, self.found.x):
             return told
-        return replace(told, contradictions=tuple(map(self._names, found.contradictions)),
+        return replace(told, repeats=self._groups(found.repeats),
+                       contradictions=tuple(map(self._names, found.contradictions)),
                        in_doubt=tuple(map(self._names, found.in_doubt)))
 
     def _repeats(self) -> tuple[Group, ...]:
-        """What says what others do, the latest first."""
+        """What says what others do, the latest first; none where an edge or a rim has vanished, of
+        which anything holds."""
+        if self.has_vanished():
+            return ()
         return self._groups(each for each in self.freedom.dependencies
                             if each.repeats() and each.lasts)
 
