@@ -96,3 +96,21 @@ def test_a_point_is_further_from_the_far_side_of_a_slot_by_its_width(
         "Far: distance P2 S4 23.1\ndistance P1 S4.end 108.1\n"), program)
     assert found.verdict is Verdict.OVER
     assert {"Same", "Near", "Wide", "Far"} <= {each.name for each in found.surplus}
+
+
+UPRIGHTS = ("segment Short 0 1 0 22\nsegment Long 0 0 0 33\nvertical Short.start Long.end\n"
+            "on Short.end Long\nvertical Long.start Long.end\n")
+
+
+def test_an_edge_that_is_upright_by_another_says_nothing_twice(program: Program) -> None:
+    """Two edges have 8 freedoms, less 3; the whole moves along x and y, so 3 dimensions are
+    missing: three of the four heights are told by nothing else."""
+    found = judge(read_drawing(UPRIGHTS), program)
+    assert (found.verdict, found.missing.count, found.surplus) == (Verdict.OPEN, 3, ())
+    assert found.whole.text() == "moved"
+    whole = judge(read_drawing(UPRIGHTS + "circle Hole 9 8 3\ncoincident Long.start Origin\n"
+                               "y Short.start 5\nlength Short 20\nlength Long 30\ndiameter Hole 6\n"
+                               "distance Hole Short 9\ny Hole 8\n"), program)
+    assert whole.verdict is Verdict.WELL and not whole.left_out
+    for name, told in (("Short.end", (0, 25)), ("Long.end", (0, 30)), ("Hole.centre", (9, 8))):
+        assert whole.solution.spot(ref_of(name)) == tuple(mm * 1_000_000 for mm in told), name

@@ -170,7 +170,8 @@ class Axes:
     # -- frames
 
     def _merge_parallels(self) -> None:
-        """Makes two parallels that share a point one line, the first such in turn."""
+        """Makes two parallels that share a point one line, the first such in turn, but for what
+        follows by equations along an axis."""
         known: dict[tuple[Line, Line], bool] = {}
         while True:
             pair = next((pair for pair in self.lines.sharers()
@@ -184,8 +185,16 @@ class Axes:
         found = known.get(pair)
         if found is None:
             lean = self.directions.between(*pair)
-            found = known[pair] = lean is not None and lean.level()
+            found = known[pair] = (lean is not None and lean.level()
+                                   and not any(map(self._follows_along_an_axis, pair)))
         return found
+
+    def _follows_along_an_axis(self, line: Line) -> bool:
+        """Whether a line is parallel to an axis since two of its points are level, which may be by
+        what the other line says of its own: then each has to say that for itself."""
+        lean = self.directions.between(X_AXIS, line)
+        return (lean is not None and (lean.level() or lean.upright())
+                and line in map(self.lines.leader, self.facts.implied))
 
     def _make_frames(self) -> None:
         classes: dict[Line, list[Line]] = {}
