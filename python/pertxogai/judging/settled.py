@@ -60,10 +60,10 @@ def _sizes(asked: Trial, points: dict[PointRef, PointNm]) -> Sizes:
 
 def _radii(drawing: Drawing, asked: Trial,
            sizes: Callable[[], Sizes]) -> dict[str, int | None]:
-    """Each rim's radius: the one that is told; None where nothing tells it, 0 where it would be 0 or
-    less. Where one is told to be that, since its centre lies across a line that it touches, others
-    may rest on it: then each has the one that the places tell. sizes: what the places tell, which
-    few drawings need."""
+    """Each rim's radius: the one that is told; None where nothing tells it, 0 where it would be 0
+    or less. Where one is told to be that, since its centre lies across a line that it touches,
+    others may rest on it: then each has the one that the places tell. sizes: what the places tell,
+    which few drawings need."""
     told = {rim.name: asked.rails.size(RadiusOf(rim.name)) for rim in drawing.geometry
             if isinstance(rim, (Circle, Arc))}
     is_across = any(each is not None and each <= 0 for each in told.values())
