@@ -198,7 +198,7 @@ def test_construction_lines_that_would_lie_mirrored_end_a_range(program):
             "coincident AC.start Origin\ncoincident CB.end AB.end\nhorizontal AB\nlength AB 40\n"
             "x Hole 10\nHigh: y Hole 35\nx AC.end 20\ny Hole AC.end 20\n")
     # AC.end lies 20 below the hole, so it is on AB where High is 20, and mirrored below.
-    assert range_of(text, "High", program).low.at == Fraction("20.001")
+    assert range_of(text, "High", program).low.at == 20
 
 
 def test_a_hole_goes_on_over_the_chord_of_a_rounded_end(program):
