@@ -99,6 +99,10 @@ def least(holds: Callable[[int], bool]) -> int:
 
 def off(root: Root, wanted: Number) -> int:
     """The least whole number T with the root within T of the number that is wanted."""
+    if type(root.square) is int and root.below == 1 and root.sign > 0 and type(wanted) is int:
+        below = isqrt(root.square)
+        above = below if below * below == root.square else below + 1
+        return max(0, above - wanted, wanted - below)
     return least(lambda t: root.at_most(wanted + t) and root.at_least(wanted - t))
 
 

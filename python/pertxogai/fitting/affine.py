@@ -27,7 +27,7 @@ class Affine:
 
     def value(self, offs: Mapping[int, Fraction]) -> Fraction:
         """What it is with the dimensions of these numbers so far off, in micrometres."""
-        return Affines({0: self}).values(offs)[0]
+        return Affines({0: self}).values(offs)[0] if self.slopes else self.at
 
 
 class Affines(Generic[Key]):
