@@ -37,8 +37,8 @@ PART = 4
 """A dimension is sure where that makes the check better by no less than this part of what it does
 by itself."""
 NEXT = 2
-"""Once a case changed, what is tried from there is expected of this number of dimensions: it may
-change again."""
+"""Once a case changed, what is tried from there is expected of this number of dimensions at most:
+it may change again."""
 SAMPLES = 8
 """This number of corners is placed besides, taken at random: the same in each run."""
 SEED = 2768
@@ -228,12 +228,12 @@ class Corners:
         """A case from which it is no worse to put one of the unsure between its ends: within, and
         where by a parabola the check turns round."""
         for _ in range(MOST_ROUNDS):
-            first = offs
-            for number, place in enumerate(unsure):
+            first, ahead = offs, len(unsure)
+            for number in range(len(unsure)):
                 if number == 0 or offs is not first:
-                    self._expect_ends(offs, unsure[number:] if offs is first else
-                                      unsure[number:number + NEXT])
-                offs = self._best_within(offs, place, side)
+                    self._expect_ends(offs, unsure[number:number + ahead])
+                before, offs = offs, self._best_within(offs, unsure[number:number + 2], side)
+                ahead = NEXT if offs is before else 1
             if abs(self._at(offs) - self._at(first)) <= self._noise:
                 break
         return offs
@@ -242,11 +242,16 @@ class Corners:
         """Says that a case is asked for next with each of some dimensions at its ends."""
         self._placer.expect(case for place in places for case in self._at_ends(offs, place))
 
-    def _best_within(self, offs: Offs, place: int, side: int) -> Offs:
-        """The worst case of those in which one of the unsure lies otherwise."""
-        three = self._at_ends(offs, place)
+    def _best_within(self, offs: Offs, places: Sequence[int], side: int) -> Offs:
+        """The worst case of those in which the first of some unsure lies otherwise. Where a
+        parabola says where, that is mostly the worst, and the next one is tried from there."""
+        place, three = places[0], self._at_ends(offs, places[0])
         where = turning_at([(case[place], self._at(case)) for case in three], self._noise)
-        there = [] if where is None else self._around(offs.replaced({place: where}), place)
+        there = []
+        if where is not None:
+            turned = offs.replaced({place: where})
+            self._expect_ends(turned, places[1:])
+            there = self._around(turned, place)
         return max([offs, *three, *there], key=lambda case: side * self._at(case))
 
     def _at_ends(self, offs: Offs, place: int) -> list[Offs]:
