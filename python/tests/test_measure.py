@@ -337,3 +337,13 @@ def test_a_quotient_by_a_root_is_compared_exactly(below):
     assert [less.at_most(each) for each in limits] == [False] + [True] * 6
     assert [less.at_least(each) for each in limits] == [True] * 2 + [False] * 5
     assert [off(more, wanted) for wanted in (0, 1, 2, 7)] == [2, 1, 1, 6]
+
+
+def test_the_root_of_a_whole_number_is_compared_exactly():
+    """The root of 10 is 3.16, that of 16 is 4."""
+    assert [off(Root(1, 10), wanted) for wanted in (-1, 0, 3, 4, 9)] == [5, 4, 1, 1, 6]
+    assert [off(Root(1, 16), wanted) for wanted in (-4, 0, 3, 4, 5)] == [8, 4, 1, 0, 1]
+    assert [off(Root(1, square), 0) for square in (0, 1, 2)] == [0, 1, 2]
+    for square in (10, 16, 10 ** 24 - 1, 10 ** 24, 10 ** 24 + 1):
+        for wanted in (-1, 3, 4, 10 ** 12):
+            assert off(Root(1, square), wanted) == off(Root(1, Fraction(square)), wanted)

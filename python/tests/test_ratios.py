@@ -100,3 +100,17 @@ def test_halves_are_those_of_fractions() -> None:
     for lean in leans:
         if not lean.exact():
             assert lean.halves() == halves_by_fractions(lean)
+
+
+def test_a_lean_less_another_and_one_that_is_turned() -> None:
+    # 30 less 135 degrees are -105, which up to half turns are 75.
+    leans = [Lean(), Lean.of(Degrees(Fraction(30))), Lean.of(Degrees(Fraction(135))),
+             Lean.of(Degrees(Fraction(90))), Lean.of(Slope(3, 4, False)),
+             Lean.of(Degrees(Fraction(50))) + Lean.of(Slope(3, 4, False))]
+    assert leans[1] - leans[2] == Lean.of(Degrees(Fraction(75)))
+    assert leans[2] - leans[1] == Lean.of(Degrees(Fraction(105)))
+    for first in leans:
+        for second in leans:
+            assert first - second == -second + first and first - second + second == first
+        for degrees in (Fraction(0), Fraction(7, 2), Fraction(-40), Fraction(180)):
+            assert first.turned(degrees) == first + Lean.of(Degrees(degrees))
