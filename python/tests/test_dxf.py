@@ -3,15 +3,18 @@ from __future__ import annotations
 
 import builtins
 import io
+from pathlib import Path
 
 import ezdxf
 import pytest
 
+from pertxogai.commands import main
 from pertxogai.drawing import read_drawing
 from pertxogai.exits import MissingLibrary
 from pertxogai.output.dxf import dxf_text, marks_of
 from pertxogai.output.picture import Bow, Dot, Ink, Manner, Ring, Stroke, scene_of_designed
 from pertxogai.output.release import Release
+from pertxogai.program import Program
 from pertxogai.program.reports import CircleEntity, LineEntity, PointEntity
 
 MARKS = (
@@ -46,6 +49,41 @@ def test_a_designers_segments_and_arcs() -> None:
     assert (arc.dxf.radius, arc.dxf.start_angle, arc.dxf.end_angle) == (10, 270, 0)
     assert tuple(arc.start_point)[:2] == pytest.approx((60, 0))
     assert tuple(arc.end_point)[:2] == pytest.approx((70, 10))
+
+
+CORNERS = """point A 0 0
+point B 40 0
+point Middle 20 10
+point Apart 20 20
+point Top 1 30
+segment Bottom A B
+circle Hole Middle 5
+construction segment Axis Middle Apart
+segment Left 0 31 A
+coincident A Origin
+horizontal Bottom
+length Bottom 40
+vertical Left
+length Left 30
+coincident Top Left.start
+x Middle 20
+y Middle 10
+diameter Hole 10
+x Apart 20
+y Apart 25
+"""
+"""Only Apart is a point that no edge of the part shows: a construction line alone ends in it."""
+
+
+def test_a_point_in_which_an_edge_ends_or_that_is_a_centre_is_not_drawn_again(
+        program: Program, tmp_path: Path) -> None:
+    path, out = tmp_path / "corners.drawing", tmp_path / "corners.dxf"
+    path.write_text(CORNERS)
+    assert main(["draw", str(path), "-o", str(out), "--program", program.path]) == 0
+    drawn = list(ezdxf.readfile(out).modelspace())
+    assert sorted(each.dxftype() for each in drawn) == ["CIRCLE", "LINE", "LINE", "LINE", "POINT"]
+    (point,) = (each for each in drawn if each.dxftype() == "POINT")
+    assert tuple(point.dxf.location)[:2] == (20, 25) and point.dxf.layer == "EDGES"
 
 
 def test_units_are_millimetres() -> None:

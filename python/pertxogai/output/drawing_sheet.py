@@ -10,7 +10,7 @@ from pertxogai.judging.good import GoodJudgement, good_of
 from pertxogai.judging.judged_drawing import CountedDrawing
 from pertxogai.judging.parts import parts_of_shapes
 from pertxogai.output.drawing_text import drawing_lines
-from pertxogai.output.dxf import dxf_text
+from pertxogai.output.dxf import dxf_text, without_corners
 from pertxogai.output.picture.drawings import Marking, scene_of_designed
 from pertxogai.output.picture.marks import Ink, Scene
 from pertxogai.output.picture.svg import Picture, picture_of
@@ -45,13 +45,14 @@ class DrawingSheet:
         return picture_of(self._scene())
 
     def dxf(self, release: Release) -> str:
-        """The shapes as placed if it is good, or as drawn if that was asked for. Raises NoPlaces,
-        and MissingLibrary without ezdxf."""
+        """The shapes as placed if it is good, or as drawn if that was asked for; without the points
+        in which an edge ends, or that are its centre. Raises NoPlaces, and MissingLibrary without
+        ezdxf."""
         found = good_of(self.judged)
         if not self.as_drawn and not isinstance(found, GoodJudgement):
             raise NoPlaces(f"{self.judged.name}: no DXF is written of what isn't good: {found}",
                            as_drawn=True)
-        return dxf_text(self._scene().marks, release)
+        return dxf_text(without_corners(self._scene().marks), release)
 
     def is_good(self) -> bool:
         """Whether it is good, and so drawn as placed; or drawn as drawn because that was asked

@@ -40,6 +40,23 @@ def dxf_text(marks: Iterable[Mark], release: Release = Release.R2010) -> str:
     return text.getvalue()
 
 
+def without_corners(marks: Iterable[Mark]) -> tuple[Mark, ...]:
+    """The marks without the points that an edge of the part shows already: where it ends, or its
+    centre. A machine may take a point for a place to drill."""
+    all_marks = tuple(marks)
+    shown = {place for mark in all_marks if mark.ink.manner is not Manner.CONSTRUCTION
+             for place in _corners(mark)}
+    return tuple(mark for mark in all_marks if not (isinstance(mark, Dot) and mark.at in shown))
+
+
+def _corners(mark: Mark) -> Iterator[PointMm]:
+    """The ends and the centre of an edge."""
+    if isinstance(mark, (Stroke, Bow)):
+        yield from (mark.start, mark.end)
+    if isinstance(mark, (Ring, Bow)):
+        yield mark.centre
+
+
 def marks_of(entities: Iterable[Entity]) -> tuple[Mark, ...]:
     """The entities of the program's own `dxf` as marks in millimetres: its points, circles, and
     lines with ends."""
