@@ -7,6 +7,7 @@ import time
 from collections.abc import Iterator
 from contextlib import contextmanager
 from dataclasses import dataclass, replace
+from itertools import chain
 
 from boards import PATIENCE, Served
 from browsing import Page
@@ -24,6 +25,8 @@ MOST_ASIDE = 0.001
 """A place is shown where it was within this share of the farthest: about half a pixel."""
 KEPT = "pertxogai.drawing"
 """What the browser calls the drawing that it keeps."""
+STOPPED = "the call took over"
+"""What a page says of that for which there was no time."""
 FAULTY = ("fault", "memory", "stopped", "program", "request", "guard", "lost")
 """The kinds of trouble that no hand makes: a fault of the board, memory that ran out, a worker that
 ended or was stopped, a program that didn't answer, a request that isn't the page's, no response."""
@@ -114,10 +117,10 @@ class Sight:
         """The verdict in a word or two; empty where none is shown."""
         return self.panel["verdict"][0] if self.panel["verdict"] else ""
 
-    def without_search(self) -> Sight:
-        """What doesn't hang on the shape that a search finds."""
-        found = "proposed", "checks"
-        told = {part: [] if part in found else lines for part, lines in self.panel.items()}
+    def untimed(self) -> Sight:
+        """What is shown however much time there was to find a shape, or what is too many."""
+        timed = "proposed", "checks", "asked"
+        told = {part: [] if part in timed else lines for part, lines in self.panel.items()}
         return replace(
             self, paths={}, points={name: [0.0, 0.0] for name in self.points}, signs={},
             edges=dict.fromkeys(self.edges, []), panel={**told, "verdict": [self.verdict]},
@@ -193,6 +196,14 @@ def sight_of(page: Page) -> Sight:
     page.click("#tab-text")
     page.settled()
     return Sight(text=text, panel=panel, **page.driver.execute_script(BOARD))
+
+
+def shortage(here: Sight, there: Sight) -> str:
+    """For want of what time two sights of a drawing may differ; empty where there was enough."""
+    told = chain.from_iterable([*here.panel.values(), *there.panel.values()])
+    if any(STOPPED in line for line in told):
+        return "a call was stopped"
+    return "the search took over half of its time" if is_hurried(here) else ""
 
 
 def is_hurried(sight: Sight) -> bool:

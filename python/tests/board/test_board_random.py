@@ -13,7 +13,7 @@ from dataclasses import dataclass, field, replace
 import pytest
 
 from all_shown import (
-    Sight, counting, differences, errors, is_hurried, is_loaded, opened_by, sight_of)
+    Sight, counting, differences, errors, is_loaded, opened_by, shortage, sight_of)
 from any_hand import Hand
 from boards import DRAWINGS, Served, served
 from browsing import Page
@@ -49,8 +49,8 @@ nothing more to be undone."""
 
 @dataclass
 class Watch:
-    """Looks at a page under a hand, and compares it with another board's. compared: how often; in
-    part: where something wasn't compared since the search was short of time, and what differed."""
+    """Looks at a page under a hand, and compares it with another board's. compared: how often;
+    in_part: where two sights were compared in part, for want of what time, and what differed."""
 
     hand: Hand
     other: Served
@@ -71,22 +71,22 @@ class Watch:
         return here
 
     def compare(self, where: str, here: Sight, there: Sight) -> None:
-        """Two sights are alike; where the search was short of time, but for what hangs on it."""
+        """Two sights are alike; where they aren't and time was short, in what doesn't hang on
+        that."""
         self.compared += 1
         found = differences(here, there)
-        if found and is_hurried(here):
-            self.in_part.append("\n".join([where, *found]))
-            found = differences(here.without_search(), there.without_search())
-        assert found == [], self._last(where, here)
+        if found and (why := shortage(here, there)):
+            self.in_part.append("\n".join([f"{where}: {why}", *found]))
+            found = differences(here.untimed(), there.untimed())
+        assert not found, "\n".join([*found, self._last(where, here)])
 
     def _last(self, where: str, sight: Sight) -> str:
         return f"{where}: {self.hand.done[-40:]}\n{sight.text}"
 
     def told(self) -> str:
         """How much was compared."""
-        return "\n".join([
-            f"{len(self.hand.done)} acts; {self.compared} sights compared, {len(self.in_part)} of "
-            "them without what a search short of time had found", *self.in_part])
+        return "\n".join([f"{len(self.hand.done)} acts, {self.compared} comparisons, "
+                          f"{len(self.in_part)} of them in part", *self.in_part])
 
 
 @pytest.fixture
@@ -176,13 +176,15 @@ def test_what_is_shown_otherwise_is_told(what: str, there: Sight) -> None:
     assert found.startswith(f"{what}: ")
 
 
-def test_what_a_search_finds_is_left_out_and_nothing_else() -> None:
+def test_what_takes_time_is_left_out_where_that_was_short() -> None:
     there = replace(SEEN, edges={"A": ["shape free", "blue"]}, signs={"moves": 2},
                     points={**SEEN.points, "A.end": [100, 140]},
-                    panel={**SEEN.panel, "verdict": ["open", "2 degrees of freedom"]})
-    assert differences(SEEN.without_search(), there.without_search()) == []
+                    panel={"asked": ["1 length A 40: redundant"],
+                           "verdict": ["open", "the call took over 60 s and was stopped"]})
+    assert shortage(SEEN, there) == shortage(there, SEEN) == "a call was stopped"
+    assert differences(SEEN.untimed(), there.untimed()) == []
     for other in (replace(SEEN, text=""), replace(SEEN, edges={}),
                   replace(SEEN, marks=[[1, "41", "markgroup", None]]),
-                  replace(SEEN, panel={**SEEN.panel, "asked": []}),
                   replace(SEEN, panel={**SEEN.panel, "verdict": ["well"]})):
-        assert len(differences(SEEN.without_search(), other.without_search())) == 1
+        assert len(differences(SEEN.untimed(), other.untimed())) == 1
+    assert shortage(SEEN, SEEN) == ""  # A segment of the length that is asked for.
