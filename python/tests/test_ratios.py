@@ -102,6 +102,28 @@ def test_halves_are_those_of_fractions() -> None:
             assert lean.halves() == halves_by_fractions(lean)
 
 
+def first_halves(lean: Lean, within: float) -> tuple[Lean, Lean] | None:
+    """The first two leans by ratios of which the sum is this within so many radians."""
+    goal = lean.radians()
+    for p, q in ((p, q) for q in range(1, 40) for p in range(-q, q + 1) if p and gcd(p, q) == 1):
+        first = Lean.of(Slope(p, q, False))
+        tangent = tan(goal - first.radians())
+        if 0.01 <= abs(tangent) <= 100:
+            rest = Lean.of(Slope(*by_fractions(Fraction(tangent), 1), False))
+            if abs(sin(goal - first.radians() - rest.radians())) <= within:
+                return first, rest
+    return None
+
+
+@pytest.mark.parametrize("within", [4e-10, 1e-11, 1e-12])
+def test_the_first_halves_that_come_near_are_those_of_fractions(within: float) -> None:
+    chance = random.Random(5)
+    for _ in range(40):
+        lean = Lean.of(Degrees(Fraction(chance.randint(1, 1_799_999), 10_000)))
+        if not lean.exact():
+            assert lean.halves(within) == (first_halves(lean, within) or lean.halves())
+
+
 def test_a_lean_less_another_and_one_that_is_turned() -> None:
     # 30 less 135 degrees are -105, which up to half turns are 75.
     leans = [Lean(), Lean.of(Degrees(Fraction(30))), Lean.of(Degrees(Fraction(135))),

@@ -10,6 +10,12 @@ from pertxogai.drawing import Degrees, Slope, Turn
 from pertxogai.language import nearest_ratio
 
 MOST_RATIO = 10_000
+MOST_WITHIN = 1e-9
+"""In radians: a ratio that comes so near is surely a convergent, with room for rounding."""
+SURELY = 1.001
+"""This number of times as far is looked, so that none is passed over by rounding."""
+TINY = 1e-15
+"""The least rest of a continued fraction: less is rounding."""
 
 
 @dataclass(frozen=True)
@@ -98,13 +104,13 @@ class Lean:
         return turn * pi / 180 + atan2(self.left, self.ahead)
 
 
-@lru_cache(maxsize=1024)
+@lru_cache(maxsize=8192)
 def _halves(lean: Lean, within: float) -> tuple[Lean, Lean]:
     """The two ratios that come nearest, of those of which the first is small, or the first two that
     come so near."""
     goal, least = lean.radians(), inf
-    best: tuple[Lean, tuple[int, int]] | None = None
-    for first, turn in _small_leans():
+    best = _first_within(goal, within) if 0 < within <= MOST_WITHIN else None
+    for first, turn in _small_leans() if best is None else ():
         near = _near_rest(goal - turn)
         off = inf if near is None else abs(sin(goal - turn - _turn_of(*near)))
         if near is not None and off < least:
@@ -114,6 +120,38 @@ def _halves(lean: Lean, within: float) -> tuple[Lean, Lean]:
     assert best is not None
     first, (p, q) = best
     return first, _make(Fraction(0), q, p)
+
+
+def _first_within(goal: float, within: float) -> tuple[Lean, tuple[int, int]] | None:
+    """The first small lean, with the ratio of the rest, that come so near; None where none do. Most
+    are passed over by a look at the rest alone."""
+    for first, turn in _small_leans():
+        if _may_have_ratio(goal - turn, within):
+            near = _near_rest(goal - turn)
+            if near is not None and abs(sin(goal - turn - _turn_of(*near))) <= within:
+                return first, near
+    return None
+
+
+def _may_have_ratio(turn: float, within: float) -> bool:
+    """Whether a ratio may be so near to a turn. What is nearer to a number than half of one by the
+    square of its denominator is a convergent of the number's continued fraction; and of those that
+    the language holds the last alone is so near, as one is no nearer than one by its denominator
+    and the sum of that and the next."""
+    tangent = abs(tan(turn))
+    if not 0.01 <= tangent <= 100:
+        return False
+    number = rest = min(tangent, 1 / tangent)
+    before, below = 0, 1
+    while True:
+        rest = 1 / rest
+        part = int(rest)
+        following = part * below + before
+        if following > MOST_RATIO:
+            break
+        before, below, rest = below, following, rest - part or TINY
+    above = number * below
+    return abs(above - int(above + 0.5)) <= SURELY * within * (1 + number * number) * below
 
 
 @lru_cache(maxsize=1)
