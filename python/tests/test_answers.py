@@ -965,14 +965,15 @@ def test_constraints_that_each_say_more_than_the_others_do_are_not_called_too_ma
     assert found.whole.text() == "moved and turned"
 
 
-def test_nothing_is_redundant_since_it_holds_of_an_edge_without_a_length(program):
+@pytest.mark.parametrize("more", ["", "point R 30 30\nx R 30\n"])
+def test_nothing_is_redundant_since_it_holds_of_an_edge_without_a_length(program, more):
     """S3 runs from the origin to -12, -5, at atan 5/12 = 22.62 degrees to the x axis and 67.38 to
     S1, and 60 are told. Without Lean, or without Up, S1 is drawn to end where it begins, and a
     direction of it holds since it has none."""
     drawing = read_drawing(
         "segment S1 0 0 0 10\nsegment S2 S1.end -12 5\nsegment S3 S2.end S1.start\n"
         "coincident S1.start Origin\nUp: vertical S1\nequal S2 S3\nlength S2 13\n"
-        "Slope: angle XAxis S3 +5/12\nLean: angle S1 S3 60deg\n")
+        "Slope: angle XAxis S3 +5/12\nLean: angle S1 S3 60deg\n" + more)
     found = judge(drawing, program)
     assert found.verdict is Verdict.OVER
     assert {each.name for each in found.surplus} == {"Slope", "Up", "Lean"}

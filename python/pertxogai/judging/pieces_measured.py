@@ -1,13 +1,15 @@
 """How far a constraint is off on one placed piece of a drawing that is open."""
 from __future__ import annotations
 
-from collections.abc import Mapping
+from collections.abc import Iterator, Mapping
 from contextlib import suppress
 
 from pertxogai.drawing import (
-    ORIGIN, X_AXIS, Y_AXIS, Arc, Circle, Constraint, Drawing, Fixed, Horizontal, PointRef,
-    Vertical, XDistance, YDistance)
+    ORIGIN, X_AXIS, Y_AXIS, Arc, Circle, Constraint, Drawing, Fixed, Horizontal, PointRef, Segment,
+    Vertical, Which, XDistance, YDistance)
 from pertxogai.drawing.mentions import named
+from pertxogai.exact import square
+from pertxogai.judging.edges import LEAST_NM
 from pertxogai.judging.measure.amounts import amounts
 from pertxogai.judging.measure.deviation import Deviation, Unit
 from pertxogai.judging.measure.placed import Placed
@@ -28,15 +30,43 @@ def off_in_pieces(drawing: Drawing, number: int, asked: Trial, program: Solver) 
     """How far a constraint is off on the first placed piece that has all that it speaks of, where
     `asked` is of the drawing without it; None where none has. Raises ProgramError."""
     constraint = drawing.constraints[number - 1]
+    for _, off_nm in _measured(drawing, constraint, asked, program):
+        return Deviation(number, constraint, off_nm, Unit.NM)
+    return None
+
+
+def is_lost_in_pieces(drawing: Drawing, number: int, asked: Trial, program: Solver) -> bool:
+    """Whether an edge that is drawn with a length has none on the piece on which a constraint is
+    measured, and so has any direction. Raises ProgramError."""
+    for solution, _ in _measured(drawing, drawing.constraints[number - 1], asked, program):
+        edges = (each for each in drawing.geometry if isinstance(each, Segment))
+        return any(_is_lost(drawing, solution, each) for each in edges)
+    return False
+
+
+def _is_lost(drawing: Drawing, solution: Solution, edge: Segment) -> bool:
+    """Whether an edge has no length on some places, and is drawn with one."""
+    start, end = (PointRef(edge.name, which) for which in (Which.START, Which.END))
+    if start not in solution.points or end not in solution.points:
+        return False
+    (x, y), (u, v) = solution.points[start], solution.points[end]
+    is_short = square((u - x, v - y)) < LEAST_NM ** 2
+    return is_short and drawing.drawn(start) != drawing.drawn(end)
+
+
+def _measured(drawing: Drawing, constraint: Constraint, asked: Trial,
+              program: Solver) -> Iterator[tuple[Solution, int]]:
+    """Each placed piece that has all that a constraint speaks of, and how far it is off there, in
+    nanometres."""
     report = read_parts(written_by(program, "parts", asked.spelled.sketch.text()))
     for part in report.parts:
         if isinstance(part.shape, Solved):
             piece = _Piece(drawing, asked, PrintedPlaces.of(part.shape.places, asked.spelled.scale))
             with suppress(MissingPlace):
                 if piece.lies_as_needed(constraint):
-                    placed = Placed(drawing, piece.solution())
-                    return Deviation(number, constraint, amounts(placed, constraint)[0], Unit.NM)
-    return None
+                    solution = piece.solution()
+                    off_nm = amounts(Placed(drawing, solution), constraint)[0]
+                    yield solution, off_nm
 
 
 class _Piece:

@@ -18,7 +18,7 @@ from pertxogai.judging.measure.deviation import Deviation, Unit, greatest, worst
 from pertxogai.judging.measure.limit import Limit, amount_text
 from pertxogai.judging.measure.measuring import measure, measure_one
 from pertxogai.judging.naming import quoted
-from pertxogai.judging.pieces_measured import off_in_pieces
+from pertxogai.judging.pieces_measured import is_lost_in_pieces, off_in_pieces
 from pertxogai.judging.remembering import Remembering
 from pertxogai.judging.roundings import (
     most_by_rounding, moved_by_rounding, rounded_lines)
@@ -363,9 +363,15 @@ class _Trials:
 
     def _noted(self, tried: Surplus, gone: frozenset[int]) -> Surplus:
         """The same, noted where it holds idly."""
-        if tried.repeats() and self._beyond(gone):
+        if tried.repeats() and (self._beyond(gone) or self._is_lost(tried.number, gone)):
             self.idle.add(tried.number)
         return tried
+
+    def _is_lost(self, number: int, gone: frozenset[int]) -> bool:
+        """Whether a constraint was measured on a piece of which an edge has come to nothing."""
+        asked = self._without(gone)
+        return (asked.verdict is Verdict.OPEN
+                and is_lost_in_pieces(self.drawing, number, asked, self.program))
 
     def _measured_finely(self, number: int, off: Deviation,
                          gone: frozenset[int]) -> tuple[Trial, Deviation]:
