@@ -409,8 +409,11 @@ def test_what_to_do_without_a_program_fits_where_the_package_lies(
         folder: str, advice: str, tmp_path: Path, monkeypatch: pytest.MonkeyPatch) -> None:
     """In a clone it is built; a wheel or a Debian package has nothing to build."""
     (tmp_path / "clone/crates").mkdir(parents=True)
-    monkeypatch.delenv("PERTXOGAI_SKETCH", raising=False)
     monkeypatch.setenv("PATH", str(tmp_path))
     monkeypatch.setattr("pertxogai.program.running.BUILD", tmp_path / folder / "sketch/out/sketch")
+    monkeypatch.delenv("PERTXOGAI_SKETCH", raising=False)
+    with pytest.raises(MissingProgram, match=advice):
+        Program.find()
+    monkeypatch.setenv("PERTXOGAI_SKETCH", "")
     with pytest.raises(MissingProgram, match=advice):
         Program.find()

@@ -76,7 +76,7 @@ class Program:
         """The program at `path`, else the one that the variable PERTXOGAI_SKETCH names, else the
         repository's own build, else `sketch` on the path. PERTXOGAI_MEMORY_MIB sets its memory
         limit; 0 is no limit. Raises MissingProgram."""
-        named = path or os.environ.get(VARIABLE)
+        named = path or os.environ.get(VARIABLE) or None  # None also if it is set to nothing.
         if named is None and os.access(BUILD, os.X_OK):
             named = str(BUILD)
         found = shutil.which(named or "sketch")
