@@ -274,9 +274,11 @@ def test_the_installed_python_is_compiled_and_goes_as_it_came(installed: Path, t
 
 
 def test_the_packages_say_what_they_need(dist: Path) -> None:
+    said = re.search(r"`sketch` needs glibc (2\.\d+) or later, the library (2\.\d+)\.", (TOP / "README.md").read_text())
+    program, library = map(re.escape, said.groups())
     depends = {
-        "pertxogai": r"libc6 \(>= 2\.\d+\), python3 \(>= 3\.11\)",
-        "libpertxogai-sketch1": r"libc6 \(>= 2\.\d+\)",
+        "pertxogai": rf"libc6 \(>= {program}\), python3 \(>= 3\.11\)",
+        "libpertxogai-sketch1": rf"libc6 \(>= {library}\)",
         "libpertxogai-sketch-dev": rf"libpertxogai-sketch1 \(= {re.escape(__version__)}\)"}
     for name, wanted in depends.items():
         said = done("dpkg-deb", "-f", dist / f"{name}_{__version__}_amd64.deb")

@@ -126,6 +126,12 @@ def c_library(*built: Path) -> str:
     return str(max(asked, key=lambda version: [int(part) for part in version.split(".")]))
 
 
+def _is_linked(path: Path) -> bool:
+    """Whether a file is a program or a shared library."""
+    with path.open("rb") as stream:
+        return stream.read(4) == b"\x7fELF"
+
+
 def make_packages(room: Path, made: Made, to: Path) -> list[Path]:
     """Packs the Debian packages into the folder `to`, and answers their paths."""
     staged = room / "debian"
@@ -176,7 +182,7 @@ def _write_control(package: Package, root: Path, made: Made) -> None:
     Python modules that they are compiled."""
     files = [each for each in root.rglob("*") if each.is_file() and not each.is_symlink()]
     size = sum(each.stat().st_size for each in files) // 1024
-    needed = c_library(made.program, made.library / "libsketch.so")
+    needed = c_library(*filter(_is_linked, files)) if "{c}" in package.relations else ""
     control = root / "DEBIAN"
     control.mkdir()
     told = CONTROL.format(name=package.name, version=made.version, maintainer=MAINTAINER, size=size,
