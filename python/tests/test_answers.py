@@ -954,6 +954,30 @@ def test_the_ends_of_an_edge_are_two_points(program):
     assert {each.name for each in found.surplus} == {"Line", "Foot", "Top", "Aside"}
 
 
+HOLES = ("segment Bottom 0 0 40 0\nsegment Side Bottom.end 40 30\ncircle SW 8 8 3\ncircle SE 32 8 3\n"
+         "circle NW 8 22 3\ncoincident Bottom.start Origin\nhorizontal Bottom\nvertical Side\n"
+         "length Bottom 40\nlength Side 30\nx SW 8\ny SW 8\nx SE 32\ny SE 8\nx NW 8\ny NW 22\n")
+
+
+ALIKE = "Pair: equal SW SE\nThird: equal SE NW\n"
+
+
+@pytest.mark.parametrize("words, latest", [
+    (ALIKE + "First: diameter SW 6.6\n", ()),
+    (ALIKE + "First: diameter SW 6.6\nSecond: diameter SE 6.6\n", ("Second",)),
+    ("First: diameter SW 6.6\nSecond: diameter SE 6.6\nThird: equal SE NW\nPair: equal SW SE\n", ("Pair",)),
+    ("First: radius SW 3.3\n" + ALIKE + "Again: radius SW 3.3\nLast: radius NW 3.3\n", ("Again", "Last")),
+    (ALIKE + "First: diameter SW 6.6\nLevel: horizontal Bottom\n", ("Level",)),
+])
+def test_all_that_is_called_redundant_may_go_at_once(words, latest, program):
+    """Three radii take three words, and Bottom is level already."""
+    found = judge(read_drawing(HOLES + words), program)
+    assert found.verdict is Verdict.WELL and set(found.repeats) == set(latest)
+    left = "".join(line + "\n" for line in words.splitlines() if line.split(":")[0] not in latest)
+    rest = judge(read_drawing(HOLES + left), program)
+    assert rest.verdict is Verdict.WELL and rest.repeats == () and rest.undimensioned == ()
+
+
 def test_constraints_that_each_say_more_than_the_others_do_are_not_called_too_many(program):
     """M is the middle of an arc's ends, and its centre, so both ends are as far from the centre: the
     arc asks nothing more. Without either word more is free. Of 8 freedoms a length, and 2 and 2 of

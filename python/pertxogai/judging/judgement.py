@@ -1,6 +1,7 @@
 """What becomes of a drawing: the program's verdict with its reasons, in the designer's words."""
 from __future__ import annotations
 
+from contextlib import suppress
 from dataclasses import dataclass, field, replace
 from functools import cached_property
 from typing import TYPE_CHECKING
@@ -8,7 +9,8 @@ from typing import TYPE_CHECKING
 from pertxogai.drawing import Circle, Drawing
 from pertxogai.judging.departures import Warned
 from pertxogai.judging.edited import EditedDrawing
-from pertxogai.judging.freedoms import Freedoms, Twice, Whole, freedoms
+from pertxogai.judging.freedoms import Freedoms, Gone, Twice, Whole, freedoms
+from pertxogai.judging.jets import TooMany
 from pertxogai.judging.limits import check_fits
 from pertxogai.judging.measure.deviation import Deviation, Unit, worst
 from pertxogai.judging.measure.limit import Limit
@@ -194,13 +196,31 @@ class Judgement:
         return self.names.owners(owner for number in numbers
                                  for owner in self.asked.spelled.owners[number - 1])
 
-    @property
+    @cached_property
     def repeats(self) -> tuple[str, ...]:
         """The redundant constraints that are no line of a sketch: a direction, a size, a point that
         is itself; and those that couldn't be encoded, hold where the rest is placed, and by rank
-        say nothing more. Each may be removed by itself."""
-        held = tuple(each.name for each in self.left_out_measured if each.repeats())
-        return self.names.owners(self._spelled_repeats()) + held
+        say nothing more. By rank all of them may be removed at once: of several of which not all
+        may go, the latest are named. Where the rank isn't known, each may be removed by itself."""
+        held = {each.owner: each.name for each in self.left_out_measured if each.repeats()}
+        spelled = self._spelled_repeats()
+        gone = self._gone_at_once(spelled.union(held))
+        return self.names.owners(spelled & gone) + tuple(
+            name for owner, name in held.items() if owner in gone)
+
+    def _gone_at_once(self, repeats: frozenset[Owner]) -> frozenset[Owner]:
+        """Those of some redundant constraints that may go at once, by rank, the latest first; all
+        where the rank isn't known. What by rank takes part in nothing goes by itself."""
+        free = self.free
+        if free is None:
+            return repeats
+        gone = Gone(free)
+        latest_first = sorted(repeats, key=lambda owner: owner.number, reverse=True)
+        with suppress(TooMany):
+            return frozenset(
+                owner for owner in latest_first if owner.shape or not free.factors(owner.number)
+                or gone.take(owner.number, may_free=False))
+        return repeats
 
     def _spelled_repeats(self) -> frozenset[Owner]:
         """Who says again, and nothing more by rank, what is no line of a sketch."""
@@ -227,7 +247,7 @@ class Judgement:
         """The constraints that couldn't be encoded, say something of their own by rank, and hold as
         measured."""
         return tuple(each.name for each in self.left_out_measured
-                     if each.holds() and not each.repeats())
+                     if each.holds() and each.name not in self.repeats)
 
     @property
     def undimensioned(self) -> tuple[str, ...]:
