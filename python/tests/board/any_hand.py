@@ -118,13 +118,13 @@ class Hand:
         """Lets go of all, and selects nothing; the pointer and the focus lie where nothing is, the
         panel is open at its text, and that can be read. What the hand has had shown otherwise is
         shown as at first."""
-        for _ in range(6):
-            pressed(self.page, Keys.ESCAPE)
+        self._escape()
+        while self.page.count("dialog[open]"):  # It was asked for before, and opened late.
+            self._escape()
         self.page.hover(3, 3)
         if self.page.count("body.folded"):
             self.page.click("#fold")
         self.page.click("#tab-text")
-        settle(self.page)
         while self.is_refused() and not self.page.count("#undo[aria-disabled=true]"):
             self._undo()
             settle(self.page)
@@ -132,6 +132,12 @@ class Hand:
             if self.page.count(turned):
                 self.page.click(turned)
         self.page.driver.execute_script("document.activeElement.blur()")
+
+    def _escape(self) -> None:
+        """Lets go of one thing after the other, and waits for what was asked for before."""
+        for _ in range(6):
+            pressed(self.page, Keys.ESCAPE)
+        settle(self.page)
 
     # Where it goes.
 
