@@ -114,3 +114,15 @@ def test_an_edge_that_is_upright_by_another_says_nothing_twice(program: Program)
     assert whole.verdict is Verdict.WELL and not whole.left_out
     for name, told in (("Short.end", (0, 25)), ("Long.end", (0, 30)), ("Hole.centre", (9, 8))):
         assert whole.solution.spot(ref_of(name)) == tuple(mm * 1_000_000 for mm in told), name
+
+
+def test_a_slot_whose_ends_are_level_says_nothing_twice(program: Program) -> None:
+    """Four points and two centres have 12 freedoms, less 2 of the arcs, 4 touches and 3 words; of
+    the 3 that are left 2 move the whole, so its length is missing."""
+    found = judge(read_drawing(
+        "segment Right 4 0 4 26\narc Top 0 26 Right.end -4 26\nsegment Left Top.end -4 0\n"
+        "arc Foot 0 0 Left.end Right.start\ntangent Right Top\ntangent Top Left\n"
+        "tangent Left Foot\ntangent Foot Right\nequal Top Foot\n"
+        "distance Right.start Left.end 8\nhorizontal Right.start Left.end\n"), program)
+    assert (found.verdict, found.missing.count, found.surplus) == (Verdict.OPEN, 1, ())
+    assert found.whole.text() == "moved"

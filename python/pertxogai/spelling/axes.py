@@ -170,12 +170,12 @@ class Axes:
     # -- frames
 
     def _merge_parallels(self) -> None:
-        """Makes two parallels that share a point one line, the first such in turn, but for what
-        follows by equations along an axis."""
+        """Makes two parallels that share a point one line, the first such in turn."""
         known: dict[tuple[Line, Line], bool] = {}
         while True:
             pair = next((pair for pair in self.lines.sharers()
-                         if self._parallel(known, pair)), None)
+                         if self._parallel(known, pair) and self._may_be_one(*pair)
+                         and self._may_be_one(*reversed(pair))), None)
             if pair is None:
                 return
             self.lines.join(*pair)
@@ -185,16 +185,23 @@ class Axes:
         found = known.get(pair)
         if found is None:
             lean = self.directions.between(*pair)
-            found = known[pair] = (lean is not None and lean.level()
-                                   and not any(map(self._follows_along_an_axis, pair)))
+            found = known[pair] = lean is not None and lean.level()
         return found
 
-    def _follows_along_an_axis(self, line: Line) -> bool:
-        """Whether a line is parallel to an axis since two of its points are level, which may be by
-        what the other line says of its own: then each has to say that for itself."""
+    def _may_be_one(self, line: Line, other: Line) -> bool:
+        """Whether a line may be made one with a parallel: not where it is parallel to an axis since
+        two points that it has already are level, which may be by what the other says of its own
+        points. Then each has to say that for itself."""
+        return not any(self.lines.leader(each) == line and self._is_level_by(line, other, ends)
+                       for each, ends in self.facts.implied.items())
+
+    def _is_level_by(self, line: Line, other: Line, ends: tuple[Knot, Knot]) -> bool:
+        """Whether a line is parallel to an axis by two points, of which the other line adds
+        none."""
         lean = self.directions.between(X_AXIS, line)
+        own, others = ({each.knot for each in self.lines.members(one)} for one in (line, other))
         return (lean is not None and (lean.level() or lean.upright())
-                and line in map(self.lines.leader, self.facts.implied))
+                and others.isdisjoint({*ends} - own))
 
     def _make_frames(self) -> None:
         classes: dict[Line, list[Line]] = {}
