@@ -18,7 +18,7 @@ Chunk = Sequence[tuple[Offs, Sequence[AskBy]]]
 """Cases that one process works out, and the ways to ask for each."""
 FEW = 16
 """For fewer cases no processes are started: that takes as long as a few cases do."""
-CHUNKS = 2
+CHUNKS = 3
 """Each process gets its share of the cases in this number of parts: some take longer."""
 
 
