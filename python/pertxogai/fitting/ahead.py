@@ -9,7 +9,7 @@ from pertxogai.fitting.offs import Offs
 from pertxogai.fitting.tries import AskBy, Tries
 from pertxogai.program import ProgramError
 
-if TYPE_CHECKING:  # Few cases are worked out without.
+if TYPE_CHECKING:  # For few cases neither is imported.
     from concurrent.futures import Future, ProcessPoolExecutor
 
 Work = Callable[[Offs, Sequence[AskBy]], Tries]
