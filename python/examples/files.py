@@ -4,11 +4,11 @@ from pathlib import Path
 
 from pertxogai.files import Input, InputRefused, SketchText, read_inputs
 from pertxogai.judging import CountedDrawing, DrawingRefused, TextRefused, judge, judge_sketch
-from pertxogai.language import NotHeld, Refusal
+from pertxogai.language import NotHeld
 from pertxogai.output import DrawingOutcome, Outcome, SketchOutcome
 from pertxogai.program import Program, ProgramError
 
-REFUSALS = InputRefused, DrawingRefused, TextRefused, NotHeld, Refusal, ProgramError
+REFUSALS = InputRefused, DrawingRefused, TextRefused, NotHeld, ProgramError
 program = Program.find()
 
 

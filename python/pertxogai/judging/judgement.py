@@ -11,7 +11,7 @@ from pertxogai.judging.departures import Warned
 from pertxogai.judging.edited import EditedDrawing
 from pertxogai.judging.freedoms import Freedoms, Gone, Twice, Whole, freedoms
 from pertxogai.judging.jets import TooMany
-from pertxogai.judging.limits import check_fits
+from pertxogai.judging.limits import EncodingRefused, check_fits
 from pertxogai.judging.measure.deviation import Deviation, Unit, worst
 from pertxogai.judging.measure.limit import Limit
 from pertxogai.judging.measure.measuring import Measurement, measure
@@ -24,6 +24,7 @@ from pertxogai.judging.states import InPieces, State, WithFault, WithPlaces, Wit
 from pertxogai.judging.trials import (
     CountedTrial, PlaceBy, Question, Trial, counted, finer, first_good, written_by)
 from pertxogai.judging.within import Wider, within
+from pertxogai.language import Refusal
 from pertxogai.program import Solver
 from pertxogai.program.reports import Shape, Solved, Verdict
 from pertxogai.spelling.facts import Owner, RadiusOf
@@ -301,8 +302,8 @@ def judge_at_once(drawing: Drawing, program: Solver, freeze: bool = False,
     """The same with fewer calls of the program: the counts of a fully constrained drawing aren't
     asked for, and the removable dimensions are those that the program names, not measured. Raises
     ProgramError; DrawingRefused if the drawing has more points or constraints than the program
-    takes, or if both ends of a shape coincide; Refusal if the program rejects the encoded sketch;
-    NotHeld if a position or length is beyond the range of the language."""
+    takes, if both ends of a shape coincide, or if the program rejects the encoded sketch; NotHeld
+    if a position or length is beyond the range of the language."""
     return judge_edited(EditedDrawing(drawing), program, freeze, limit)
 
 
@@ -311,7 +312,11 @@ def judge_edited(edited: EditedDrawing, program: Solver, freeze: bool = False,
     """The same of a drawing that an edit has made. Raises as `judge_at_once`."""
     check_fits(edited.drawing)
     question = Question(edited.drawing, program, limit)
-    return judge_trial(edited, first_good(question, freeze, spelled=edited.readings()), question)
+    try:
+        asked = first_good(question, freeze, spelled=edited.readings())
+    except Refusal as refusal:
+        raise EncodingRefused(refusal.refused) from None
+    return judge_trial(edited, asked, question)
 
 
 def judge_trial(edited: EditedDrawing, asked: Trial, question: Question) -> Judgement:

@@ -6,6 +6,7 @@ from typing import TYPE_CHECKING
 
 from pertxogai.drawing import Drawing, ends_made_one
 from pertxogai.language.declared import MOST_CONSTRAINTS, MOST_ELEMENTS
+from pertxogai.language.refusal import Refusal
 
 if TYPE_CHECKING:
     from pertxogai.program.reports import Refused
@@ -13,6 +14,16 @@ if TYPE_CHECKING:
 
 class DrawingRefused(Exception):
     """A drawing that can't be made into a sketch. The message is one line, and says what to do."""
+
+
+class EncodingRefused(DrawingRefused, Refusal):
+    """A drawing whose sketch the program rejects: with the lines that its constraints need it has
+    more elements, constraints or bytes than the program takes."""
+
+    def __init__(self, refused: Refused) -> None:
+        Refusal.__init__(self, refused)
+        self.args = (f"the program rejects the encoded sketch ({refused.text().rstrip()}): split "
+                     "the drawing, or see 'How a text is refused' in docs/LANGUAGE.md",)
 
 
 class TextRefused(Exception):

@@ -205,12 +205,13 @@ def _unless_refused(act: Callable[[], Found | Fault]) -> Found | Fault:
     """What is found, or why the drawing, or what is told of it, is refused."""
     try:
         return act()
+    except Refusal as refused:
+        told = refused.refused.text().rstrip()
+        return Fault(FaultKind.LIMIT, f"the program rejects the encoded sketch ({told})")
     except DrawingRefused as refused:
         return Fault(FaultKind.UNSOUND, str(refused))
     except NotHeld as refused:
         return Fault(FaultKind.UNSOUND, f"a sum of dimensions is out of range: {refused}")
-    except Refusal as refused:
-        return Fault(FaultKind.LIMIT, f"the program rejects the encoded sketch ({refused})")
 
 
 def _less(limit: Limit) -> Limit:

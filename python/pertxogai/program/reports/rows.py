@@ -18,6 +18,10 @@ CLUSTER = r"[cs][1-9][0-9]*"
 NAMES = rf"{NAME}(?: {NAME})*"
 
 
+ANOTHER_PROGRAM = "is the program that was asked `sketch`? PERTXOGAI_SKETCH names another"
+"""What to do about a text that has no form of the program's."""
+
+
 class NotAReport(ProgramSpoke):
     """A text isn't a report of the command that it should come from."""
 
@@ -31,7 +35,7 @@ class Rows:
         self.lines = text.split("\n")
         self.next = 0
         if self.lines.pop():
-            raise NotAReport(f"no report of {what}: its last line has no end")
+            raise NotAReport(f"no report of {what}: its last line has no end: {ANOTHER_PROGRAM}")
 
     def take(self, form: str) -> re.Match[str]:
         """The next line, which has a form. Raises NotAReport."""
@@ -71,7 +75,8 @@ class Rows:
     def fault(self) -> NotAReport:
         """That the next line isn't what it should be."""
         line = repr(self.lines[self.next][:80]) if self.next < len(self.lines) else "its end"
-        return NotAReport(f"no report of {self.what}: line {self.next + 1} is {line}")
+        return NotAReport(f"no report of {self.what}: line {self.next + 1} is {line}: "
+                          f"{ANOTHER_PROGRAM}")
 
 
 @contextmanager
