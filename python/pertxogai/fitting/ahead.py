@@ -3,6 +3,7 @@ from __future__ import annotations
 
 from collections.abc import Callable, Container, Iterator, Mapping, Sequence
 from contextlib import contextmanager
+from signal import SIG_IGN, SIGINT, signal
 from typing import TYPE_CHECKING
 
 from pertxogai.fitting.offs import Offs
@@ -102,6 +103,8 @@ _at_work: list[Work] = []
 
 
 def _begin(work: Work) -> None:
+    """Begins a process. Ctrl-C is left to the one that asks, which ends the others."""
+    signal(SIGINT, SIG_IGN)
     _at_work[:] = [work]
 
 
