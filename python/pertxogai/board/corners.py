@@ -193,17 +193,19 @@ class _Cut:
         drawing = replace(self.drawing, geometry=geometry, constraints=tuple(said),
                           notes=self._notes(first, keeps, gone))
         on = [["on", name, each.shape] for each in opened] if keeps else []
-        for words in [*on, *asks]:
+        same = [["coincident", str(ref), name] for ref in self.drawing.points()
+                if ref.which is Which.AT and ref in self._at_corner()]
+        for words in [*on, *same, *asks]:
             drawing = asking(drawing, words)
         return drawing
 
     def _opened(self, shape: Shape, opened: dict[PointRef, Place], name: str | None) -> Shape:
         """A shape with its points of the corner drawn apart: the two ends where the cut begins, all
-        others in the point that stays."""
+        others in the point that stays; but a single point has a place of its own."""
         for ref in points_of(shape):
             if ref in opened:
                 shape = with_spot(shape, ref.which, opened[ref])
-            elif ref in self._at_corner() and name is not None:
+            elif ref in self._at_corner() and name is not None and not isinstance(shape, Point):
                 shape = with_spot(shape, ref.which, PointRef(name))
         return shape
 

@@ -66,6 +66,34 @@ def test_what_else_ends_in_the_corner_stays_there() -> None:
                          "arc A1 35 5 A.end B.start"]
 
 
+def test_a_point_of_its_own_in_the_corner_stays_there() -> None:
+    """A point is drawn at a place alone, so it is joined by a constraint; also where the segments
+    end in it by words."""
+    shared = "point B 40 0\nsegment A 0 0 B\nsegment C B 40 30\n"
+    joined = ("point B 40 0\nsegment A 0 0 40 0\nsegment C 40 0 40 30\n"
+              "coincident A.end B\ncoincident C.start B\n")
+    for text in (shared, joined):
+        assert fillet(text, "A", "C") == [
+            "construction point P1 40 0", "point B 40 0", "segment A 0 0 35 0",
+            "segment C 40 5 40 30", "arc A1 35 5 A.end C.start", "on P1 A", "on P1 C",
+            "coincident B P1", "tangent A A1", "tangent A1 C", "radius A1 5"]
+
+
+@pytest.mark.parametrize("kind", ["fillet", "chamfer"])
+def test_a_corner_with_a_point_of_its_own_stays_well(kind: str, program: Program) -> None:
+    """The text is read again, as by a page that is loaded anew."""
+    text = ("point B 40 0\nsegment A 0 0 B\nsegment C B 40 30\ncoincident A.start Origin\n"
+            "horizontal A\nvertical C\nlength A 40\nlength C 30\n")
+    desk = Desk(program)
+    cut = {"do": "corner", "kind": kind, "first": "A", "second": "C", "size": "5"}
+    found = desk.answer("edit", {"text": text, "edit": cut})
+    anew = Desk(program).answer("judge", {"text": found["text"]})
+    for answer in (found, anew):
+        assert answer["judgement"]["verdict"] == "well" and answer["judgement"]["good"]
+        x, y = answer["judgement"]["placed"]["points"]["B"]
+        assert (round(x, 6), round(y, 6)) == (40, 0)
+
+
 def test_a_corner_that_is_joined_by_words() -> None:
     text = "segment A 0 0 40 0\nsegment B 40 0 40 30\n"
     for said in ("coincident A.end B.start\n", "perpendicular A.end B.start\n"):
