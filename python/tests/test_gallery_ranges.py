@@ -204,8 +204,8 @@ LEAST_ANGLE, MOST_ANGLE = .0001, 179.9999
     # The joints stay on rafters of 4000 / cos 30.
     ("roof-truss", "distance West", NO_LEAST, 4000 / cos(pi / 6)),
     ("roof-truss", "length Tie", 4600 * cos(pi / 6), NO_MOST),
-    # At 90 degrees a rafter is parallel to the post.
-    ("roof-truss", "angle Tie RafterW", None, 89.9999),
+    # At 90 degrees a rafter lies along the post, which beyond that stands beside the tie.
+    ("roof-truss", "angle Tie RafterW", None, 90),
     # A slot of 8 in a plate of 100 by 50, from 35 to 65 at 25: a cut of a micrometre is a touch.
     ("slotted-plate", "length PlateBottom", 72.999, NO_MOST),
     ("slotted-plate", "length PlateRight", 32.999, NO_MOST),
