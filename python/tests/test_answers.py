@@ -959,6 +959,20 @@ HOLES = ("segment Bottom 0 0 40 0\nsegment Side Bottom.end 40 30\ncircle SW 8 8 
          "length Bottom 40\nlength Side 30\nx SW 8\ny SW 8\nx SE 32\ny SE 8\nx NW 8\ny NW 22\n")
 
 
+def test_what_follows_from_the_difference_of_two_equations_of_one_constraint_is_tried(program):
+    """Held fixes S, so its middle is told by Middle, by Pin, and with Near once more; Long and Level
+    put T's start where Far has it: four equations are too many. Without Held, Far and Near tell how
+    S lies. So each of the seven may go."""
+    found = judge(read_drawing(
+        "segment S 0 0 20 10\nsegment T 30 5 10 5\nsegment U T.end 10 40\n"
+        "Far: distance T.start S.end 11.18\nPin: fixed T.end\nMiddle: midpoint T.end S\n"
+        "Near: distance U.start S.start 11.18\nLong: distance T.start U.start 20\n"
+        "Level: horizontal T\nHeld: fixed S\n"), program)
+    assert found.verdict is Verdict.OVER and found.free is not None and found.free.excess == 4
+    assert {each.name for each in found.surplus} == {
+        "Far", "Pin", "Middle", "Near", "Long", "Level", "Held"}
+
+
 ALIKE = "Pair: equal SW SE\nThird: equal SE NW\n"
 
 

@@ -215,25 +215,29 @@ class Gone:
         self.numbers: list[int] = []
         self._free = free
         self._rows = Rows[Decimal](NONE)
+        self._whose: list[int] = []
 
     def take(self, number: int, may_free: bool) -> bool:
         """Takes a constraint without which fewer are too many; where more may not be free, only if
         nothing more is."""
-        rows = self._rows.copy()
+        rows, whose = self._rows.copy(), [*self._whose]
+        fewer = 0
         with localcontext(EXACT):
-            fewer = sum(rows.add({**row, -1 - number: Decimal(1)})[0] > NONE
-                        for row in self._free.factors(number))
+            for row in self._free.factors(number):
+                whose.append(number)  # Each equation is marked by itself.
+                fewer += rows.add({**row, -len(whose): Decimal(1)})[0] > NONE
         if not fewer or fewer < self._free.equations(number) and not may_free:
             return False
         self.numbers.append(number)
-        self._rows = rows
+        self._rows, self._whose = rows, whose
         return True
 
     def instead(self, number: int) -> set[int]:
         """Those of which one may stay where another goes."""
         with localcontext(EXACT):
             rest = self._rows.reduced(self._free.factors(number)[0])
-        return {-1 - key for key, value in rest.items() if key < 0 and abs(value) > SOME}
+        return {self._whose[-1 - key] for key, value in rest.items()
+                if key < 0 and abs(value) > SOME}
 
 
 def new_distances(free: Freedoms,
