@@ -20,7 +20,7 @@ from pertxogai.output.picture import (
 from pertxogai.output.picture.page import Figure, Page
 from pertxogai.output.picture.placed import (
     LaidLine, as_drawn, as_placed, laid_on, moved, segments)
-from pertxogai.output.picture.plane import crosses, crossing, overlaps
+from pertxogai.output.picture.plane import crosses, crossing, foot, overlaps
 from pertxogai.output.picture.texts import Texts
 from pertxogai.output.sketch_picture import picture_of_judged
 from pertxogai.program.reports import Spare, read_parts, read_solve
@@ -367,3 +367,8 @@ def test_no_name_is_cut_off_at_the_edge_of_the_page() -> None:
     for it in names:
         half, x = len(it.text or "") * 14 * 0.58 / 2, float(it.get("x", 0))
         assert 0 < x - half and x + half < width, it.text
+
+
+def test_the_foot_on_an_edge_that_has_come_to_nothing() -> None:
+    assert foot((3, 4), (0, 0), (10, 0)) == (3, 0)
+    assert foot((3, 4), (1, 1), (1, 1)) == (1, 1)

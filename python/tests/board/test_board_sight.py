@@ -142,3 +142,15 @@ def test_who_knows_what_another_worker_told_is_told_all(program: Program,
     told = other.answer("edit", given)
     assert known["judgement"]["found"] and told["judgement"]["found"] is None
     assert all(told["drawing"]["shapes"])
+
+
+def test_a_distance_from_an_edge_that_has_come_to_nothing_is_shown(program: Program) -> None:
+    """Both ends are asked to lie at the origin."""
+    pytest.importorskip("scipy", reason="a shape of what is open is found by scipy")
+    found = Desk(program).answer("judge", {"text": (
+        "segment S -10 0 10 0\npoint P 3 5\nx S.start 0\nx S.end 0\ny S.start 0\ny S.end 0\n"
+        "distance P S 5\n")})
+    points = found["judgement"]["found"]["places"]["points"]
+    assert points["S.start"] == points["S.end"] == (0, 0)
+    (bar,) = (each["bar"] for each in found["drawing"]["marks"] if each["number"] == 5)
+    assert (0, 0) in bar

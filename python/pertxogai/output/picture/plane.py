@@ -21,10 +21,11 @@ def between(one: PointMm, two: PointMm, share: float) -> PointMm:
 
 
 def foot(place: PointMm, start: PointMm, end: PointMm) -> PointMm:
-    """The nearest place to `place` on the line through two places, which differ."""
+    """The nearest place to `place` on the line through two places; these themselves where they are
+    one, as the ends of an edge that has come to nothing."""
     dx, dy = end[0] - start[0], end[1] - start[1]
-    share = ((place[0] - start[0]) * dx + (place[1] - start[1]) * dy) / (dx * dx + dy * dy)
-    return between(start, end, share)
+    along = (place[0] - start[0]) * dx + (place[1] - start[1]) * dy
+    return between(start, end, along / (dx * dx + dy * dy)) if dx or dy else start
 
 
 def crossing(one: tuple[PointMm, PointMm], two: tuple[PointMm, PointMm]) -> PointMm | None:
