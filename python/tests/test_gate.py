@@ -105,11 +105,11 @@ def test_of_a_changed_tree_nothing_is_recorded(repository: Path) -> None:
     assert not (repository / RECORD).exists()
 
 
-def test_no_more_proofs_go_side_by_side_than_there_are_processors(repository: Path, monkeypatch: pytest.MonkeyPatch) -> None:
+def test_at_most_one_proof_more_goes_side_by_side_than_there_are_processors(repository: Path, monkeypatch: pytest.MonkeyPatch) -> None:
     monkeypatch.delenv("RT_JOBS", raising=False)
     gate(repository, "30 passed, 0 failed", "12 passed, 0 failed")
     jobs = (repository.parent / "bin/rt.jobs").read_text().strip()
-    assert 1 <= int(jobs) <= len(os.sched_getaffinity(0))
+    assert 1 <= int(jobs) <= len(os.sched_getaffinity(0)) + 1
 
 
 def test_whoever_says_how_many_go_side_by_side_is_heard(repository: Path, monkeypatch: pytest.MonkeyPatch) -> None:
