@@ -14,7 +14,8 @@ from pathlib import Path
 from types import FrameType
 from typing import Any
 
-from pertxogai.commands import main
+from pertxogai.commands import judging, main
+from pertxogai.program import Solver
 
 SECONDS = float(os.environ.get("HUNT_SECONDS", "60"))
 """An answer takes no more of a processor, or is none: on a machine that does something else besides,
@@ -50,15 +51,17 @@ class Answer:
         return list(self.said.get(key) or [])
 
 
-def asked(text: str, seconds: float = SECONDS, search: bool = True) -> Answer:
-    """What `judge --json` says of a drawing's text, with or without the search."""
+def asked(text: str, seconds: float = SECONDS, search: bool = True,
+          solver: Solver | None = None) -> Answer:
+    """What `judge --json` says of a drawing's text, with or without the search, by the program, or
+    by another solver such as the library in C within this process, which is quicker."""
     words = [] if search else ["--no-search"]
     with tempfile.TemporaryDirectory() as room:
         path = Path(room) / "part.drawing"
         path.write_text(text)
         out, err = io.StringIO(), io.StringIO()
         try:
-            with _within(seconds), redirect_stdout(out), redirect_stderr(err):
+            with _by(solver), _within(seconds), redirect_stdout(out), redirect_stderr(err):
                 status = main(["judge", "--json", *words, str(path)])
         except Late:
             return Answer(None, late=True)
@@ -66,6 +69,18 @@ def asked(text: str, seconds: float = SECONDS, search: bool = True) -> Answer:
             return Answer(None, crash=traceback.format_exc())
     said = json.loads(out.getvalue())["sketches"][0] if out.getvalue() else {}
     return Answer(int(status), said, err.getvalue().strip())
+
+
+@contextmanager
+def _by(solver: Solver | None) -> Iterator[None]:
+    """Has `judge` ask a solver in place of the program, where one is named."""
+    of_words = judging.program_of
+    if solver is not None:
+        judging.program_of = lambda _: solver  # type: ignore[assignment, return-value]
+    try:
+        yield
+    finally:
+        judging.program_of = of_words
 
 
 @contextmanager
