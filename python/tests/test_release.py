@@ -238,6 +238,29 @@ def test_the_installed_library_links(installed: Path, tmp_path: Path) -> None:
     assert "libdir=${prefix}/lib/x86_64-linux-gnu\n" in told
 
 
+GUIDE = ("include=", "export PKG_CONFIG_PATH=$library", "cc places.c $(pkg-config --define",
+         "cmake -S")
+"""How the lines of the page begin by which packages that are only unpacked are found."""
+
+
+@pytest.mark.skipif(not (shutil.which("cmake") and shutil.which("pkg-config")),
+                    reason="Debian's cmake or pkg-config is missing")
+def test_packages_that_are_only_unpacked_are_found_as_the_page_says(
+    installed: Path, tmp_path: Path
+) -> None:
+    """By pkg-config and by CMake."""
+    page = (TOP / "docs/EMBEDDING.md").read_text().splitlines()
+    folders, where, linked, cmake = [it for it in page if it.startswith(GUIDE)]
+    (tmp_path / "sketch").symlink_to(installed)
+    for name in ("places.c", "CMakeLists.txt"):
+        shutil.copy(TOP / "c/examples" / name, tmp_path)
+    script = [folders, where, linked, "./places",
+              f"{cmake} >&2", "cmake --build build >&2", "build/places"]
+    here = {"HOME": str(tmp_path), "PATH": "/usr/bin:/bin"}
+    said = done("sh", "-ec", "\n".join(script), cwd=tmp_path, env=here).splitlines()
+    assert said[2::3] == ["C lies at 40.000000, 30.000000 mm"] * 2
+
+
 @pytest.mark.skipif(shutil.which("man") is None, reason="Debian's man-db is missing")
 @pytest.mark.parametrize("page", ["man1/sketch.1", "man1/pertxogai.1", "man5/sketch.5"])
 def test_the_installed_manual_is_shown(page: str, installed: Path) -> None:
