@@ -12,7 +12,8 @@ SAY = """Pertxogai {version} for Linux on x86-64.
 
     cp -r bin include lib share ~/.local    puts it where your shell looks for it, or in the place of ~/.local: /usr/local
     pipx install wheel/{wheel}    adds the command pertxogai
-    pip install wheel/{wheel}    adds it and the Python package, in a virtual environment of your own
+    pip install wheel/{wheel}    adds it and the Python package, in a virtual environment of your own; one that is made
+        with --system-site-packages has Debian's ezdxf, numpy and scipy too
     man -l share/man/man1/sketch.1.gz    is the manual
 
 In ~/.local a program in C is linked with the library so (in /usr/local run ldconfig once; then it needs neither):
