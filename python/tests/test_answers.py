@@ -1057,3 +1057,19 @@ def test_a_line_that_goes_on_from_another_is_none_that_may_go(program) -> None:
                                     if not line.startswith(f"{name}:")))
         assert judge(rest, program).verdict is Verdict.WELL
     assert "Line" not in found
+
+
+ASIDE = ("segment S 0 0 40 20\npoint P 39 19\npoint Q 40 30\ncoincident S.start Origin\nlength S 45\non P S\n"
+         "horizontal P S.end\nx Q 40\ny Q 30\ndistance P Q 10\n")
+"""P is the end of S, which is 45 from the origin, and 10 from Q, which is 50 from there. Where S were
+level, P would be 30 from Q at least."""
+
+
+def test_what_has_no_places_only_if_an_edge_is_level_is_not_told_to_have_none(program):
+    found = judge(read_drawing(ASIDE), program)
+    assert found.verdict is Verdict.OPEN and found.failure is None
+    assert (found.missing.count, found.missing.joints, found.whole.ways) == (0, (), 0)
+    twice = judge(read_drawing(
+        ASIDE + "point R 60 0\nFirst: x R 60\nSecond: x R 60\ny R 0\n"), program)
+    assert twice.verdict is Verdict.OVER
+    assert {each.name: each.then for each in twice.surplus} == {"First": Then.OPEN, "Second": Then.OPEN}

@@ -108,6 +108,8 @@ def _piece(names: Names, part: Part) -> Piece:
 def _lacking(names: Names, parts: Sequence[Part], joints: Sequence[Joint],
              free: Freedoms) -> tuple[Joint, ...]:
     """The joints that a dimension is lacking at, by rank, once those before them have theirs."""
+    if not free.lacks:
+        return ()
     elements = {part.number: part.elements for part in parts}
     told = [(_distances(names, elements[each.first.number], elements[each.second.number]),
              DIMENSIONS[each.tie]) for each in joints]

@@ -366,16 +366,17 @@ def _freeze(question: Question, asked: Trial) -> Trial:
 
 def _worth(question: Question, asked: Trial) -> tuple[int, bool, int, int]:
     """What is well and placed before what is well, then what is over, then what leaves less out,
-    then the fewer parts. What is well by its count alone comes behind what is over; what is over by
-    what is presumed alone, behind all."""
+    then the fewer parts. What is well by its count alone comes behind what is over; what is over, or
+    has no places, by what is presumed alone, behind all."""
     order = {Verdict.WELL: 3, Verdict.OVER: 2, Verdict.OPEN: 0}
     is_placed = isinstance(asked.solved, Solved)
     worth = order[asked.verdict]
     if asked.verdict is Verdict.WELL and not is_placed and _says_too_much(question, asked.axes):
         worth = 1
-    if asked.verdict is Verdict.OVER and asked.axes.facts.presumes:
+    if asked.axes.facts.presumes and not is_placed and worth:
         free = freedoms(question.drawing)
-        worth = 2 if free is None or free.excess else -1
+        is_over = asked.verdict is Verdict.OVER and (free is None or free.excess)
+        worth = 2 if is_over else -1
     return worth, is_placed, -len(asked.spelled.left_out), -len(asked.parts)
 
 
