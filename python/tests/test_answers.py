@@ -1073,3 +1073,13 @@ def test_what_has_no_places_only_if_an_edge_is_level_is_not_told_to_have_none(pr
         ASIDE + "point R 60 0\nFirst: x R 60\nSecond: x R 60\ny R 0\n"), program)
     assert twice.verdict is Verdict.OVER
     assert {each.name: each.then for each in twice.surplus} == {"First": Then.OPEN, "Second": Then.OPEN}
+
+
+@pytest.mark.parametrize("words, again", [
+    ("First: radius SW 5\nSecond: radius SW 5\nThird: radius SW 6\n", "Second"),
+    ("First: radius SW 5\nPair: equal SW SE\nAgain: radius SE 5\nOther: radius SE 6\n", "Again"),
+])
+def test_of_sizes_that_another_contradicts_the_later_alone_is_redundant(words, again, program):
+    """Without both of them the size would be the third, which is another."""
+    found = judge(read_drawing(HOLES + words), program)
+    assert found.verdict is Verdict.OVER and found.repeats == (again,)

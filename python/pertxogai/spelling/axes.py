@@ -156,15 +156,18 @@ class Axes:
     def repeats(self) -> frozenset[Owner]:
         """The constraints that say only what follows already and is no line of a sketch: that a
         point is itself or lies on its own line, a direction that follows from others, a known
-        size."""
+        size; and of sizes those from which it follows, unless another one contradicts them."""
         found = {*self.facts.repeats, *self.lines.repeats}
         more = {fact.owner for fact in self.facts.facts if not isinstance(fact, Leans)}
         found |= {leans.owner for leans in self.directions.told
                   if leans not in self.conflicts()} - more
+        surplus = self.surplus()
+        against = {mark for _, told in surplus if told.amount for mark in told.marks}
         for equation, told in self.told:
-            if (equation, told) not in self.surplus():
+            if (equation, told) not in surplus:
                 found |= equation.owners
-                found |= {owner for mark in told.marks for owner in self.equations[mark].owners}
+                found |= {owner for mark in told.marks - against
+                          for owner in self.equations[mark].owners}
         return frozenset(found)
 
     # -- frames
