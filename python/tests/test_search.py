@@ -315,7 +315,7 @@ def test_all_that_follows_may_go_at_once(words, groups):
     assert (rest.repeats, rest.freedoms) == ((), 0)
 
 
-@pytest.mark.parametrize("text", [
+STRAIGHT = [
     # A chain of three links of 10 mm that is pulled straight between two points 30 mm apart: to the
     # first order both joints move aside, and either coordinate of its end follows. Neither is so.
     "segment A Origin 10 0\nsegment B A.end 20 0\nsegment C B.end 30 0\n"
@@ -328,10 +328,19 @@ def test_all_that_follows_may_go_at_once(words, groups):
     # All of a drawing is small beside the way to the origin from which it is told.
     "circle C 10000 0 3\npoint Q 10000 1\ndistance C.centre Q 1\nx C.centre 10000\n"
     "distance C.centre Origin 10000\n",
-])
+]
+
+
+@pytest.mark.parametrize("text", STRAIGHT)
 def test_what_only_seems_to_follow_where_all_is_straight_is_no_repeat(text):
     found = found_of(text)
     assert found.is_doubtful and found.repeats == () and found.solution is not None
+
+
+@pytest.mark.parametrize("text", STRAIGHT)
+def test_what_only_seems_to_follow_is_no_repeat_beside_a_contradiction(text):
+    found = found_of(text + "point Z 5 5\nOne: x Z 10\nOther: x Z 12\n")
+    assert (found.repeats, found.contradictions) == ((), (("Other", "One"),))
 
 
 def test_what_is_told_twice_repeats_though_the_rest_moves():

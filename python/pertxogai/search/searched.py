@@ -130,7 +130,7 @@ class Searched:
         told = Finding(rest.freedom.count, rest.freedom.motions.of_the_whole, True)
         if has_shrunk(self.equations, self.found.x):
             return told
-        return replace(told, repeats=self._groups(found.repeats),
+        return replace(told, repeats=self._groups(each for each in found.repeats if each.lasts),
                        contradictions=tuple(map(self._names, found.contradictions)),
                        in_doubt=tuple(map(self._names, found.in_doubt)))
 
