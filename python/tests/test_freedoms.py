@@ -2,10 +2,14 @@
 out by hand."""
 from __future__ import annotations
 
+from decimal import Decimal
+
 import pytest
 
 from pertxogai.drawing import read_drawing
-from pertxogai.judging.freedoms import freedoms
+from pertxogai.judging.freedoms import Freedoms, Whole, freedoms
+from pertxogai.judging.jets import EXACT
+from pertxogai.spelling.facts import Owner
 
 TRIANGLE = ("segment A 0 0 40 2/segment B A.end 38 30/segment C B.end A.start/"
             "length A 40/length B 30/length C 45")
@@ -42,3 +46,13 @@ TRIANGLE = ("segment A 0 0 40 2/segment B A.end 38 30/segment C B.end A.start/"
 def test_what_is_free(words, lacks, whole):
     found = freedoms(read_drawing(words.replace("/", "\n") + "\n"))
     assert (found.lacks, found.whole.text()) == (lacks, whole)
+
+
+def test_what_cancels_but_for_rounding_follows_from_nothing():
+    """Of constraint 1 the second equation follows from 2, and the first from 4, with 2 or with 3. Without 4 it follows
+    from neither: it isn't in thrice the first set less the second, but for the rounding of a third."""
+    one, owners = Decimal(1), (Owner(4), Owner(1), Owner(1), Owner(2), Owner(3))
+    circuits = ({0: one, 1: EXACT.divide(one, Decimal(3)), 3: one}, {0: Decimal(3), 1: one, 4: one}, {2: one, 3: one})
+    free = Freedoms(0, Whole(False, False, 0, False), (), owners, circuits, None)
+    assert free.follows(1, {Owner(2), Owner(3), Owner(4)})
+    assert not free.follows(1, {Owner(2), Owner(3)})

@@ -151,7 +151,8 @@ class Freedoms:
                     else place: value for place, value in circuit.items()})
                 if left <= NONE:
                     mine.append({-1 - key: value for key, value in rest.items()
-                                 if key < 0 and self.owners[-1 - key] == Owner(number)})
+                                 if key < 0 and abs(value) > SOME
+                                 and self.owners[-1 - key] == Owner(number)})
             return rank(mine) == self.equations(number)
 
     def among(self) -> frozenset[Owner]:
