@@ -1083,3 +1083,11 @@ def test_of_sizes_that_another_contradicts_the_later_alone_is_redundant(words, a
     """Without both of them the size would be the third, which is another."""
     found = judge(read_drawing(HOLES + words), program)
     assert found.verdict is Verdict.OVER and found.repeats == (again,)
+
+
+def test_nothing_is_redundant_since_it_holds_of_an_edge_that_the_rest_leaves_no_length(program):
+    """Both ends of S are told to be at 40, 0."""
+    found = judge(read_drawing(
+        "segment S 40 1 50 6\nx S.start 40\ny S.start 0\nx S.end 40\ny S.end 0\nLean: angle S 30deg\n"), program)
+    assert found.verdict is Verdict.OVER and "Lean" in {each.name for each in found.surplus}
+    assert not any(each.repeats() for each in found.surplus)

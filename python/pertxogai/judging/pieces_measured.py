@@ -39,9 +39,14 @@ def is_lost_in_pieces(drawing: Drawing, number: int, asked: Trial, program: Solv
     """Whether an edge that is drawn with a length has none on the piece on which a constraint is
     measured, and so has any direction. Raises ProgramError."""
     for solution, _ in _measured(drawing, drawing.constraints[number - 1], asked, program):
-        edges = (each for each in drawing.geometry if isinstance(each, Segment))
-        return any(_is_lost(drawing, solution, each) for each in edges)
+        return has_lost(drawing, solution)
     return False
+
+
+def has_lost(drawing: Drawing, solution: Solution) -> bool:
+    """Whether an edge that is drawn with a length has none on some places."""
+    edges = (each for each in drawing.geometry if isinstance(each, Segment))
+    return any(_is_lost(drawing, solution, each) for each in edges)
 
 
 def _is_lost(drawing: Drawing, solution: Solution, edge: Segment) -> bool:

@@ -18,7 +18,7 @@ from pertxogai.judging.measure.deviation import Deviation, Unit, greatest, worst
 from pertxogai.judging.measure.limit import Limit, amount_text
 from pertxogai.judging.measure.measuring import measure, measure_one
 from pertxogai.judging.naming import quoted
-from pertxogai.judging.pieces_measured import is_lost_in_pieces, off_in_pieces
+from pertxogai.judging.pieces_measured import has_lost, is_lost_in_pieces, off_in_pieces
 from pertxogai.judging.remembering import Remembering
 from pertxogai.judging.roundings import (
     most_by_rounding, moved_by_rounding, rounded_lines)
@@ -368,10 +368,12 @@ class _Trials:
         return tried
 
     def _is_lost(self, number: int, gone: frozenset[int]) -> bool:
-        """Whether a constraint was measured on a piece of which an edge has come to nothing."""
+        """Whether a constraint was measured where an edge has come to nothing."""
         asked = self._without(gone)
-        return (asked.verdict is Verdict.OPEN
-                and is_lost_in_pieces(self.drawing, number, asked, self.program))
+        if asked.verdict is Verdict.OPEN:
+            return is_lost_in_pieces(self.drawing, number, asked, self.program)
+        return isinstance(asked.solved, Solved) and has_lost(
+            self.drawing, solution_of(without(self.drawing, gone), asked, asked.solved))
 
     def _measured_finely(self, number: int, off: Deviation,
                          gone: frozenset[int]) -> tuple[Trial, Deviation]:
