@@ -1091,3 +1091,19 @@ def test_nothing_is_redundant_since_it_holds_of_an_edge_that_the_rest_leaves_no_
         "segment S 40 1 50 6\nx S.start 40\ny S.start 0\nx S.end 40\ny S.end 0\nLean: angle S 30deg\n"), program)
     assert found.verdict is Verdict.OVER and "Lean" in {each.name for each in found.surplus}
     assert not any(each.repeats() for each in found.surplus)
+
+
+BOTH_SIDES = ("point A 0 0\npoint B 48 0\npoint C 20 -20\ncoincident A Origin\non B XAxis\nx B +50\n"
+              "distance A C 30\ndistance B C 40\nx C +18\nUp: y C +24\n")
+"""C is at 18, 24: so it is 30 from A, and 40 from B, which is 50 from A."""
+
+
+@pytest.mark.parametrize("more", ["", "point L 70 70\nx L 70\n"], ids=["whole", "beside a loose point"])
+def test_what_holds_with_all_others_somewhere_conflicts_with_none(program, more):
+    """By the two distances alone C is placed on the side on which it is drawn, 48 from there."""
+    found = judge(read_drawing(BOTH_SIDES + more), program)
+    assert found.verdict is Verdict.OVER and found.free is not None and found.free.excess == 2
+    assert {each.name: each.repeats() for each in found.surplus}["Up"] is None
+    assert not any(each.repeats() is False for each in found.surplus)
+    against = judge(read_drawing(BOTH_SIDES.replace("x C +18", "x C +19") + more), program)
+    assert any(each.repeats() is False for each in against.surplus)

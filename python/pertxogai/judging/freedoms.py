@@ -139,6 +139,16 @@ class Freedoms:
         """Whether nothing more is free without a constraint, beside some that have gone."""
         return self.freed([*gone, number]) == self.freed(gone)
 
+    def company(self, number: int) -> frozenset[int]:
+        """The constraints that take part with this one in what is too many, and those that do so
+        with one of these, in turn."""
+        left = [{self.owners[place] for place in circuit} for circuit in self.circuits]
+        found = {Owner(number)}
+        while met := [each for each in left if not found.isdisjoint(each)]:
+            found.update(*met)
+            left = [each for each in left if each not in met]
+        return frozenset(owner.number for owner in found if not owner.shape)
+
     def follows(self, number: int, others: Collection[Owner]) -> bool:
         """Whether all that a constraint asks follows from what others and the shapes ask. Raises
         TooMany."""

@@ -1,7 +1,7 @@
 """How far a constraint is off on one placed piece of a drawing that is open."""
 from __future__ import annotations
 
-from collections.abc import Iterator, Mapping
+from collections.abc import Collection, Iterator, Mapping
 from contextlib import suppress
 
 from pertxogai.drawing import (
@@ -12,6 +12,8 @@ from pertxogai.exact import square
 from pertxogai.judging.edges import LEAST_NM
 from pertxogai.judging.measure.amounts import amounts
 from pertxogai.judging.measure.deviation import Deviation, Unit
+from pertxogai.judging.measure.limit import Limit
+from pertxogai.judging.measure.measuring import measure_one
 from pertxogai.judging.measure.placed import Placed
 from pertxogai.judging.measure.solution import Frame, MissingPlace, PointNm, Solution
 from pertxogai.judging.printed import PrintedPlaces
@@ -49,6 +51,22 @@ def has_lost(drawing: Drawing, solution: Solution) -> bool:
     return any(_is_lost(drawing, solution, each) for each in edges)
 
 
+def are_met_in_a_piece(drawing: Drawing, numbers: Collection[int], asked: Trial, program: Solver,
+                       limit: Limit) -> bool:
+    """Whether some constraints, by their places, hold on one placed piece. Raises ProgramError."""
+    return any(_are_met(piece, numbers, limit) for piece in _pieces(drawing, asked, program))
+
+
+def _are_met(piece: _Piece, numbers: Collection[int], limit: Limit) -> bool:
+    """Whether some constraints hold on a piece that has all that they speak of."""
+    drawing, solution = piece.drawing, piece.solution()
+    with suppress(MissingPlace):
+        return all(piece.lies_as_needed(drawing.constraints[number - 1])
+                   and not any(limit.beyond(measure_one(drawing, solution, number)))
+                   for number in numbers)
+    return False
+
+
 def _is_lost(drawing: Drawing, solution: Solution, edge: Segment) -> bool:
     """Whether an edge has no length on some places, and is drawn with one."""
     start, end = (PointRef(edge.name, which) for which in (Which.START, Which.END))
@@ -63,15 +81,20 @@ def _measured(drawing: Drawing, constraint: Constraint, asked: Trial,
               program: Solver) -> Iterator[tuple[Solution, int]]:
     """Each placed piece that has all that a constraint speaks of, and how far it is off there, in
     nanometres."""
+    for piece in _pieces(drawing, asked, program):
+        with suppress(MissingPlace):
+            if piece.lies_as_needed(constraint):
+                solution = piece.solution()
+                off_nm = amounts(Placed(drawing, solution), constraint)[0]
+                yield solution, off_nm
+
+
+def _pieces(drawing: Drawing, asked: Trial, program: Solver) -> Iterator[_Piece]:
+    """The pieces that the program has placed. Raises ProgramError."""
     report = read_parts(written_by(program, "parts", asked.spelled.sketch.text()))
     for part in report.parts:
         if isinstance(part.shape, Solved):
-            piece = _Piece(drawing, asked, PrintedPlaces.of(part.shape.places, asked.spelled.scale))
-            with suppress(MissingPlace):
-                if piece.lies_as_needed(constraint):
-                    solution = piece.solution()
-                    off_nm = amounts(Placed(drawing, solution), constraint)[0]
-                    yield solution, off_nm
+            yield _Piece(drawing, asked, PrintedPlaces.of(part.shape.places, asked.spelled.scale))
 
 
 class _Piece:

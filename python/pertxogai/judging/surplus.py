@@ -18,7 +18,8 @@ from pertxogai.judging.measure.deviation import Deviation, Unit, greatest, worst
 from pertxogai.judging.measure.limit import Limit, amount_text
 from pertxogai.judging.measure.measuring import measure, measure_one
 from pertxogai.judging.naming import quoted
-from pertxogai.judging.pieces_measured import has_lost, is_lost_in_pieces, off_in_pieces
+from pertxogai.judging.pieces_measured import (
+    are_met_in_a_piece, has_lost, is_lost_in_pieces, off_in_pieces)
 from pertxogai.judging.remembering import Remembering
 from pertxogai.judging.roundings import (
     most_by_rounding, moved_by_rounding, rounded_lines)
@@ -131,7 +132,7 @@ def what_may_go(question: Question, asked: Trial) -> tuple[Surplus, ...]:
         trials.try_all(numbers)
     untried = [number for number in numbers if number not in trials.found]
     found = [*trials.found.values(), *untried_surplus(drawing, untried)]
-    return tuple(sorted(_consistent(found, free.excess, trials.idle), key=_order))
+    return tuple(sorted(_consistent(found, free.excess, trials), key=_order))
 
 
 def untried_surplus(drawing: Drawing, numbers: Iterable[int]) -> tuple[Surplus, ...]:
@@ -155,14 +156,14 @@ def _is_corner(drawing: Drawing, number: int) -> bool:
     return isinstance(joins, Coincident) and ORIGIN not in (joins.first, joins.second)
 
 
-def _consistent(found: Sequence[Surplus], excess: int,
-                idle: Collection[int]) -> Iterator[Surplus]:
-    """What may go. Where one alone is too much and one repeats the rest, so do all: one that is
-    off by more is so on another shape of its rest, and that isn't told; nor is what idle ones are
-    off, by their places."""
+def _consistent(found: Sequence[Surplus], excess: int, trials: _Trials) -> Iterator[Surplus]:
+    """What may go. Where one alone is too much and one repeats the rest, so do all; so does what
+    holds together somewhere: one that is off by more is so on another shape of its rest, and that
+    isn't told; nor is what idle ones are off."""
     repeats = excess == 1 and any(each.repeats() for each in found)
     for each in found:
-        is_told = each.number not in idle and not (repeats and each.repeats() is False)
+        elsewhere = each.repeats() is False and (repeats or each.number in trials.met)
+        is_told = not elsewhere and each.number not in trials.idle
         yield each if is_told else replace(each, off=None, rounding=0)
 
 
@@ -221,13 +222,15 @@ class _Trials:
     """A drawing that is over, tried without some of its constraints: each rest once, as that of a
     line that stands many times. found: what may go, by its place. idle: the places of those that
     hold where another of the rest is off, which says nothing, as of the direction of an edge that
-    has shrunk to nothing."""
+    has shrunk to nothing. met: those that hold somewhere with all that they take part with in what
+    is too many."""
 
     def __init__(self, question: Question, free: Freedoms) -> None:
         self.drawing, self.free, self.limit = question.drawing, free, question.limit
         self.program = _Counted(Remembering(question.program))
         self.found: dict[int, Surplus] = {}
         self.idle: set[int] = set()
+        self.met: set[int] = set()
         self._known: dict[tuple[Constraint, ...], Trial] = {}
         self._fine: dict[tuple[Constraint, ...], Trial] = {}
         self._stay: frozenset[int] = frozenset()
@@ -362,10 +365,25 @@ class _Trials:
         return self._noted(replace(tried, off=off, rounding=rounding), gone)
 
     def _noted(self, tried: Surplus, gone: frozenset[int]) -> Surplus:
-        """The same, noted where it holds idly."""
-        if tried.repeats() and (self._beyond(gone) or self._is_lost(tried.number, gone)):
+        """The same, noted where it holds idly, or with all that it takes part with."""
+        if not tried.repeats():
+            return tried
+        if self._beyond(gone) or self._is_lost(tried.number, gone):
             self.idle.add(tried.number)
+        elif tried.beside and self._are_met(company := self.free.company(tried.number), gone):
+            self.met |= company
         return tried
+
+    def _are_met(self, numbers: Collection[int], gone: frozenset[int]) -> bool:
+        """Whether some constraints hold on the places of a rest, or on one piece of it."""
+        asked = self._without(gone)
+        if asked.verdict is Verdict.OPEN:
+            return are_met_in_a_piece(self.drawing, numbers, asked, self.program, self.limit)
+        if not isinstance(asked.solved, Solved):
+            return False
+        places = solution_of(without(self.drawing, gone), asked, asked.solved)
+        return not any(any(self.limit.beyond(measure_one(self.drawing, places, each)))
+                       for each in numbers)
 
     def _is_lost(self, number: int, gone: frozenset[int]) -> bool:
         """Whether a constraint was measured where an edge has come to nothing."""
