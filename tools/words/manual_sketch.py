@@ -11,10 +11,12 @@ SAYS = (
     "A rigid cluster is a group of elements that hold each other in place. At first each constraint is one. Clusters that"
     " share enough elements are merged, until no two or three of them can be. So a sketch that is fully constrained ends as"
     " one rigid cluster.",
-    "Each answer is proved, for every sketch that parses. The printed clusters don't depend on the order in which they were"
-    " merged, and no more of them can be merged. A cluster of n elements is called over-constrained if and only if it has"
-    " more than 2n - 3 constraints, where a block of k points counts as 2k - 3. The printed coordinates meet each constraint"
-    " within the printed tolerance and in the drawn orientations, else the first failing step, line or constraint is named.",
+    "The following is proved for every sketch that parses, unless memory runs out, or input or output fails. The proof is about"
+    " bytes in memory; for standard input and output an argument and tests take its place. The clusters that `check` prints"
+    " don't depend on the order in which they were merged, and no more of them can be merged. A cluster of n >= 2 elements is"
+    " called over-constrained if and only if it has more than 2n - 3 constraints, where a block of k points counts as 2k - 3."
+    " The coordinates that `solve` prints for a fully constrained sketch meet each constraint within the printed tolerance and"
+    " in the drawn orientations; if there are none, one line names what fails first.",
 )
 VERDICTS = (
     ("well", "fully constrained. This is a count and looks at no length. If the lengths don't fit, `solve` names the step,"
