@@ -88,14 +88,14 @@ class Package:
 
 RUNTIME = Package(
     "libpertxogai-sketch1", "libs",
-    """solver for planar CAD sketches whose every answer is proved (library)
+    """proved solver for planar CAD sketches (library)
  The library libsketch tells whether the dimensions of a drawing are just as many
  as fix it, too many or too few, and places it in whole nanometres. It has one
  call, keeps no state, and asks the C library for memory alone.""",
     "Depends: libc6 (>= {c})", (f"{USR / LIBRARIES}/libsketch.so.*",), is_library=True)
 DEVELOPMENT = Package(
     "libpertxogai-sketch-dev", "libdevel",
-    """solver for planar CAD sketches whose every answer is proved (development)
+    """proved solver for planar CAD sketches (development)
  The header sketch.h, the static library, and what pkg-config reads, to link
  libsketch into programs in C and C++. The package pertxogai has the page on
  it (docs/EMBEDDING.md) and examples in C.""",
@@ -104,7 +104,7 @@ DEVELOPMENT = Package(
      f"{USR / LIBRARIES}/pkgconfig"))
 MAIN = Package(
     "pertxogai", "graphics",
-    """solver for planar CAD sketches whose every answer is proved
+    """proved solver for planar CAD sketches
  The program sketch tells whether the dimensions of a drawing are just as many
  as fix it, too many or too few, places it in whole nanometres, and says how
  exactly. The command pertxogai reads drawings in a designer's words and files
