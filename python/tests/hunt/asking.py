@@ -7,19 +7,32 @@ import os
 import signal
 import tempfile
 import traceback
-from collections.abc import Iterator
-from contextlib import contextmanager, redirect_stderr, redirect_stdout
+from collections.abc import Callable, Iterator
+from contextlib import (
+    AbstractContextManager, ExitStack, contextmanager, nullcontext, redirect_stderr,
+    redirect_stdout)
 from dataclasses import dataclass, field
 from pathlib import Path
-from types import FrameType
+from types import FrameType, ModuleType
 from typing import Any
+from unittest.mock import patch
 
 from pertxogai.commands import judging, main
+from pertxogai.judging import groups, judgement, missing
 from pertxogai.program import Solver
 
 SECONDS = float(os.environ.get("HUNT_SECONDS", "60"))
 """An answer takes no more of a processor, or is none: on a machine that does something else besides,
 the clock says nothing. The program has a limit of its own."""
+
+UNCOMPARED: tuple[tuple[ModuleType, str, Callable[..., Any]], ...] = (
+    (judging, "_proposals", lambda judged, program: ()),
+    (judgement, "with_choices", lambda judged, program: judged),
+    (missing, "unmet", lambda drawing: None),
+    (groups, "groups_of", lambda *_, **__: {}),
+)
+"""What would complete a drawing, other choices of its steps, what an impossible one would need, and
+the groups behind what may go: no part of these is compared with what is true."""
 
 
 class Late(BaseException):
@@ -52,16 +65,17 @@ class Answer:
 
 
 def asked(text: str, seconds: float = SECONDS, search: bool = True,
-          solver: Solver | None = None) -> Answer:
+          solver: Solver | None = None, all_of_it: bool = True) -> Answer:
     """What `judge --json` says of a drawing's text, with or without the search, by the program, or
-    by another solver such as the library in C within this process, which is quicker."""
+    by another solver such as the library in C within this process, which is quicker; all of it, or
+    what is compared alone, which is quicker still."""
     words = [] if search else ["--no-search"]
-    with tempfile.TemporaryDirectory() as room:
+    with tempfile.TemporaryDirectory() as room, _by(solver), _whole(all_of_it):
         path = Path(room) / "part.drawing"
         path.write_text(text)
         out, err = io.StringIO(), io.StringIO()
         try:
-            with _by(solver), _within(seconds), redirect_stdout(out), redirect_stderr(err):
+            with _within(seconds), redirect_stdout(out), redirect_stderr(err):
                 status = main(["judge", "--json", *words, str(path)])
         except Late:
             return Answer(None, late=True)
@@ -71,16 +85,20 @@ def asked(text: str, seconds: float = SECONDS, search: bool = True,
     return Answer(int(status), said, err.getvalue().strip())
 
 
-@contextmanager
-def _by(solver: Solver | None) -> Iterator[None]:
+def _by(solver: Solver | None) -> AbstractContextManager[Any]:
     """Has `judge` ask a solver in place of the program, where one is named."""
-    of_words = judging.program_of
-    if solver is not None:
-        judging.program_of = lambda _: solver  # type: ignore[assignment, return-value]
-    try:
+    if solver is None:
+        return nullcontext()
+    return patch.object(judging, "program_of", lambda _: solver)
+
+
+@contextmanager
+def _whole(all_of_it: bool) -> Iterator[None]:
+    """Has `judge` leave out what is compared with nothing, unless all is wanted."""
+    with ExitStack() as changed:
+        for module, name, instead in () if all_of_it else UNCOMPARED:
+            changed.enter_context(patch.object(module, name, instead))
         yield
-    finally:
-        judging.program_of = of_words
 
 
 @contextmanager
