@@ -228,6 +228,23 @@ def test_values_of_the_gallery_are_those_that_are_drawn(name, line, program):
     assert isinstance(found, Completion) and line in [each.line() for each in found.proposals]
 
 
+AWAY = "segment S 21 9 87 57\ncoincident S.start Origin\n"
+"""The rough drawing lies away from the origin that one of its points is told to be. S runs 66 to the
+right and 48 up: the root of 6660, 81.608, at 36.027 degrees."""
+
+
+@pytest.mark.parametrize("text, own, datum", [
+    ("rectangle P 21 9 87 57\ncoincident PBottom.start Origin\n",
+     ["length PBottom 66", "length PRight 48"], []),
+    (AWAY, ["length S 81.61"], ["angle S +36.03deg"]),
+])
+def test_an_edge_is_as_long_as_it_is_drawn_where_an_end_is_told_to_be_elsewhere(
+        text, own, datum, program):
+    found = complete(read_drawing(text), program)
+    assert isinstance(found, Completion)
+    assert ([each.line() for each in found.proposals], [each.line() for each in found.datum]) == (own, datum)
+
+
 def test_the_whole_is_tied_by_an_edge_that_is_drawn_level(program):
     # A is drawn along the x axis, and C is the longest; the lengths turn both a little.
     sides = TRIANGLE.replace("coincident A.start Origin\nhorizontal A\n", "")

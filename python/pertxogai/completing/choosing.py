@@ -12,7 +12,7 @@ import numpy as np
 from pertxogai.cached import cached_on
 from pertxogai.completing.dimensions import (
     ORDERS, Kind, base_of, dimensions, run_x, run_y, size_of, ties)
-from pertxogai.completing.figure import Figure
+from pertxogai.completing.figure import Figure, Sketched
 from pertxogai.completing.relations import NEAR_DEGREES, Relation, levels, relations
 from pertxogai.completing.slack import Demand, Slack, Remaining
 from pertxogai.completing.turns import Asked, Turns
@@ -171,7 +171,7 @@ def tied(slack: Slack, remaining: Remaining) -> tuple[Constraint, ...] | None:
     """What ties the whole of a placed drawing, where it is drawn, once some of its slack is taken;
     None where something is left free."""
     datum = list[Constraint]()
-    drawn = Figure(slack.drawing)
+    drawn = Sketched(slack.drawing)
     for some in ties(drawn) if remaining.count() and drawn.points else ():
         for each, demand in slack.demands(some):
             more = remaining.after(demand, ties_the_whole=True)

@@ -10,7 +10,7 @@ from pertxogai.completing.trials import Trials, State
 from pertxogai.completing.choosing import (
     SECONDS, TASTES, Choice, Left, Relate, Taste, candidates, choose, choose_places, tied,
     with_more, with_relations)
-from pertxogai.completing.figure import Figure
+from pertxogai.completing.figure import Figure, Sketched
 from pertxogai.completing.proposal import Completion, NoProposal, Proposal, WhyNot
 from pertxogai.completing.slack import Slack, Remaining
 from pertxogai.completing.from_program import Words
@@ -154,7 +154,7 @@ def _by_rank(slack: Slack, taste: Taste, trials: Trials) -> Iterator[Choice]:
 def _as_drawn(slack: Slack, tight: Constraint) -> Slack | None:
     """A drawing with a dimension that has the value as drawn; None where that is near the given
     one, or no places are found."""
-    drawn = as_drawn(tight, Figure(slack.drawing))
+    drawn = as_drawn(tight, Sketched(slack.drawing))
     if drawn is None or is_near(tight, drawn):
         return None
     return Slack.of(with_more(slack.drawing, [drawn]), SECONDS)

@@ -94,6 +94,15 @@ class Figure:
         return (pair.first, pair.second) if pair else None
 
 
+class Sketched(Figure):
+    """A drawing as it is drawn. An edge has the length and the direction that it is drawn with,
+    also where one of its ends is told to be a point that is drawn elsewhere, as the origin."""
+
+    def way(self, edge: Segment) -> complex:
+        start, end = map(self.drawing.drawn, ends(edge))
+        return complex(end.x_um - start.x_um, end.y_um - start.y_um)
+
+
 def ends(edge: Segment | Arc) -> tuple[PointRef, PointRef]:
     """The start and the end of an edge."""
     return PointRef(edge.name, Which.START), PointRef(edge.name, Which.END)

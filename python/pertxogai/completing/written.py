@@ -9,14 +9,13 @@ from dataclasses import dataclass, replace
 from pertxogai.completing.choosing import Choice, with_more
 from pertxogai.completing.dimensions import (
     angles_of, direction, height_of, nothing_um, run_x, run_y, size_of)
-from pertxogai.completing.figure import LEAST_UM, Figure
+from pertxogai.completing.figure import LEAST_UM, Figure, Sketched
 from pertxogai.completing.slack import Slack
 from pertxogai.completing.trials import Trials, Valued
 from pertxogai.completing.values import round_um
 from pertxogai.drawing import (
     ORIGIN, X_AXIS, Y_AXIS, AngleBetween, Coincident, Constraint, Diameter, Distance, Drawing,
-    Length, PointLineDistance, PointOn, PointRef, Radius, Segment, Sense, ShapeRef, Which,
-    XDistance, YDistance)
+    Length, PointLineDistance, PointOn, Radius, Segment, Sense, ShapeRef, XDistance, YDistance)
 from pertxogai.search.solving import scaled
 
 SAME_SCALE = 2.0
@@ -97,7 +96,7 @@ def as_written(slack: Slack, choice: Choice) -> Choice:
     scale."""
     if scaled(slack.equations, SAME_SCALE) is not slack.equations.drawn:
         return choice
-    drawn = Figure(with_more(slack.drawing, choice.own))
+    drawn = Sketched(with_more(slack.drawing, choice.own))
     return replace(choice, own=tuple(as_drawn(each, drawn) or each for each in choice.own))
 
 
@@ -107,10 +106,11 @@ def as_drawn(dimension: Constraint, drawn: Figure) -> Constraint | None:
     match dimension:
         case Diameter(rim) | Radius(rim):
             return size_of(drawn, rim.name)
-        case Length(edge):
-            return _apart(dimension, drawn, *_ends(edge))
+        case Length(line):
+            edge = _edge(drawn, line)
+            return None if edge is None else _long(dimension, drawn, drawn.length_um(edge))
         case Distance(first, second):
-            return _apart(dimension, drawn, first, second)
+            return _long(dimension, drawn, drawn.apart_um(first, second))
         case XDistance() | YDistance():
             return _run(dimension, drawn)
         case PointLineDistance(point, line):
@@ -130,17 +130,11 @@ def is_near(dimension: Constraint, other: Constraint) -> bool:
     return abs(other.value_um - dimension.value_um) <= NEAR_PART * abs(dimension.value_um)
 
 
-def _ends(edge: ShapeRef) -> tuple[PointRef, PointRef]:
-    return PointRef(edge.name, Which.START), PointRef(edge.name, Which.END)
-
-
-def _apart(dimension: Length | Distance, drawn: Figure, first: PointRef,
-           second: PointRef) -> Constraint | None:
-    """How far two points are drawn apart; None where that is nothing."""
-    apart_um = drawn.apart_um(first, second)
-    if apart_um <= nothing_um(drawn):
+def _long(dimension: Length | Distance, drawn: Figure, long_um: float) -> Constraint | None:
+    """The same with another length; None where that is nothing."""
+    if long_um <= nothing_um(drawn):
         return None
-    return replace(dimension, value_um=round_um(apart_um))
+    return replace(dimension, value_um=round_um(long_um))
 
 
 def _run(dimension: XDistance | YDistance, drawn: Figure) -> Constraint | None:

@@ -366,8 +366,8 @@ def _freeze(question: Question, asked: Trial) -> Trial:
 
 def _worth(question: Question, asked: Trial) -> tuple[int, bool, int, int]:
     """What is well and placed before what is well, then what is over, then what leaves less out,
-    then the fewer parts. What is well by its count alone comes behind what is over; what is over, or
-    has no places, by what is presumed alone, behind all."""
+    then the fewer parts. What is well by its count alone comes behind what is over; what is over,
+    or has no places, by what is presumed alone, behind all."""
     order = {Verdict.WELL: 3, Verdict.OVER: 2, Verdict.OPEN: 0}
     is_placed = isinstance(asked.solved, Solved)
     worth = order[asked.verdict]
