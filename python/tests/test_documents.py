@@ -135,6 +135,27 @@ def test_how_much_a_reader_of_the_headline_has_to_read() -> None:
     assert listed[-1].startswith(f"{len(files)} files of definitions, {lines} lines, ")
 
 
+def definitions_of(*asked: str) -> set[str]:
+    """The words that the tool prints: files, numbers of lines, and those of its last line."""
+    told = subprocess.run([str(TOP / "tools/definitions"), *asked], capture_output=True, text=True, check=True)
+    return set(told.stdout.split())
+
+
+def test_a_theorem_is_counted_with_its_premises_and_a_file_with_itself() -> None:
+    conclusion = "crates/sk_laws/specs/Headline.antt"
+    premises = {"crates/sk_cli/specs/Outcome.antt", "crates/sk_request/specs/Asking.antt"}
+    assert {conclusion, *premises} <= definitions_of("sk_laws", "src/law.rt", "headline")
+    alone = definitions_of("sk_laws", "specs/Headline.antt")
+    assert conclusion in alone and not premises & alone
+
+
+def test_the_definitions_of_an_unknown_function_are_refused() -> None:
+    asked = [str(TOP / "tools/definitions"), "sk_laws", "src/law.rt", "nothing"]
+    told = subprocess.run(asked, capture_output=True, text=True, check=False)
+    refusal = "tools/definitions: crates/sk_laws/src/law.rt has no function nothing\n"
+    assert (told.returncode, told.stdout, told.stderr) == (1, "", refusal)
+
+
 def test_what_the_claims_rest_on_is_counted() -> None:
     """Those of the headline are counted, and those of a theorem that the page of claims alone links;
     the page says how many."""
