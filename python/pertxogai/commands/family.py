@@ -10,13 +10,14 @@ import hashlib
 import sys
 from collections import Counter, deque
 from collections.abc import Iterator
-from concurrent.futures import Future, ProcessPoolExecutor
-from concurrent.futures.process import BrokenProcessPool
+from concurrent.futures import Future
 from dataclasses import dataclass
+from functools import partial
 from itertools import chain
 from pathlib import Path
 
 from pertxogai.commands.judging import chosen
+from pertxogai.commands.processes import processes
 from pertxogai.commands.solvers import solver_of
 from pertxogai.commands.variants import Table, Variant, drawing_of
 from pertxogai.commands.verdicts import Begun, Told, Verdicts, verdicts
@@ -132,16 +133,12 @@ def _told(task: Task, variants: Iterator[Variant], options: argparse.Namespace) 
         yield from (tell(task, program, each) for each in variants)
         return
     waiting: deque[Future[Told]] = deque()
-    try:
-        with ProcessPoolExecutor(options.jobs, initializer=_begin, initargs=(task, plain)) as pool:
-            for each in chain(variants, [None] * (AHEAD * options.jobs)):
-                if each is not None:
-                    waiting.append(pool.submit(_tell, each))
-                if waiting and (each is None or len(waiting) > AHEAD * options.jobs):
-                    yield waiting.popleft().result()
-    except BrokenProcessPool:
-        raise CommandError("a process that judges was killed, perhaps because memory ran out: "
-                           "try again with --jobs 1") from None
+    with processes(options.jobs, partial(_begin, task, plain)) as pool:
+        for each in chain(variants, [None] * (AHEAD * options.jobs)):
+            if each is not None:
+                waiting.append(pool.submit(_tell, each))
+            if waiting and (each is None or len(waiting) > AHEAD * options.jobs):
+                yield waiting.popleft().result()
 
 
 _at_work: list[tuple[Task, Solver]] = []

@@ -10,14 +10,13 @@ import json
 import sys
 from collections import Counter
 from collections.abc import Iterator, Sequence
-from concurrent.futures import ProcessPoolExecutor
-from concurrent.futures.process import BrokenProcessPool
 from dataclasses import dataclass
 from functools import partial
 from pathlib import Path
 
 from pertxogai.commands.judging import (
     REFUSALS, SAID, file_json, outcome_of, program_of, refusal, refusal_json)
+from pertxogai.commands.processes import processes
 from pertxogai.exits import CommandError, Exit
 from pertxogai.files.kinds import read_inputs
 from pertxogai.files.printable import printable
@@ -59,12 +58,8 @@ def _judge_each(options: argparse.Namespace) -> Iterator[JudgedFile]:
     if options.jobs == 1:
         yield from map(act, options.file)
         return
-    try:
-        with ProcessPoolExecutor(min(options.jobs, len(options.file))) as pool:
-            yield from pool.map(act, options.file)
-    except BrokenProcessPool:
-        raise CommandError("a process that judges was killed, perhaps because memory ran out: try "
-                           "again with --jobs 1") from None
+    with processes(min(options.jobs, len(options.file))) as pool:
+        yield from pool.map(act, options.file)
 
 
 def judged_file(path: Path, options: argparse.Namespace) -> JudgedFile:
