@@ -255,3 +255,32 @@ def test_a_sketch_that_would_take_long_is_not_asked_about(program: Program, monk
     judged = judge_sketch("square", SQUARE, program)  # One too many of six: 7 times 6.
     assert judged.why is None and judged.excess is not None
     assert not any("follows from" in line for line in sketch_lines(judged))
+
+
+ON_ONE_LINE = ("segment A 0 0 40 0\nsegment B 10 1 30 1\npoint P 20 0\ncoincident A.start Origin\nhorizontal A\n"
+               "length A 40\nlength B 20\nLine: collinear A B\nFirst: midpoint P A\nOther: midpoint P B\n")
+"""That B's middle lies on A is told twice. Without the line B may turn about P, without either middle it may slide."""
+UPRIGHT = ("segment Left 0 0 0 40\nsegment Right 100 0 102 40\ncoincident Left.start Origin\nvertical Left\n"
+           "Upright: vertical Right\nlength Left 40\nlength Right 40\nWidth: distance Left Right 100\n"
+           "y Right.start 0\nFar: x Right.end 105\n")
+"""Without its upright Right ends 105 from Left, and begins 100 from there."""
+
+
+@pytest.mark.parametrize("text, told", [
+    (ON_ONE_LINE, {name: (True, True, None) for name in ("Line", "First", "Other")}),
+    (UPRIGHT, {"Upright": (False, False, {"amount": 5_000_000, "unit": "nm", "of": "Width"}),
+               "Width": (False, False, None), "Far": (False, False, None)}),
+])
+def test_json_says_what_becomes_of_the_rest_and_what_follows_in_part(
+        text: str, told: dict[str, tuple[object, ...]], program: Program, tmp_path: Path,
+        capsys: pytest.CaptureFixture[str]) -> None:
+    path = tmp_path / "part.drawing"
+    path.write_text(text)
+    assert main(["judge", str(path), "--json", "--program", program.path]) == 1
+    sketch, = json.loads(capsys.readouterr().out)["sketches"]
+    spare = {each["name"]: each for each in sketch["spare"] if each["name"] in told}
+    assert {name: (each["in_part"], each["opens"], each["beyond"]) for name, each in spare.items()} == told
+    main(["judge", str(path), "--program", program.path])
+    lines = capsys.readouterr().out.splitlines()
+    groups = [line for line in lines if line.startswith("      ")]
+    assert {line.startswith("      in part ") for line in groups} == {each[0] for each in told.values()}

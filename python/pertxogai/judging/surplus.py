@@ -13,7 +13,7 @@ from pertxogai.drawing import ORIGIN, Coincident, Constraint, Drawing
 from pertxogai.drawing.places import NM_PER_UM
 from pertxogai.exact import whole_up
 from pertxogai.judging.finding import Finding, Group
-from pertxogai.judging.freedoms import Freedoms, Gone, freedoms
+from pertxogai.judging.freedoms import Freedoms, Gone, Twice, freedoms
 from pertxogai.judging.measure.deviation import Deviation, Unit, greatest, worst
 from pertxogai.judging.measure.limit import Limit, amount_text
 from pertxogai.judging.measure.measuring import measure, measure_one
@@ -70,6 +70,8 @@ class Surplus:
     """Those that it follows from, as the program names them, of those that by rank take part in
     something that is too many; none where it wasn't asked, or keeps it."""
     rounding: int = 0
+    in_part: bool = False
+    """Whether the others say only a part of it, by rank."""
     beside: frozenset[int] = frozenset()
     """The places of the others that were left out when it was measured, since more than one has to
     go. Its group is one without these."""
@@ -292,7 +294,8 @@ class _Trials:
         then = _then(self._without(frozenset({number}))) if beyond is None else Then.NOT_GOOD
         lacks = asked.verdict is Verdict.OPEN and (is_freed or not self.free.lacks)
         return self._noted(Surplus(number, self.drawing.called(number), off, then, self.limit,
-                                   beside=others, beyond=beyond, lacks=lacks), gone)
+                                   in_part=self.free.twice(number) is Twice.IN_PART, beside=others,
+                                   beyond=beyond, lacks=lacks), gone)
 
     def _beyond(self, gone: frozenset[int]) -> Deviation | None:
         """What is off the most where the rest without some constraints is placed, by more than the

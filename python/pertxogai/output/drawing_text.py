@@ -282,10 +282,11 @@ def _removable_lines(each: Surplus, judged: CountedDrawing) -> Iterator[str]:
     then = f"; without it the rest is {rest}" if rest else ""
     name = with_words(each.name, drawing.wordings[each.number - 1])
     yield f"    {name}{_off_text(each)}{then}"
+    follows = "in part " * each.in_part + FOLLOWS[each.repeats()]
     if each.others:
-        yield f"      {FOLLOWS[each.repeats()]}: {listed(each.others)}"
+        yield f"      {follows}: {listed(each.others)}"
     elif others := each.others_by_numbers(judged.finding):
-        yield f"      {FOLLOWS[each.repeats()]} (by numbers): {listed(others)}"
+        yield f"      {follows} (by numbers): {listed(others)}"
 
 
 def _off_text(each: Surplus) -> str:

@@ -150,8 +150,10 @@ def spare_json(each: Surplus) -> SpareJson:
 
 
 def _spare(judged: CountedDrawing) -> list[dict[str, object]]:
-    """What may go, each with its group by the program, or else by numbers."""
-    return [{**spare_json(each),
+    """What may go, each with its group by the program, or else by numbers; whether more is missing
+    then, and what of the rest isn't met."""
+    return [{**spare_json(each), "in_part": each.in_part, "opens": each.opens(),
+             "beyond": each.beyond and _deviation(each.beyond, judged.drawing),
              "follows_from_by_numbers": list(each.others_by_numbers(judged.finding))}
             for each in judged.judgement.surplus]
 
