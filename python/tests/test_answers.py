@@ -1078,9 +1078,12 @@ def test_what_has_no_places_only_if_an_edge_is_level_is_not_told_to_have_none(pr
 @pytest.mark.parametrize("words, again", [
     ("First: radius SW 5\nSecond: radius SW 5\nThird: radius SW 6\n", "Second"),
     ("First: radius SW 5\nPair: equal SW SE\nAgain: radius SE 5\nOther: radius SE 6\n", "Again"),
+    ("segment Wall 0 0 0 30\ncoincident Wall.start Origin\nvertical Wall\nlength Wall 30\ntangent Wall SW\n"
+     "Size: diameter SW 16\nFar: distance SW.centre Origin 14\n", "Size"),
 ])
 def test_of_sizes_that_another_contradicts_the_later_alone_is_redundant(words, again, program):
-    """Without both of them the size would be the third, which is another."""
+    """Without both of them the size would be the third, which is another; so would the place of SW, 8 from either axis
+    and 11.31 from where they meet, by which it touches the wall."""
     found = judge(read_drawing(HOLES + words), program)
     assert found.verdict is Verdict.OVER and found.repeats == (again,)
 

@@ -224,9 +224,11 @@ class Judgement:
         return repeats
 
     def _spelled_repeats(self) -> frozenset[Owner]:
-        """Who says again, and nothing more by rank, what is no line of a sketch."""
-        return frozenset(each for each in self.asked.axes.repeats()
-                         if self._twice(each) is not Twice.IN_PART)
+        """Who says again, and nothing more by rank, what is no line of a sketch. Where there are no
+        places another constraint may contradict those from which a size follows: by rank that one
+        stands for them, so the later alone are meant."""
+        found = self.asked.axes.repeats(later_alone=self.solution is None)
+        return frozenset(each for each in found if self._twice(each) is not Twice.IN_PART)
 
     @cached_property
     def too_many(self) -> tuple[tuple[str, ...], ...]:

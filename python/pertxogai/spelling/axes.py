@@ -153,21 +153,19 @@ class Axes:
         """How many equations and directions contradict the others."""
         return sum(bool(each.amount) for _, each in self.told) + len(self.conflicts())
 
-    def repeats(self) -> frozenset[Owner]:
+    def repeats(self, later_alone: bool = False) -> frozenset[Owner]:
         """The constraints that say only what follows already and is no line of a sketch: that a
         point is itself or lies on its own line, a direction that follows from others, a known
-        size; and of sizes those from which it follows, unless another one contradicts them."""
+        size; and of sizes those from which it follows, unless the later alone are asked for."""
         found = {*self.facts.repeats, *self.lines.repeats}
         more = {fact.owner for fact in self.facts.facts if not isinstance(fact, Leans)}
         found |= {leans.owner for leans in self.directions.told
                   if leans not in self.conflicts()} - more
         surplus = self.surplus()
-        against = {mark for _, told in surplus if told.amount for mark in told.marks}
         for equation, told in self.told:
             if (equation, told) not in surplus:
-                found |= equation.owners
-                found |= {owner for mark in told.marks - against
-                          for owner in self.equations[mark].owners}
+                marks = () if later_alone else told.marks
+                found |= equation.owners.union(*(self.equations[mark].owners for mark in marks))
         return frozenset(found)
 
     # -- frames
