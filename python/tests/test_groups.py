@@ -284,3 +284,17 @@ def test_json_says_what_becomes_of_the_rest_and_what_follows_in_part(
     lines = capsys.readouterr().out.splitlines()
     groups = [line for line in lines if line.startswith("      ")]
     assert {line.startswith("      in part ") for line in groups} == {each[0] for each in told.values()}
+
+
+LEANING = ("segment A 0.1 0.2 8 6\nsegment B A.end 12.8 4.6\nRise: y A.start A.end +6\nAside: distance B.end A 4\n"
+           "Long: length B 5\nAcross: distance A.start B.end sqrt(185)\nLow: y B.end 4.6\nx B.end 12.8\n"
+           "Lean: angle A +3/4\nHigh: y A.end 6\nCorner: angle A B 4/3\n")
+"""A is 10 long, rises 6, and B goes on from it, 3 along it and 4 aside."""
+
+
+def test_a_line_that_several_say_gives_none_of_them_a_group_from_which_it_does_not_follow(
+        program: Program) -> None:
+    """Two lengths and a corner tell how A and B lie to each other, and the height of one point nothing of how both
+    lean. So of these and the height of the other, or the rise and the way across, some are in the group."""
+    lean = others(judge(read_drawing(LEANING), program))["Lean"]
+    assert not lean or {"Low", "High"} <= lean or {"Rise", "Across"} <= lean

@@ -5,7 +5,8 @@ The group of a dimension is the least of the kept lines that it follows from: wi
 them it wouldn't. What has to go beside it is left out before it, so it is in no group. A line may
 be said by several of the designer's words; then all of them are named, but for those that by rank
 take no part in anything that is too much. Of what asks several equations the program may leave out
-one alone: then the group isn't that of the dimension, and there is none."""
+one alone, and of what is several lines, or a line together with others, one that is another's too:
+then the group isn't that of the dimension, and there is none."""
 from __future__ import annotations
 
 from collections.abc import Collection, Mapping, Sequence
@@ -53,10 +54,10 @@ def groups_of(names: Names, program: Solver, numbers: Mapping[int, Collection[in
 
 def _by_rank(names: Names, free: Freedoms, number: int,
              others: frozenset[Owner]) -> frozenset[Owner]:
-    """Those of a group that by rank take part in something that is too much; none where of the
-    several equations of a dimension, which all follow from others, not all follow from these and
-    from what is no line of the sketch."""
-    if len(free.factors(number)) > 1 and free.twice(number) is Twice.WHOLE:
+    """Those of a group that by rank take part in something that is too much; none where of a
+    dimension, all of which follows from others, not all follows from these and from what is no line
+    of the sketch."""
+    if free.twice(number) is Twice.WHOLE:
         silent = free.among().difference(*names.spelled.owners)
         with suppress(TooMany):
             if not free.follows(number, others | silent):
