@@ -560,3 +560,23 @@ def test_what_moves_nothing_by_itself_is_worst_at_the_end_that_others_make_so(pr
     arm, along = (100 - 19.7) * sin(lean), 100 * cos(lean)
     assert worst(aside) == rounded(along - arm + 119.4, along + arm + 120.6)
     assert aside.turning_numbers == (2,)
+
+
+STUB = ("segment S 0 0 {} 0\ncoincident S.start Origin\non S.end XAxis\nx S.end {}\npoint P 5 5\n"
+        "x P 5\ny P 5\nsegment T 0 0 5 5\ncoincident T.start Origin\ncoincident T.end P\n")
+"""A stub along x from the origin, and a bar that rises at 45 degrees to a point 5 above."""
+
+
+@pytest.mark.parametrize("check, least, greatest", [
+    ("D distance P S", 5, 5), ("D distance S T", 0, 5), ("D angle S T", 45, 45)])
+def test_from_a_segment_that_may_have_no_length_nothing_is_measured(check, least, greatest,
+                                                                    program) -> None:
+    # It is 0.1 long within 0.1, and may end where it begins; wherever it has a direction, that is
+    # the x axis.
+    found = fit(read_drawing(f"check {check} ..\n{STUB.format(0.1, '0.1 +-0.1')}"), program)
+    (there,), (why,) = found.known, found.unplaced
+    assert worst(there) == (least, greatest) and found.answer is Answer.UNSURE
+    assert "S, from which D is measured, has no length" in why
+    (there,) = fit(read_drawing(f"check {check} ..\n{STUB.format(0.1, '0')}"), program).checks
+    assert isinstance(there, UnknownFit)
+    assert there.why == "S, from which D is measured, has no length"

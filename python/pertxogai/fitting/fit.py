@@ -12,7 +12,7 @@ from pertxogai.drawing import Check, Drawing
 from pertxogai.fitting.corners import Corners, Worst
 from pertxogai.fitting.effects import Effect, effects
 from pertxogai.fitting.floating import floats
-from pertxogai.fitting.gauges import Gauge, NoSide
+from pertxogai.fitting.gauges import Gauge, NotMeasured
 from pertxogai.fitting.placing import Placer, Unplaced
 from pertxogai.fitting.results import (
     CheckedFit, Fit, Limits, NoFit, Range, Share, UnknownFit)
@@ -99,7 +99,7 @@ def _gauges(check: Check, good: GoodJudgement) -> Gauges | UnknownFit:
                                  f"can still be {whole.text()} (by rank)")
     try:
         return Gauge.of(check, good.drawing, good.solution)
-    except NoSide as why:
+    except NotMeasured as why:
         return UnknownFit(check, str(why))
 
 

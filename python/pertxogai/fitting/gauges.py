@@ -15,6 +15,7 @@ from pertxogai.exact import Number, Vector, between, cross, dot, root, square
 from pertxogai.fitting.rounding import NOISE, noise_of
 from pertxogai.fitting.toleranced import MILLIONTHS
 from pertxogai.judging.measure import PointNm, Solution
+from pertxogai.judging.measure.directions import Line
 from pertxogai.judging.measure.placed import Placed
 
 NOTHING = 20
@@ -30,8 +31,17 @@ Way = tuple[int, int]
 """The way from a point to another, in nanometres along the x axis and the y axis."""
 
 
-class NoSide(Exception):
-    """It isn't known on which side a check counts as more than 0. The message is one line."""
+class NotMeasured(Exception):
+    """A check can't be measured. The message is one line."""
+
+
+class NoSide(NotMeasured):
+    """It isn't known on which side a check counts as more than 0."""
+
+
+class NoLength(NotMeasured):
+    """A segment from which a check is measured has no length where it is placed, and so no
+    direction."""
 
 
 @dataclass(frozen=True)
@@ -54,11 +64,12 @@ class Gauge:
     @staticmethod
     def of(check: Check, drawing: Drawing, nominal: Solution) -> tuple[Gauge, ...]:
         """The gauges of a check of a drawing that is placed: one, or of two segments one for each
-        end. Raises NoSide."""
-        noise = noise_of(check.asked, Placed(drawing, nominal))
+        end. Raises NoSide and NoLength."""
         ends = range(2) if isinstance(check.asked, ParallelDistance) else range(1)
-        plain = [Gauge(check, drawing, end=end, noise=noise) for end in ends]
+        plain = [Gauge(check, drawing, end=end) for end in ends]
         there = sum(each.measured(nominal) for each in plain)
+        noise = noise_of(check.asked, Placed(drawing, nominal))
+        plain = [replace(each, noise=noise) for each in plain]
         if not check.is_signed and isinstance(check.asked, SIDED) and abs(there) <= NOTHING:
             return tuple(replace(each, sign=_drawn_sign(plain)) for each in plain)
         if isinstance(check.asked, AngleBetween):
@@ -81,7 +92,7 @@ class Gauge:
         return replace(self, sign=sign, of_the_rest=rest, near=there)
 
     def measured(self, solution: Solution) -> int:
-        """What it measures there, in millionths. Raises MissingPlace."""
+        """What it measures there, in millionths. Raises MissingPlace and NoLength."""
         asked, placed = self.check.asked, Placed(self.drawing, solution)
         if isinstance(asked, AngleBetween):
             return self._angle(asked, placed)
@@ -109,7 +120,7 @@ class Gauge:
             case Distance(first, second):
                 return root(square(between(placed.spot(first), placed.spot(second))))
             case PointLineDistance(point, line):
-                return _aside(placed, line, placed.spot(point))
+                return self._aside(placed, line, placed.spot(point))
             case ParallelDistance(first, second):
                 return self._at_end(placed, first, second)
             case XDistance(first, second):
@@ -128,11 +139,23 @@ class Gauge:
         if not placed.line(second).ends:
             first, second = second, first
         line = placed.line(second)
-        return _aside(placed, first, (line.start[0] + self.end * line.way[0],
-                                      line.start[1] + self.end * line.way[1]))
+        return self._aside(placed, first, (line.start[0] + self.end * line.way[0],
+                                           line.start[1] + self.end * line.way[1]))
+
+    def _aside(self, placed: Placed, line: ShapeRef, spot: Vector) -> Number:
+        """How far a place lies to the left of a line."""
+        there = self._line(placed, line)
+        return Fraction(cross(there.way, between(there.start, spot))) / root(square(there.way))
+
+    def _line(self, placed: Placed, line: ShapeRef) -> Line:
+        """A line that has a direction. Raises NoLength."""
+        there = placed.line(line)
+        if square(there.way) == 0:
+            raise NoLength(f"{line.name}, from which {self.check.name} is measured, has no length")
+        return there
 
     def _angle(self, asked: AngleBetween, placed: Placed) -> int:
-        one, other = placed.line(asked.first).way, placed.line(asked.second).way
+        one, other = (self._line(placed, each).way for each in (asked.first, asked.second))
         turned = round(degrees(atan2(cross(one, other), dot(one, other))) * MILLIONTHS)
         half = 180 * MILLIONTHS
         turned += 2 * half * round((self.near - turned) / (2 * half))
@@ -176,12 +199,6 @@ def _drawn_sign(gauges: Sequence[Gauge]) -> int:
 def place_nm(place: Place) -> PointNm:
     """A place in nanometres."""
     return place.x_um * 1000, place.y_um * 1000
-
-
-def _aside(placed: Placed, line: ShapeRef, spot: Vector) -> Number:
-    """How far a place lies to the left of a line."""
-    there = placed.line(line)
-    return Fraction(cross(there.way, between(there.start, spot))) / root(square(there.way))
 
 
 def _along(placed: Placed, first: PointRef, second: PointRef, way: Vector) -> Number:

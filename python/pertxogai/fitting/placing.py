@@ -8,11 +8,11 @@ from fractions import Fraction
 from pertxogai.drawing import Drawing, DrawingUnsound
 from pertxogai.fitting.ahead import Ahead
 from pertxogai.fitting.asking import Asking, NotPlaced
-from pertxogai.fitting.gauges import Gauge, Way
+from pertxogai.fitting.gauges import Gauge, NoLength, Way
 from pertxogai.fitting.offs import Offs
 from pertxogai.fitting.rounding import NOISE
 from pertxogai.fitting.toleranced import Toleranced
-from pertxogai.fitting.tries import AskBy, Tries
+from pertxogai.fitting.tries import AskBy, Lying, Tries
 from pertxogai.judging import DrawingRefused
 from pertxogai.judging.measure import Limit
 from pertxogai.language import NotHeld, Refusal
@@ -26,8 +26,8 @@ MOST_NAMED = 2
 
 
 class Unplaced(Exception):
-    """With dimensions that lie off within their tolerances a drawing isn't placed, or a constraint
-    isn't met. The message says which dimensions, and why."""
+    """With dimensions that lie off within their tolerances a drawing isn't placed, a constraint
+    isn't met, or a check can't be measured. The message says which dimensions, and why."""
 
 
 @dataclass(frozen=True)
@@ -195,9 +195,12 @@ class Placer:
     def _placed(self, offs: Offs) -> Case:
         by_number = self._by_number(offs)
         try:
-            there = self._asking.lying(by_number, self._ahead.taken(offs))
-        except (DrawingRefused, DrawingUnsound, NotHeld, NotPlaced, Refusal) as why:
+            return self._measured(self._asking.lying(by_number, self._ahead.taken(offs)))
+        except (DrawingRefused, DrawingUnsound, NoLength, NotHeld, NotPlaced, Refusal) as why:
             raise Unplaced(f"{self._told(by_number)}: {why}") from None
+
+    def _measured(self, there: Lying) -> Case:
+        """What the gauges measure where the drawing lies. Raises NoLength."""
         return Case(tuple(gauge.measured(there.solution) for gauge in self._gauges),
                     tuple(gauge.way(there.solution) for gauge in self._gauges), there.off_nm)
 
