@@ -321,6 +321,19 @@ def test_what_is_said_beside_the_numbers(program) -> None:
     assert "  these alone change no check: length A 20 +-0.1" in lines
 
 
+def test_why_no_squares_are_told_of_what_is_longer_and_steeper_at_once(program) -> None:
+    # 105 sin 32 is 55.6415. By itself the length gives 2.5, the angle 100 sin 32 - 50 = 2.9919: in
+    # sum 5.4919, a fiftieth less than the 5.6415 of both together. Each gives more throughout, and
+    # nothing tilts.
+    found = checked("check High y C.end ..\nsegment C 0 0 86.6 50\ncoincident C.start Origin\n"
+                    "length C 100 +5-0\nangle C +30deg +2-0deg\n", program)
+    (high,) = found.known
+    assert (mm(high.worst.least), mm(high.worst.greatest)) == (50, 55.6415)
+    assert high.worst.is_one_way and high.by_squares is None
+    assert ("    root sum square  not given, because the dimensions change it more together than "
+            "each by itself" in fit_lines("high", found))
+
+
 def test_json_and_the_chart(capsys, program, monkeypatch, tmp_path) -> None:
     monkeypatch.setenv("PERTXOGAI_SKETCH", program.path)
     out = tmp_path / "chart.svg"

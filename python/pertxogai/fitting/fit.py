@@ -125,13 +125,13 @@ def _checked(placer: Placer, dimensions: Sequence[Toleranced], numbers: tuple[in
     except Unplaced as why:
         return UnknownFit(gauge.check, str(why))
     given, base = placer.as_given().values, placer.base().values
-    squares = (None if placer.tilts(numbers)
-               else _by_squares(base[numbers[0]], moved[0], Worst.of(gauged)))
+    tilts = placer.tilts(numbers)
+    squares = None if tilts else _by_squares(base[numbers[0]], moved[0], Worst.of(gauged))
     low, high = _limits(gauge)
     nominal = min(given[number] for number in numbers)
     told = CheckedFit(gauge.check, numbers, low, high, nominal, gauged, squares,
                       _shares([_most(each) for each in zip(*moved)]), tuple(dimensions),
-                      gauge.noise)
+                      gauge.noise, tilts=tilts)
     try:
         return replace(told, tightened=tightened(placer, told))
     except Unplaced:

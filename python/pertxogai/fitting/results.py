@@ -64,8 +64,9 @@ class CheckedFit:
     in several places, such as both ends of a segment. numbers: the indices of these
     measurements among all of the drawing, from 0; gauged: the worst case of each. low, high: the
     limits as written. nominal: the least value with nominal dimensions. by_squares: the range by
-    the root sum square; None if the check isn't monotone in a dimension that contributes much, or
-    if one of two segments tilts. shares: the dimensions that contribute, the largest contribution
+    the root sum square; None if the check isn't monotone in a dimension that contributes much, if
+    the dimensions change it more together than each by itself, or if one of two segments tilts:
+    tilts says that. shares: the dimensions that contribute, the largest contribution
     first. dimensions: all that have a tolerance. noise: the rounding of what is measured.
     tightened: the tolerance, in micrometres or degrees, to which the dimension of the first share
     has to be tightened; None if that alone isn't enough, or if its tolerance isn't the same to both
@@ -84,6 +85,7 @@ class CheckedFit:
     noise: int
     tightened: Fraction | None = None
     has_gap: bool = False
+    tilts: bool = False
 
     @cached_property
     def worst(self) -> Worst:

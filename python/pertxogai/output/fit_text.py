@@ -99,14 +99,21 @@ def check_lines(drawing: Drawing, found: CheckedFit | UnknownFit) -> Iterator[st
         fits = "fits" if has_limits else ""
         yield f"root sum square  {_range(squares, unit)}{_told(squares, found, fits)}"
     else:
-        why = "the check isn't monotone" if found.worst.turning else "the segments tilt"
-        yield f"root sum square  not given, because {why}"
+        yield f"root sum square  not given, because {_without_squares(found)}"
     if found.worst.turning:
         named = _named(drawing, found.turning_numbers)
         yield f"at the worst case the check isn't monotone in {named}"
         yield f"by numbers, from the effects of single dimensions: {_range(found.reckoned, unit)}"
     if not found.shares:
         yield "no single dimension changes it"
+
+
+def _without_squares(found: CheckedFit) -> str:
+    """Why no root sum square is given."""
+    if found.worst.turning:
+        return "the check isn't monotone"
+    return ("the segments tilt" if found.tilts else
+            "the dimensions change it more together than each by itself")
 
 
 def _told(ranged: Range, of: CheckedFit, sure: str) -> str:
