@@ -321,6 +321,17 @@ def test_what_is_said_beside_the_numbers(program) -> None:
     assert "  these alone change no check: length A 20 +-0.1" in lines
 
 
+def test_what_may_move_a_check_that_is_not_known_is_not_called_idle(program) -> None:
+    # Nothing ties the two bars to the origin, so it isn't known how high the upright one ends; but
+    # wherever the level one is held, that is 0.1 higher if the other is 0.1 longer.
+    text = ("check Long length A 19 .. 21\nsegment A 0 5 20 5\nsegment B A.end 20 15\n"
+            "horizontal A\nvertical B\nlength A 20 +-0.1\nlength B 10 +-0.1\n")
+    found = checked(f"check High y B.end ..\n{text}", program)
+    assert isinstance(found.checks[0], UnknownFit) and found.idle == ()
+    assert not any("change no check" in line for line in fit_lines("bars", found))
+    assert [each.number for each in checked(text, program).idle] == [4]
+
+
 def test_why_no_squares_are_told_of_what_is_longer_and_steeper_at_once(program) -> None:
     # 105 sin 32 is 55.6415. By itself the length gives 2.5, the angle 100 sin 32 - 50 = 2.9919: in
     # sum 5.4919, a fiftieth less than the 5.6415 of both together. Each gives more throughout, and

@@ -183,7 +183,10 @@ class Fit:
 
     @property
     def idle(self) -> tuple[Toleranced, ...]:
-        """The dimensions whose tolerance by itself has no effect on any check."""
+        """The dimensions whose tolerance by itself has no effect on any check; none if a check
+        isn't known, since it may have one on that."""
+        if len(self.known) < len(self.checks):
+            return ()
         giving = {share.dimension.number for each in self.known for share in each.shares}
         return tuple(each for each in self.dimensions.toleranced if each.number not in giving)
 
