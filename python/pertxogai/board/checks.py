@@ -11,7 +11,7 @@ from pertxogai.drawing import Drawing
 from pertxogai.fitting import Answer, CheckedFit, Fit, NoFit, UnknownFit
 from pertxogai.judging.measure import Solution
 from pertxogai.output.fit_text import (
-    check_lines, number_text, unit_of, unplaced_lines, words_of_dimension)
+    WHOSE, case_lines, check_lines, number_text, unit_of, words_of_dimension)
 from pertxogai.output.picture.drawings import DrawnPlaces
 
 ANSWERS: dict[Answer, CheckAnswer] = {
@@ -28,7 +28,7 @@ def checks_shown(drawing: Drawing, found: Fit | NoFit, shown: Solution | None) -
         return {"checks": [], "why": list(found.why)}
     where = DrawnPlaces(drawing, shown)
     checks = [_checked(where, number, each) for number, each in enumerate(found.checks, 1)]
-    return {"checks": checks, "why": list(unplaced_lines(found))}
+    return {"checks": checks, "why": list(case_lines(found))}
 
 
 def _checked(where: DrawnPlaces, number: int, found: CheckedFit | UnknownFit) -> Checked:
@@ -39,7 +39,7 @@ def _checked(where: DrawnPlaces, number: int, found: CheckedFit | UnknownFit) ->
         else "not known"
     return {"number": number, "name": check.name, "words": check.words(),
             "answer": answer, "sign": sign, "worst": worst,
-            "lines": list(check_lines(where.drawing, found)),
+            "lines": [*check_lines(where.drawing, found), *([" ".join(WHOSE)] if known else [])],
             "gives": list(_contributions(where.drawing, known)) if known else [],
             "marks": list(_marks(where, number, found, f"{sign} {check.name} {worst}"))}
 

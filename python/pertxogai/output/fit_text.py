@@ -19,10 +19,11 @@ LITTLE = 1000
 degree."""
 PLACES = 4
 """A number has at most this number of digits behind the point."""
-FOOT = (
-    "  worst case: the worst of the placed cases. No other case is worse if the check is monotone",
-    "  in each dimension, which was sampled, not proved.",
-    "  root sum square: calculated from the effects of single dimensions.")
+WHOSE = (
+    "worst case: the worst of the placed cases. No other case is worse if the check is monotone",
+    "in each dimension, which was sampled, not proved.",
+    "root sum square: calculated from the effects of single dimensions.")
+"""How the numbers of a check were found."""
 SURE = {Answer.FITS: "fits", Answer.BEYOND: "",
         Answer.UNSURE: "all placed cases fit, but another may not"}
 UNLIMITED = {Answer.FITS: "", Answer.BEYOND: "",
@@ -45,7 +46,7 @@ def fit_lines(name: str, found: Fit | NoFit) -> Iterator[str]:
             yield from (f"    {line}" for line in _share_lines(found.drawing, each))
     yield from _lines_of_all(found)
     yield f"  the program placed {_count(found.placements, 'case')}; each check was measured there"
-    yield from FOOT
+    yield from (f"  {line}" for line in WHOSE)
 
 
 def _summary(found: Fit) -> str:
@@ -136,10 +137,7 @@ def _share_lines(drawing: Drawing, found: CheckedFit) -> Iterator[str]:
 
 def _lines_of_all(found: Fit) -> Iterator[str]:
     """What is told beside the checks: which cases have no places, and what moves no check."""
-    yield from (f"  {line}" for line in unplaced_lines(found))
-    if found.loose_nm:
-        yield (f"  the constraints are met within {found.loose_nm} nm in these cases, and no check"
-               " is more exact")
+    yield from (f"  {line}" for line in case_lines(found))
     if found.idle:
         words = [f"{words_of_dimension(found.drawing, each)}{_general(each)}"
                  for each in found.idle]
@@ -147,10 +145,13 @@ def _lines_of_all(found: Fit) -> Iterator[str]:
         yield f"  these alone change no check: {', '.join(words[:MOST_SHARES] + more)}"
 
 
-def unplaced_lines(found: Fit) -> Iterator[str]:
-    """Which cases can't be placed, in lines."""
+def case_lines(found: Fit) -> Iterator[str]:
+    """Which cases can't be placed, and how exactly the others are, in lines."""
     yield from _cases("some parts within tolerance can't be placed", found.unplaced)
     yield from _cases("a case that can't be placed, between two that can", found.between)
+    if found.loose_nm:
+        yield (f"the constraints are met within {found.loose_nm} nm in these cases, and no check is"
+               " more exact")
 
 
 def _cases(said: str, cases: Sequence[str]) -> Iterator[str]:

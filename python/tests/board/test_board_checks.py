@@ -38,6 +38,12 @@ def test_a_check_its_worst_case_and_who_gives_how_much(program) -> None:
     assert mark["text"] == "✗ Gap 0.25 .. 0.95" and mark["number"] == 1
 
 
+def test_how_the_numbers_of_a_check_were_found_is_told(program) -> None:
+    (gap,) = fitted(ROW, program)["checks"]
+    assert "sampled, not proved" in gap["lines"][-1]
+    assert "root sum square: calculated" in gap["lines"][-1]
+
+
 @pytest.mark.parametrize("text, answer, sign", [
     (ROW.replace("0.1 .. 0.9", "0.1 .. 1"), "fits", "✓"), (PAST, "unsure", "?"),
     (ROW.replace("0.1 .. 0.9", ".."), "unlimited", "↔")])
