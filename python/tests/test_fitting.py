@@ -15,6 +15,7 @@ import pytest
 from pertxogai.commands import main
 from pertxogai.drawing import read_drawing
 from pertxogai.fitting import Answer, CheckedFit, Fit, NoFit, UnknownFit, fit
+from pertxogai.output.fit_chart import fit_chart
 from pertxogai.output.fit_text import fit_lines
 from toleranced_drawings import tried
 
@@ -356,6 +357,14 @@ def test_json_and_the_chart(capsys, program, monkeypatch, tmp_path) -> None:
     assert floor["high"] is None and floor["dimensions"][0]["general"] is True
     svg = out.read_text()
     assert "length PlateBottom 100 +-0.2" in svg and "49.65 .. 50.35" in svg
+
+
+def test_the_chart_names_a_check_that_is_not_known(program) -> None:
+    # The bar may lie anywhere along x; how long it is, is known.
+    found = checked("check Aside x A.end 19 .. 21\ncheck Long length A 19 .. 21\n"
+                    "segment A 0 5 20 5\nhorizontal A\ny A.start 5\nlength A 20 +-0.1\n", program)
+    svg = fit_chart("bar", found)
+    assert "Aside: x A.end 19 .. 21 (not known)" in svg and "Long: length A 19 .. 21 (mm)" in svg
 
 
 def test_corners_by_chance_lie_within_the_worst_case(program) -> None:

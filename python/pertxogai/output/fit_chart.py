@@ -1,5 +1,6 @@
 """A chart of what must fit, as SVG: of each check the worst case and the root of the sum of squares
-between its limits, and below them which dimension gives how much."""
+between its limits, and below them which dimension gives how much; and the checks that aren't
+known."""
 from __future__ import annotations
 
 from collections.abc import Iterator
@@ -7,7 +8,7 @@ from fractions import Fraction
 from html import escape
 
 from pertxogai.drawing import Drawing
-from pertxogai.fitting import Answer, CheckedFit, Fit, Range, Share
+from pertxogai.fitting import Answer, CheckedFit, Fit, Range, Share, UnknownFit
 from pertxogai.output.fit_text import (
     number_text, tolerance_text, unit_of, words_of_dimension)
 
@@ -39,9 +40,13 @@ def fit_chart(name: str, found: Fit) -> str:
     """The chart of a drawing of that name."""
     rows: list[str] = []
     height = MARGIN
-    for each in found.known:
-        chart = list(_Check(found.drawing, each, height + ROW).elements())
-        rows.extend(chart)
+    for each in found.checks:
+        if isinstance(each, UnknownFit):
+            title = f"{each.check.name}: {each.check.words()} {MARK[each.answer]}"
+            rows.append(_text(MARGIN, height + ROW, title, f"title {KIND[each.answer]}"))
+            height += 2 * ROW
+            continue
+        rows.extend(_Check(found.drawing, each, height + ROW).elements())
         height += (4 + min(len(each.shares), MOST_BARS)) * ROW
     return "\n".join([
         f'<svg xmlns="http://www.w3.org/2000/svg" width="{WIDTH}" height="{height + MARGIN}" '
