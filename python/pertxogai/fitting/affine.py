@@ -14,19 +14,21 @@ Key = TypeVar("Key")
 BASE = 10 ** 9
 """Each off is this number of times as small as the one before."""
 PARTS = 5040
-"""A number changes for each micrometre by whole parts of this, at most by a hundred thousand."""
+"""A number changes for each micrometre or degree by whole parts of this, at most by a hundred
+thousand."""
 
 
 @dataclass(frozen=True)
 class Affine:
-    """A number, in micrometres: `at` with nothing off, and besides so many times as far as the
-    dimension of each number in `slopes` lies off."""
+    """A number, in micrometres or degrees: `at` with nothing off, and besides so many times as far
+    as the dimension of each number in `slopes` lies off."""
 
     at: Fraction
     slopes: Mapping[int, Fraction]
 
     def value(self, offs: Mapping[int, Fraction]) -> Fraction:
-        """What it is with the dimensions of these numbers so far off, in micrometres."""
+        """What it is with the dimensions of these numbers so far off, in micrometres or
+        degrees."""
         return Affines({0: self}).values(offs)[0] if self.slopes else self.at
 
 
@@ -42,7 +44,8 @@ class Affines(Generic[Key]):
                         for key, each in of.items()}
 
     def values(self, offs: Mapping[int, Fraction]) -> dict[Key, Fraction]:
-        """What they are with the dimensions of these numbers so far off, in micrometres."""
+        """What they are with the dimensions of these numbers so far off, in micrometres or
+        degrees."""
         below = lcm(*(off.denominator for off in offs.values()))
         steps = {number: off.numerator * (below // off.denominator)
                  for number, off in offs.items()}
@@ -60,7 +63,7 @@ def _sum(number: Fraction, above: int, below: int) -> Fraction:
 
 
 class Probe:
-    """Small offs for the dimensions of some numbers, in micrometres."""
+    """Small offs for the dimensions of some numbers, in micrometres or degrees."""
 
     def __init__(self, numbers: Iterable[int]) -> None:
         self._numbers = tuple(numbers)
