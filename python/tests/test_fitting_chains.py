@@ -485,6 +485,22 @@ def test_what_is_not_tied_to_the_axes_is_not_measured_from_them(program) -> None
     assert worst(run) == (39.9, 40.1) and worst(height) == (4.9, 5.1)
 
 
+def test_of_what_cannot_be_counted_that_alone_is_tied_of_which_it_is_said(program,
+                                                                          monkeypatch) -> None:
+    # As of a truss of 320 points, held by lengths alone, whose freedoms take too long to count: the
+    # bar lies level at a height that is told, and anywhere along x.
+    monkeypatch.setattr("pertxogai.judging.judgement.freedoms", lambda drawing: None)
+    free = "segment A 3 5 43 5\nlength A 40 +-0.1\n"
+    (aside,) = fit(read_drawing(f"check X x A.end 42 .. 44\n{free}"), program).checks
+    assert isinstance(aside, UnknownFit) and "its freedoms can't be counted" in aside.why
+    aside, run, height = fit(read_drawing(
+        f"check X x A.end 42 .. 44\ncheck Run x A.start A.end 39 .. 41\n"
+        f"check Height y A.end 4.8 .. 5.2\n{free}horizontal A\ny A.start 5 +-0.1\n"),
+        program).checks
+    assert isinstance(aside, UnknownFit) and "its freedoms can't be counted" in aside.why
+    assert worst(run) == (39.9, 40.1) and worst(height) == (4.9, 5.1)
+
+
 def test_a_value_that_is_read_off_what_is_placed_is_read_off_each_case(program) -> None:
     # The middle of a bar: half of 32.342 to 32.458 from its end. The program is told the half as it
     # comes out where the bar is placed.

@@ -11,7 +11,7 @@ from math import sqrt
 from pertxogai.drawing import Check, Drawing
 from pertxogai.fitting.corners import Corners, Worst
 from pertxogai.fitting.effects import Effect, effects
-from pertxogai.fitting.floating import floats
+from pertxogai.fitting.floating import why_floating
 from pertxogai.fitting.gauges import Gauge, NotMeasured
 from pertxogai.fitting.placing import Placer, Unplaced
 from pertxogai.fitting.results import (
@@ -93,10 +93,9 @@ def _with_gaps(placer: Placer, checks: Checks) -> Checks:
 
 
 def _gauges(check: Check, good: GoodJudgement) -> Gauges | UnknownFit:
-    whole = good.judged.judgement.whole
-    if whole is not None and floats(check, whole):
-        return UnknownFit(check, f"it is measured against the origin or the axes, and the whole "
-                                 f"can still be {whole.text()} (by rank)")
+    floating = why_floating(check, good.judged.judgement)
+    if floating is not None:
+        return UnknownFit(check, floating)
     try:
         return Gauge.of(check, good.drawing, good.solution)
     except NotMeasured as why:

@@ -6,7 +6,35 @@ from pertxogai.drawing import (
     XDistance, YDistance)
 from pertxogai.drawing.mentions import named
 from pertxogai.drawing.tolerances.check import Check
+from pertxogai.judging import Judgement, Trial
 from pertxogai.judging.freedoms import Whole
+from pertxogai.judging.printed import is_tied
+from pertxogai.judging.turning import known_sum
+
+MEASURED = "it is measured against the origin or the axes"
+
+
+def why_floating(check: Check, judgement: Judgement) -> str | None:
+    """Why it isn't known what a check measures from the origin or the axes; None where it is. Where
+    the freedoms of a drawing can't be counted, as of a large one, it counts as tied by what is
+    linear alone."""
+    whole = judgement.whole
+    if whole is not None:
+        still = f"{MEASURED}, and the whole can still be {whole.text()} (by rank)"
+        return still if floats(check, whole) else None
+    unknown = (f"{MEASURED}, and it isn't known whether the whole is tied to them: its freedoms "
+               "can't be counted")
+    return unknown if floats(check, _not_tied(judgement.asked)) else None
+
+
+def _not_tied(asked: Trial) -> Whole:
+    """How the whole may be moved by no line of the sketch and no sum of coordinates."""
+    spelled = asked.spelled
+    lines = {each.rail.upwards for each in spelled.headings if each.rail and each.rail.datum()}
+    x, y = (upwards not in lines and known_sum(asked.axes, upwards, spelled.points) is None
+            for upwards in (False, True))
+    turns = not is_tied(asked.axes, spelled)
+    return Whole(x, y, x + y + turns, turns)
 
 
 def floats(check: Check, whole: Whole) -> bool:
