@@ -596,3 +596,29 @@ def test_from_a_segment_that_may_have_no_length_nothing_is_measured(check, least
     (there,) = fit(read_drawing(f"check {check} ..\n{STUB.format(0.1, '0')}"), program).checks
     assert isinstance(there, UnknownFit)
     assert there.why == "S, from which D is measured, has no length"
+
+
+@pytest.mark.parametrize("length, angle, least", [
+    (100, "+80deg +-30deg", 50), (100, "+70deg +-60deg", 10), (1000, "+80.07deg +-10deg", 70.07),
+    (1000, "+61.8deg +-30deg", 31.8)])
+def test_a_crank_that_turns_far_is_highest_where_it_stands_upright(length, angle, least,
+                                                                   program) -> None:
+    # At 90 degrees it is as high as it is long. Of a parabola through its heights at 50, 80 and 110
+    # degrees the top is at 89.87, at 10, 70 and 130 at 88.91; at 70.07, 80.07 and 90.07, and at
+    # 31.8, 61.8 and 91.8, it has none.
+    x, y = (length * of(radians(float(angle.split("deg")[0]))) for of in (cos, sin))
+    (high,) = checks(f"check High y C.end .. {length - 0.0002}\nsegment C 0 0 {x:.2f} {y:.2f}\n"
+                     f"coincident C.start Origin\nlength C {length}\nangle C {angle}\n", program)
+    assert worst(high) == rounded(length * sin(radians(least)), length)
+    assert high.answer is Answer.BEYOND and high.worst.turning
+
+
+def test_two_angles_that_turn_far_are_highest_where_the_arm_stands_upright(program) -> None:
+    # An arm of 1000 at 30 + 45 degrees within 8 each: at 75 within 16, and so at 90; by one of them
+    # alone it comes to 83. It is lowest at 59.
+    (high,) = checks("check High y Arm.end .. 999.9998\nsegment First 0 0 86.6 50\n"
+                     "coincident First.start Origin\nlength First 100\nangle First +30deg +-8deg\n"
+                     "segment Arm First.start 258.82 965.93\nlength Arm 1000\n"
+                     "angle First Arm +45deg +-8deg\n", program)
+    assert worst(high) == rounded(1000 * sin(radians(59)), 1000)
+    assert high.answer is Answer.BEYOND and high.worst.turning

@@ -9,7 +9,7 @@ from fractions import Fraction
 from itertools import product
 from random import Random
 
-from pertxogai.fitting.effects import Effect, turning_at
+from pertxogai.fitting.effects import MOST_TURNS, Effect, turning_at
 from pertxogai.fitting.gauges import Way
 from pertxogai.fitting.offs import Offs
 from pertxogai.fitting.placing import Case, Placer
@@ -243,20 +243,27 @@ class Corners:
         self._placer.expect(case for place in places for case in self._at_ends(offs, place))
 
     def _best_within(self, offs: Offs, places: Sequence[int], side: int) -> Offs:
-        """The worst case of those in which the first of some unsure lies otherwise. Where a
-        parabola says where, that is mostly the worst, and the next one is tried from there."""
-        place, three = places[0], self._at_ends(offs, places[0])
-        where = turning_at([(case[place], self._at(case)) for case in three], self._noise)
-        there = []
-        if where is not None:
+        """The worst case of those in which the first of some unsure lies otherwise. Where parabolas
+        say where, that is mostly the worst, and the next one is tried from there."""
+        place = places[0]
+        tried = [*self._at_ends(offs, place), *self._at_steps(offs, place)]
+        for _ in range(MOST_TURNS):
+            where = turning_at([(case[place], self._at(case)) for case in tried], self._noise)
+            if where is None:
+                break
             turned = offs.replaced({place: where})
             self._expect_ends(turned, places[1:])
-            there = self._around(turned, place)
-        return max([offs, *three, *there], key=lambda case: side * self._at(case))
+            tried += self._around(turned, place)
+        return max([offs, *tried], key=lambda case: side * self._at(case))
 
     def _at_ends(self, offs: Offs, place: int) -> list[Offs]:
         """A case with one dimension at its ends, and within."""
         return [offs.replaced({place: off}) for off in self._effects[place].dimension.ends]
+
+    def _at_steps(self, offs: Offs, place: int) -> list[Offs]:
+        """A case with one dimension, an angle of many degrees, at steps between its ends."""
+        return [case for off in self._effects[place].dimension.steps
+                for case in self._around(offs.replaced({place: off}), place)]
 
     def _around(self, offs: Offs, place: int) -> list[Offs]:
         """A case between the ends of a dimension, or those beside it; none where it can't be placed

@@ -18,6 +18,8 @@ NEAR = Fraction(1, 16)
 """A dimension with which nothing is placed at an end of its tolerance is tried at this part too."""
 ROUNDED = 2
 """Millionths by which a change of what is measured by `NOISE` may be rounded."""
+MOST_TURNS = 4
+"""Where a check turns round is looked for at most this number of times, nearer each time."""
 MOST_DIGITS = 9
 """A sensitivity has at most this number of digits behind the point."""
 
@@ -117,7 +119,7 @@ def effects(placer: Placer, dimensions: Sequence[Toleranced],
     placed. Raises Unplaced where it does, and ProgramError."""
     base = placer.base()
     placer.expect(placer.offs_alone(place, off) for place, dimension in enumerate(dimensions)
-                  for off in dimension.ends)
+                  for off in (*dimension.ends, *dimension.steps))
     return tuple(_effect(_One(placer, place, number), dimension,
                          _reading(dimension.base, base, number))
                  for place, dimension in enumerate(dimensions))
@@ -156,8 +158,11 @@ def _effect(one: _One, dimension: Toleranced, base: Reading) -> Effect:
         if _moves(one, [*three, *near], base):
             raise
         return Effect(dimension, (base,), base, one.noise)
-    where = turning_at([(each.off, each.value) for each in readings], one.noise)
-    if where is not None:
+    readings += [each for off in dimension.steps for each in one.readings_around(off)]
+    for _ in range(MOST_TURNS):
+        where = turning_at([(each.off, each.value) for each in readings], one.noise)
+        if where is None:
+            break
         readings += one.readings_around(where)
     return Effect(dimension, tuple(sorted(readings, key=lambda each: each.off)), base, one.noise)
 
@@ -176,11 +181,20 @@ def _reading(off: Fraction, case: Case, number: int) -> Reading:
     return Reading(off, case.values[number], case.ways[number])
 
 
-def turning_at(readings: Sequence[tuple[Fraction, int]], noise: int) -> Fraction | None:
-    """Where between the ends a check may turn round, how far off, by a parabola through three
-    readings, each how far off that is and what was measured; None where it goes one way, turns
-    where it was read, or no further than rounding."""
-    (low, at_low), (inner, within), (high, at_high) = readings
+def turning_at(readings: Iterable[tuple[Fraction, int]], noise: int) -> Fraction | None:
+    """Where between the ends a check may turn round, how far off, by parabolas through each three
+    neighbours of some readings, each how far off that is and what was measured; None where it goes
+    one way, or where it was read already, but for rounding."""
+    known = sorted(dict(readings).items())
+    turns = filter(None, map(_turn, zip(known, known[1:], known[2:])))
+    gain, where = max(turns, default=(Fraction(0), Fraction(0)))
+    return where if gain > noise else None
+
+
+def _turn(three: Sequence[tuple[Fraction, int]]) -> tuple[Fraction, Fraction] | None:
+    """By how much a parabola through three readings goes beyond the nearest of them where it turns
+    round, and where that is; None where it goes one way."""
+    (low, at_low), (inner, within), (high, at_high) = three
     begin = Fraction(within - at_low) / (inner - low)
     end = Fraction(at_high - within) / (high - inner)
     bend = (end - begin) / (high - low)
@@ -188,5 +202,4 @@ def turning_at(readings: Sequence[tuple[Fraction, int]], noise: int) -> Fraction
     if first * last >= 0 or not bend:
         return None
     where = Fraction(round((low - first / (2 * bend)) * 1000), 1000)
-    rise = abs(bend) * min(where - low, high - where) ** 2
-    return where if rise > noise and where not in (low, inner, high) else None
+    return abs(bend) * min(abs(where - off) for off in (low, inner, high)) ** 2, where

@@ -5,7 +5,7 @@ from collections.abc import Mapping
 from dataclasses import dataclass, replace
 from fractions import Fraction
 from functools import cached_property
-from math import atan2, degrees
+from math import atan2, ceil, degrees
 
 from pertxogai.drawing import (
     VALUED, AngleBetween, Arc, Degrees, Drawing, DrawingUnsound, PointRef, Radius,
@@ -23,6 +23,8 @@ LESS = Fraction(999, 1000)
 """A lesser angle is this part of it."""
 HALF_TURN = Fraction(1, 1000)
 """An arc whose sine is no more goes half way round, or a seventeenth of a degree less."""
+MOST_APART = 5
+"""Of an angle no two neighbouring values are more degrees apart at which it is tried."""
 PARTS = 10 ** 12
 """To this part of a degree an angle by a ratio is told in degrees."""
 
@@ -52,6 +54,16 @@ class Toleranced:
         low, high = Off(-self.below), Off(self.above)
         return low, self.base if low < 0 < high else Off((low + high) / 2), high
 
+    @cached_property
+    def steps(self) -> tuple[Fraction, ...]:
+        """How far off it is where it is tried besides: nowhere, but for an angle that varies by
+        many degrees, over which a check may turn round where the ends don't show it."""
+        low, inner, high = self.ends
+        if not self.is_angle:
+            return ()
+        return tuple(each for begin, end in ((low, inner), (inner, high))
+                     for each in _between(begin, end))
+
     def width(self) -> Fraction:
         """From the least to the greatest value."""
         return self.below + self.above
@@ -60,6 +72,12 @@ class Toleranced:
         """Whether it may be so far off."""
         low, _, high = self.ends
         return off is low or off is high or low <= off <= high
+
+
+def _between(begin: Fraction, end: Fraction) -> list[Fraction]:
+    """As few degrees, evenly between two, as leave none too far apart."""
+    count = ceil((end - begin) / MOST_APART)
+    return [Off(begin + (end - begin) * step / count) for step in range(1, count)]
 
 
 @dataclass(frozen=True)
