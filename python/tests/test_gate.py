@@ -33,7 +33,8 @@ def repository(tmp_path: Path) -> Path:
     the statuses END_1 and END_2: a real gate takes an hour."""
     top = tmp_path / "repository"
     put(top / "python/tests/run", 'echo "$HALF_2"; exit "$END_2"\n')
-    put(tmp_path / "bin/rt", 'echo "$RT_JOBS" >"$0.jobs"; echo "$HALF_1"; exit "$END_1"\n')
+    put(tmp_path / "bin/rt", '[ "$1" = ci ] || { echo "kit-1 logic 0"; exit; }\n'
+                             'echo "$RT_JOBS" >"$0.jobs"; echo "$HALF_1"; exit "$END_1"\n')
     (top / ".ci").mkdir()
     shutil.copy(TOP / ".ci/run", top / ".ci/run")
     (top / "tools").mkdir()
@@ -55,12 +56,12 @@ def gate(top: Path, first: str, second: str, ends: str = "0 0") -> tuple[int, li
     return done.returncode, done.stdout.splitlines()
 
 
-def test_where_both_halves_pass_the_commit_and_the_program_are_told_and_recorded(repository: Path) -> None:
+def test_where_both_halves_pass_the_kit_the_commit_and_the_program_are_told_and_recorded(repository: Path) -> None:
     status, lines = gate(repository, "30 passed, 0 failed", "12 passed, 0 failed")
     checksum = hashlib.sha256((repository / "crates/sketch/out/sketch").read_bytes()).hexdigest()
     commit = git(repository, "rev-parse", "HEAD").strip()
-    told = [f"commit {commit}", f"program {checksum}", "42 passed, 0 failed"]
-    assert status == 0 and lines[-3:] == told
+    told = ["kit kit-1 logic 0", f"commit {commit}", f"program {checksum}", "42 passed, 0 failed"]
+    assert status == 0 and lines[-4:] == told
     assert (repository / RECORD).read_text().splitlines() == told
 
 

@@ -86,7 +86,7 @@ def dist(program: Program, tmp_path_factory: pytest.TempPathFactory) -> Path:
     shutil.copytree(TOP, room / "tree", ignore=APART)
     wheel = make_wheel(room / "tree" / "python", room, NOON)
     built, library = Path(program.path), library_folder()
-    text = gate_text(__version__, "0" * 40, "1234 passed, 0 failed", built, library)
+    text = gate_text(__version__, "0" * 40, Gate("1234 passed, 0 failed", "kit-1 logic 0"), built, library)
     made = Made(room / "tree", built, library, wheel, __version__, NOON, text)
     the_release().pack(room, made, room / "dist")
     return room / "dist"
@@ -154,7 +154,7 @@ def test_a_release_has_a_tarball_a_package_a_wheel_and_checksums(dist: Path) -> 
     gate = (dist / "GATE").read_text().splitlines()
     assert gate[:2] == [f"pertxogai {__version__}", "commit " + "0" * 40]
     assert gate[2] == "gate 1234 passed, 0 failed"
-    assert gate[3].startswith("kit ")
+    assert gate[3] == "kit kit-1 logic 0"
 
 
 def test_the_installed_program_answers(installed: Path) -> None:
@@ -492,10 +492,11 @@ def test_nothing_is_released_of_a_changed_or_unproved_tree(repository: Path) -> 
 
 def test_what_a_gate_says(tmp_path: Path) -> None:
     output, commit, checksum = tmp_path / "output", "c" * 40, "e" * 64
-    passed, told = "1234 passed, 0 failed\n", f"commit {commit}\nprogram {checksum}\n"
+    passed, which = "1234 passed, 0 failed\n", f"commit {commit}\nprogram {checksum}\n"
+    told = "kit kit-1 logic 0\n" + which
     output.write_text("1200 passed, 0 failed\n" + told + passed)
-    assert Gate.of(output, commit, checksum).line == "1234 passed, 0 failed"
-    for wrong in ("", told, told + "0 passed, 0 failed\n", told + passed + "killed\n",
+    assert Gate.of(output, commit, checksum) == Gate("1234 passed, 0 failed", "kit-1 logic 0")
+    for wrong in ("", which + passed, told, told + "0 passed, 0 failed\n", told + passed + "killed\n",
                   told + "15 passed, 10 failed\n", passed, told[:-2] + "\n" + passed):
         output.write_text(wrong)
         with pytest.raises(Refused):

@@ -3,7 +3,7 @@ from dataclasses import dataclass
 from pathlib import Path
 
 from .checksums import checksum
-from .running import said
+from .gate import Gate
 
 
 @dataclass(frozen=True)
@@ -26,9 +26,8 @@ class Made:
         return path
 
 
-def gate_text(version: str, commit: str, line: str, program: Path, library: Path) -> str:
+def gate_text(version: str, commit: str, gate: Gate, program: Path, library: Path) -> str:
     """What a release says of its gate: a word and its value on each line."""
-    kit = said("rt", "version").strip()
     checksums = {each.name: checksum(each) for each in (program, library / "libsketch.a", library / "libsketch.so")}
-    rows = {"pertxogai": version, "commit": commit, "gate": line, "kit": kit, **checksums}
+    rows = {"pertxogai": version, "commit": commit, "gate": gate.line, "kit": gate.kit, **checksums}
     return "".join(f"{word} {value}\n" for word, value in rows.items())
