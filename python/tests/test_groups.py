@@ -33,8 +33,23 @@ ROW = ("point A 0 0\npoint B 50 0\npoint C 100 0\nfixed A\ny B 0\ny C 0\n"
        "Left: x A B +50\nRight: x B C +60\nWidth: x A C +100\n")
 
 
+WRONG_PLATE = ("rectangle P 0 0 118 79\ncoincident PBottom.start Origin\nWidth: length PBottom 120\n"
+               "Height: length PRight 80\nAgain: length PTop 120\nLeft: length PLeft 85\n")
+"""The width is told twice, and two heights contradict each other; level edges and upright ones keep
+what is opposite equal, and which of these are lines of the sketch the encoding decides."""
+
+
 def others(judged: Judgement) -> dict[str, set[str]]:
     return {each.name: set(each.others) for each in judged.surplus}
+
+
+def test_what_is_redundant_and_what_conflicts_beside_it_are_in_no_group_of_each_other(
+        program: Program) -> None:
+    found = others(judge(read_drawing(WRONG_PLATE), program))
+    assert found["Again"] & {"Width", "Height", "Left"} == {"Width"}
+    assert found["Width"] & {"Again", "Height", "Left"} == {"Again"}
+    assert found["Left"] & {"Width", "Height", "Again"} == {"Height"}
+    assert found["Height"] & {"Width", "Left", "Again"} == {"Left"}
 
 
 @pytest.mark.parametrize("size", ["radius East 8", "diameter East 16"])

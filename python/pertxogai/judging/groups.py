@@ -4,7 +4,7 @@ names them.
 The group of a dimension is the least of the kept lines that it follows from: without any one of
 them it wouldn't. What has to go beside it is left out before it, so it is in no group. A line may
 be said by several of the designer's words; then all of them are named, but for those that by rank
-take no part in anything that is too much. Of what asks several equations the program may leave out
+it follows without. Of what asks several equations the program may leave out
 one alone, and of what is several lines, or a line together with others, one that is another's too:
 then the group isn't that of the dimension, and there is none."""
 from __future__ import annotations
@@ -54,15 +54,27 @@ def groups_of(names: Names, program: Solver, numbers: Mapping[int, Collection[in
 
 def _by_rank(names: Names, free: Freedoms, number: int,
              others: frozenset[Owner]) -> frozenset[Owner]:
-    """Those of a group that by rank take part in something that is too much; none where of a
-    dimension, all of which follows from others, not all follows from these and from what is no line
-    of the sketch."""
+    """Those of a group that by rank take part in something that is too much, and of these no more
+    than are needed; none where of a dimension, all of which follows from others, not all follows
+    from these and from what is no line of the sketch."""
+    found = others & free.among()
     if free.twice(number) is Twice.WHOLE:
         silent = free.among().difference(*names.spelled.owners)
         with suppress(TooMany):
             if not free.follows(number, others | silent):
                 return frozenset()
-    return others & free.among()
+            return _needed(free, number, found, silent)
+    return found
+
+
+def _needed(free: Freedoms, number: int, found: frozenset[Owner],
+            silent: frozenset[Owner]) -> frozenset[Owner]:
+    """Those of a group without which a dimension wouldn't follow. The others, the latest of them
+    first, take part in something else that is too much. Raises TooMany."""
+    for each in sorted(found, key=lambda owner: owner.number, reverse=True):
+        if not each.shape and free.follows(number, (found - {each}) | silent):
+            found -= {each}
+    return found
 
 
 def _told_last(names: Names, owner: Owner, beside: frozenset[Owner]) -> Sequence[int]:
