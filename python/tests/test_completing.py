@@ -237,8 +237,11 @@ right and 48 up: the root of 6660, 81.608, at 36.027 degrees."""
     ("rectangle P 21 9 87 57\ncoincident PBottom.start Origin\n",
      ["length PBottom 66", "length PRight 48"], []),
     (AWAY, ["length S 81.61"], ["angle S +36.03deg"]),
+    # The hole is drawn 22 to the right of the corner, and 21 above it.
+    ("rectangle P 21 9 87 57\ncircle H 43 30 6\ncoincident PBottom.start Origin\ndiameter H 12\n",
+     ["length PBottom 66", "length PRight 48", "x H.centre 22", "y H.centre 21"], []),
 ])
-def test_an_edge_is_as_long_as_it_is_drawn_where_an_end_is_told_to_be_elsewhere(
+def test_values_are_as_drawn_from_a_point_that_is_told_to_be_the_origin(
         text, own, datum, program):
     found = complete(read_drawing(text), program)
     assert isinstance(found, Completion)

@@ -7,7 +7,7 @@ from collections.abc import Iterator
 from math import degrees
 
 from pertxogai.drawing import (
-    Arc, Circle, Drawing, PointRef, Segment, ShapeRef, Which, points_of)
+    ORIGIN, Arc, Circle, Drawing, PointRef, Segment, ShapeRef, Which, points_of)
 
 LEAST_UM = 1.0
 """An edge that is shorter has no direction."""
@@ -95,8 +95,18 @@ class Figure:
 
 
 class Sketched(Figure):
-    """A drawing as it is drawn. An edge has the length and the direction that it is drawn with,
-    also where one of its ends is told to be a point that is drawn elsewhere, as the origin."""
+    """A drawing as it is drawn, but moved as a whole so that the first point that is told to be the
+    origin lies there. An edge has the length and the direction that it is drawn with, also where
+    one of its ends is told to be a point that is drawn elsewhere."""
+
+    def __init__(self, drawing: Drawing) -> None:
+        tied = next((drawing.drawn(ref) for ref in drawing.points()
+                     if drawing.meetings.leader(ref) == ORIGIN), None)
+        self._moved = complex(tied.x_um, tied.y_um) if tied else 0j
+        super().__init__(drawing)
+
+    def at(self, ref: PointRef) -> complex:
+        return 0j if self.leader(ref) == ORIGIN else super().at(ref) - self._moved
 
     def way(self, edge: Segment) -> complex:
         start, end = map(self.drawing.drawn, ends(edge))
