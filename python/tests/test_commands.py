@@ -131,6 +131,19 @@ def test_json_of_what_is_not_well(capsys) -> None:
         == "fault s1 build height C gap -1443109011456 -1443109011456 bits 38"
     )
     assert sketch["fault"]["constraints"] == ["distance A B 5", "distance A C 1", "distance B C 1"]
+    assert sketch["fault"]["at"] == ["C"]
+
+
+def test_json_says_by_how_much_dimensions_miss_each_other(capsys, tmp_path) -> None:
+    """40 and 50 are 10 short of 100."""
+    path = tmp_path / "short.drawing"
+    path.write_text("segment Base 0 0 100 0\nsegment Left 60 30 Base.start\nsegment Right Left.start Base.end\n"
+                    "coincident Base.start Origin\non Base.end XAxis\nlength Base 100\nlength Left 50\n"
+                    "length Right 40\n")
+    (sketch,) = json.loads(judged(capsys, "judge", "--json", str(path))[1])["sketches"]
+    assert "10 mm too short to meet" in sketch["fault"]["message"]
+    lines = judged(capsys, "judge", str(path))[1]
+    assert f"can't be placed as drawn: {sketch['fault']['message']}" in lines.replace("\u00a0", " ")
 
 
 def test_json_of_a_drawing_has_the_same_members(capsys, tmp_path) -> None:

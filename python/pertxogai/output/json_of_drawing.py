@@ -91,7 +91,7 @@ def _placed_json(judged: CountedDrawing) -> dict[str, object]:
     return {
         "places": _places(judged.drawing, places) if places else None,
         **within_json(judged),
-        "fault": None if placed else _fault(judgement),
+        "fault": None if placed else _fault(judgement, judged.short),
         "other_choice": _other_choice(judgement),
     }
 
@@ -177,13 +177,17 @@ def _nm(solution: Solution, ref: PointRef) -> dict[str, int]:
     return {"x_nm": round(x), "y_nm": round(y)}
 
 
-def _fault(judgement: Judgement) -> dict[str, object] | None:
-    """The program's fault, whole, and what it is about."""
+def _fault(judgement: Judgement, short: str) -> dict[str, object] | None:
+    """The program's fault, whole, what it is about, and the sentence that the lines print. short:
+    by how much the dimensions miss each other, where that is known."""
     failure = judgement.failure
     if failure is None:
         return None
+    from pertxogai.output.fault_text import fault_text
+
     return {"text": failure.text.strip(), "constraints": list(failure.dimensions),
-            "at": list(failure.at)}
+            "at": list(failure.at),
+            "message": fault_text(judgement, failure, short).replace("\u00a0", " ")}
 
 
 def _deviation(each: Deviation, drawing: Drawing) -> dict[str, object]:

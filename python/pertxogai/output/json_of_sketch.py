@@ -8,7 +8,8 @@ from pertxogai.judging.good import reasons_json
 from pertxogai.judging.judged_sketch import JudgedSketch, concerned, what_to_do
 from pertxogai.language import Placed, PlacedCircle, PlacedLine
 from pertxogai.program.reports import (
-    AtConstraint, Excessive, FrameFault, LineFault, OverPart, Part, Solved)
+    AtConstraint, Excessive, Fault, FrameFault, LineFault, NumberFault, OverPart, Part, RangeFault,
+    Solved)
 
 
 def sketch_json(judged: JudgedSketch) -> dict[str, object]:
@@ -101,14 +102,21 @@ def _fault(judged: JudgedSketch) -> dict[str, object] | None:
     fault = judged.fault
     if fault is None:
         return None
-    at = [fault.name] if isinstance(fault, LineFault) else []
-    at += [fault.element] if isinstance(fault, FrameFault) else []
     return {
         "text": fault.text().strip(),
         "constraints": [it.text() for it in concerned(judged)],
-        "at": at,
+        "at": list(_named(fault)),
         "what_to_do": what_to_do(fault, judged.tried),
     }
+
+
+def _named(fault: Fault) -> Iterator[str]:
+    """The element that a fault's line names, if any."""
+    match fault:
+        case NumberFault(at) | RangeFault(at):
+            yield at.element
+        case FrameFault(element=name) | LineFault(name=name):
+            yield name
 
 
 def _deviations(judged: JudgedSketch) -> Iterator[dict[str, object]]:
