@@ -274,6 +274,7 @@ REFUSED = [
     ("equal Bottom", "Bottom", "a second shape is missing"),
     ("concentric Hole Bottom", "Bottom", "is no circle or arc"),
     ("symmetric A B about A", "A", "a third point, or a segment"),
+    ("symmetric Bottom about Bottom", "Bottom", "would be without a length"),
     ("symmetric Hole about YAxis", "about", "isn't drawn"),
     ("midpoint A XAxis", "XAxis", "the datum's own axis"),
     ("fixed Origin", "Origin", "fixed from the start"),

@@ -248,6 +248,8 @@ def _check_symmetric(scene: NamedShapes, first: PointRef, second: PointRef,
     _check_points(scene, first, second)
     if isinstance(about, ShapeRef):
         check_line(scene, about)
+        if {str(first), str(second)} == {f"{about.name}.start", f"{about.name}.end"}:
+            raise WordFault(about.name, "would be without a length: write another segment")
         return
     check_point(scene, about)
     if about in (first, second):
