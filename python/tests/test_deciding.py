@@ -5,7 +5,8 @@ from __future__ import annotations
 import pytest
 
 from conftest import TOP
-from pertxogai.judging import concerned, judge_sketch
+from pertxogai.drawing import read_drawing
+from pertxogai.judging import concerned, judge, judge_sketch
 from pertxogai.judging.deciding import deciding
 from pertxogai.output import sketch_json, sketch_lines
 from pertxogai.program import Program
@@ -84,7 +85,7 @@ step s3 joins s2 c7 c6 at D E C keeps s2 turn +
 def test_beneath_the_least_cluster_that_has_both(step: int, numbers: set[int]) -> None:
     """Of s1 the second step needs A and B, which c1 ties alone; of s2 the third needs C and D, which only all five do."""
     plan = read_plan(CHAIN)
-    of = {leaf.number for leaf in plan.leaves if leaf.constraint in deciding(plan, step)}
+    of = {leaf.number for leaf in deciding(plan, step)}
     assert of == numbers
 
 
@@ -105,3 +106,13 @@ def test_of_a_tolerance_no_other_grid_is_advised_since_judge_takes_the_finest(pr
     found = judge_sketch("wide", (TOP / "examples/faults/wide-apart.sketch").read_text(), program)
     advice = [line for line in sketch_lines(found) if "what to do" in line]
     assert len(advice) == 1 and "nearly parallel" in advice[0] and "grid" not in advice[0]
+
+
+def test_of_a_drawing_a_fault_is_about_the_dimensions_that_decide_it_too(program):
+    """60 and 50 are too short for 200; the hole hangs on the triangle and takes no part."""
+    found = judge(read_drawing(
+        "point A 0 0\npoint B 78 1\npoint C 40 45\nsegment Base A B\nsegment Right B C\n"
+        "segment Left C A\ncircle Hole 38 20 4\ncoincident A Origin\nhorizontal Base\n"
+        "Long: length Base 200\nShort: length Right 60\nOther: length Left 50\nx Hole 100\n"
+        "distance Hole Base 12\ndiameter Hole 8\n"), program)
+    assert found.failure is not None and found.failure.dimensions == ("Long", "Short", "Other")

@@ -3,11 +3,11 @@ from __future__ import annotations
 
 from collections.abc import Iterator
 
-from pertxogai.language import ClusterName, Constraint
-from pertxogai.program.reports import Plan
+from pertxogai.language import ClusterName
+from pertxogai.program.reports import Leaf, Plan
 
 
-def deciding(plan: Plan, step: int) -> tuple[Constraint, ...]:
+def deciding(plan: Plan, step: int) -> tuple[Leaf, ...]:
     """The constraints that decide how the elements lie at which a step joins its three clusters, in
     their order. Of each of these they are those beneath the least cluster within it that has both
     of the elements that it shares with the other two: where a length is given between these, that
@@ -15,7 +15,7 @@ def deciding(plan: Plan, step: int) -> tuple[Constraint, ...]:
     tree, joined = _Tree(plan), plan.steps[step - 1]
     numbers = {number for place, cluster in enumerate(joined.joins) for number in tree.beneath(
         tree.least(cluster, joined.at[place], joined.at[place - 1]))}
-    return tuple(leaf.constraint for leaf in plan.leaves if leaf.number in numbers)
+    return tuple(leaf for leaf in plan.leaves if leaf.number in numbers)
 
 
 class _Tree:

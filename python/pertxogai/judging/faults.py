@@ -6,6 +6,7 @@ from dataclasses import dataclass
 from enum import Enum
 from fractions import Fraction
 
+from pertxogai.judging.deciding import deciding
 from pertxogai.judging.naming import Names
 from pertxogai.program.reports import (
     ConstraintFault, Fault, FrameFault, LineFault, NumberFault, Phase, Plan, RangeFault, StepAt,
@@ -83,23 +84,9 @@ def _line(fault: Fault) -> str:
 
 def _of_step(names: Names, fault: Fault, plan: Plan, step: int, amount: Amount | None) -> Failure:
     found = next(each for each in plan.steps if each.number == step)
-    owners = {owner for number in _leaves(plan, step)
-              for owner in names.spelled.owners[number - 1]}
+    owners = {owner for leaf in deciding(plan, step)
+              for owner in names.spelled.owners[leaf.number - 1]}
     return Failure(fault, _line(fault), names.owners(owners), names.elements(found.at), amount)
-
-
-def _leaves(plan: Plan, step: int) -> list[int]:
-    """The numbers of the constraints beneath a step."""
-    found: list[int] = []
-    steps = {each.number: each for each in plan.steps}
-    waiting = [step]
-    while waiting:
-        for cluster in steps[waiting.pop()].joins:
-            if cluster.is_step:
-                waiting.append(cluster.number)
-            else:
-                found.append(cluster.number)
-    return sorted(found)
 
 
 def _unit(at: StepAt) -> Unit:

@@ -124,10 +124,14 @@ def concerned(judged: JudgedSketch) -> tuple[Constraint, ...]:
     if isinstance(fault, TurnedFault) and not fault.of.is_step:
         return (constraints[fault.of.number - 1],)
     if isinstance(fault, (NumberFault, RangeFault)):
-        return deciding(judged.plan, fault.at.step) if judged.plan else ()
+        return _deciding(judged.plan, fault.at.step)
     if isinstance(fault, TurnedFault):
-        return deciding(judged.plan, fault.of.number) if judged.plan else ()
+        return _deciding(judged.plan, fault.of.number)
     return ()
+
+
+def _deciding(plan: Plan | None, step: int) -> tuple[Constraint, ...]:
+    return tuple(leaf.constraint for leaf in deciding(plan, step)) if plan else ()
 
 
 def what_to_do(fault: Fault, turned: Tried | None = None) -> str:
