@@ -52,6 +52,19 @@ def test_what_is_redundant_and_what_conflicts_beside_it_are_in_no_group_of_each_
     assert found["Height"] & {"Width", "Left", "Again"} == {"Left"}
 
 
+def test_what_is_no_line_of_the_sketch_stands_in_for_none_of_a_group(program: Program) -> None:
+    """E and R3 hold together: both circles 12. So does R1 with either of them alone."""
+    found = others(judge(read_drawing(
+        "circle C 0 0 10\ncircle K 40 0 10\ncoincident C.centre Origin\non K.centre XAxis\n"
+        "x K.centre 40\nR1: radius C 10\nR2: diameter C 20\nE: equal C K\nR3: radius K 12\n"),
+        program))
+    assert found["E"] == {"R1", "R3"} and found["R3"] == {"R1", "E"}
+    twice = others(judge(read_drawing(
+        "rectangle P 0 0 118 79\ncoincident PBottom.start Origin\nWidth: length PBottom 120\n"
+        "Height: length PRight 80\nAgain: length PTop 120\nThird: length PBottom 120\n"), program))
+    assert twice["Again"] & {"Width", "Third", "Height"} in ({"Width"}, {"Third"})
+
+
 @pytest.mark.parametrize("size", ["radius East 8", "diameter East 16"])
 @pytest.mark.parametrize("across_mm", ["16", "17"])
 def test_who_gives_an_arc_its_radius_is_named_beside_its_ends(program: Program, size: str,

@@ -70,11 +70,14 @@ def _by_rank(names: Names, free: Freedoms, number: int,
 def _needed(free: Freedoms, number: int, found: frozenset[Owner],
             silent: frozenset[Owner]) -> frozenset[Owner]:
     """Those of a group without which a dimension wouldn't follow. The others, the latest of them
-    first, take part in something else that is too much. Raises TooMany."""
-    for each in sorted(found, key=lambda owner: owner.number, reverse=True):
-        if not each.shape and free.follows(number, (found - {each}) | silent):
-            found -= {each}
-    return found
+    first, take part in something else that is too much. What is no line of the sketch stands in for
+    none of them. Raises TooMany."""
+    needed = found | silent
+    for some in (silent - found, found):
+        for each in sorted(some, key=lambda owner: owner.number, reverse=True):
+            if not each.shape and free.follows(number, needed - {each}):
+                needed -= {each}
+    return needed & found
 
 
 def _told_last(names: Names, owner: Owner, beside: frozenset[Owner]) -> Sequence[int]:
