@@ -240,6 +240,9 @@ right and 48 up: the root of 6660, 81.608, at 36.027 degrees."""
     # The hole is drawn 22 to the right of the corner, and 21 above it.
     ("rectangle P 21 9 87 57\ncircle H 43 30 6\ncoincident PBottom.start Origin\ndiameter H 12\n",
      ["length PBottom 66", "length PRight 48", "x H.centre 22", "y H.centre 21"], []),
+    # S stays where it is fixed, and so does the hole; A alone is moved.
+    ("point A 10 10\nsegment S 40 40 90 40\ncircle H 70 60 5\ncoincident A Origin\nfixed S.start\n"
+     "horizontal S\ndiameter H 10\nlength S 50\n", ["x H.centre 70", "y H.centre 60"], []),
 ])
 def test_values_are_as_drawn_from_a_point_that_is_told_to_be_the_origin(
         text, own, datum, program):

@@ -7,7 +7,9 @@ from collections.abc import Iterator
 from math import degrees
 
 from pertxogai.drawing import (
-    ORIGIN, Arc, Circle, Drawing, PointRef, Segment, ShapeRef, Which, points_of)
+    DATUM_NAMES, ORIGIN, AngleBetween, Arc, Circle, Coincident, Constraint, Drawing, Fixed,
+    PointRef, Segment, ShapeRef, Which, points_of)
+from pertxogai.drawing.mentions import named
 
 LEAST_UM = 1.0
 """An edge that is shorter has no direction."""
@@ -95,14 +97,18 @@ class Figure:
 
 
 class Sketched(Figure):
-    """A drawing as it is drawn, but moved as a whole so that the first point that is told to be the
-    origin lies there. An edge has the length and the direction that it is drawn with, also where
-    one of its ends is told to be a point that is drawn elsewhere."""
+    """A drawing as it is drawn. Where nothing but points that are told to be the origin ties it,
+    and these are drawn in one place, it is moved as a whole so that they lie there. An edge has the
+    length and the direction that it is drawn with, also where one of its ends is told to be a point
+    that is drawn elsewhere."""
 
-    def __init__(self, drawing: Drawing) -> None:
-        tied = next((drawing.drawn(ref) for ref in drawing.points()
-                     if drawing.meetings.leader(ref) == ORIGIN), None)
-        self._moved = complex(tied.x_um, tied.y_um) if tied else 0j
+    def __init__(self, drawing: Drawing, given: Drawing | None = None) -> None:
+        """given: the same without what is proposed, which ties nothing yet."""
+        given = given or drawing
+        tied = {given.drawn(ref) for ref in given.points()
+                if given.meetings.leader(ref) == ORIGIN}
+        alone = len(tied) == 1 and not any(map(_places, given.constraints))
+        self._moved = sum(complex(each.x_um, each.y_um) for each in tied) if alone else 0j
         super().__init__(drawing)
 
     def at(self, ref: PointRef) -> complex:
@@ -111,6 +117,12 @@ class Sketched(Figure):
     def way(self, edge: Segment) -> complex:
         start, end = map(self.drawing.drawn, ends(edge))
         return complex(end.x_um - start.x_um, end.y_um - start.y_um)
+
+
+def _places(constraint: Constraint) -> bool:
+    """Whether it says where something lies, from the origin or the axes, or as drawn."""
+    return isinstance(constraint, Fixed) or not isinstance(
+        constraint, (AngleBetween, Coincident)) and not DATUM_NAMES.isdisjoint(named(constraint))
 
 
 def ends(edge: Segment | Arc) -> tuple[PointRef, PointRef]:

@@ -96,7 +96,7 @@ def as_written(slack: Slack, choice: Choice) -> Choice:
     scale."""
     if scaled(slack.equations, SAME_SCALE) is not slack.equations.drawn:
         return choice
-    drawn = Sketched(with_more(slack.drawing, choice.own))
+    drawn = Sketched(with_more(slack.drawing, choice.own), slack.drawing)
     return replace(choice, own=tuple(as_drawn(each, drawn) or each for each in choice.own))
 
 
