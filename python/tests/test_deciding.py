@@ -102,7 +102,7 @@ def test_of_many_the_first_are_listed(program: Program) -> None:
 
 
 def test_of_a_tolerance_no_other_grid_is_advised_since_judge_takes_the_finest(program):
-    """Two lines that are nearly parallel meet so far away that a point there is 0.18 mm off."""
+    """Two lines that are nearly parallel meet so far away that a point there is 184 mm off."""
     found = judge_sketch("wide", (TOP / "examples/faults/wide-apart.sketch").read_text(), program)
     advice = [line for line in sketch_lines(found) if "what to do" in line]
     assert len(advice) == 1 and "nearly parallel" in advice[0] and "grid" not in advice[0]

@@ -152,7 +152,9 @@ def what_to_do(fault: Fault, turned: Tried | None = None) -> str:
         return "check the lengths for a slip: the proportions are beyond the grid"
     if isinstance(fault, FrameFault):
         return "draw it nearer to 0 0, or leave out frame=drawn: it is placed too far away"
+    if isinstance(fault, TurnedFault):
+        return "draw it larger, or check its dimensions: it is about as small as the tolerance"
     return (
         "look for a slip in the lengths and angles: what stands on tiny lengths or nearly parallel"
-        " lines is placed inexactly; or allow more by --within"
+        " lines is placed inexactly; --within allows up to 1 mm"
     )
