@@ -147,7 +147,7 @@ def surplus_by_index(judged: JudgedSketch) -> Mapping[int, Surplus]:
     """What may go by FreeCAD's numbers; of a constraint that is several in the drawing the
     first."""
     found: dict[int, Surplus] = {}
-    for each in judged.judged.judgement.surplus:
+    for each in judged.judged.surplus():
         found.setdefault(judged.read.index(each.number), each)
     return found
 

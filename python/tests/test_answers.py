@@ -19,11 +19,11 @@ from pertxogai.judging.faults import Unit as Measure
 from pertxogai.judging.freedoms import freedoms
 from pertxogai.judging.measure import Limit, Solution, Unit
 from pertxogai.judging.missing import DIMENSIONS
-from pertxogai.judging.judged_drawing import JudgedDrawing
+from pertxogai.judging.judged_drawing import CountedDrawing, JudgedDrawing
 from pertxogai.judging.shortage import shortage_of
 from pertxogai.output import drawing_json, drawing_lines
 from pertxogai.program.reports import Verdict, read_excess
-from pertxogai.search import search
+from pertxogai.search import search, search_judged
 from pertxogai.spelling import Rails, Style, axes_of
 from pertxogai.spelling.facts import RadiusOf
 from pertxogai.spelling.linear import Form
@@ -1110,3 +1110,38 @@ def test_what_holds_with_all_others_somewhere_conflicts_with_none(program, more)
     assert not any(each.repeats() is False for each in found.surplus)
     against = judge(read_drawing(BOTH_SIDES.replace("x C +18", "x C +19") + more), program)
     assert any(each.repeats() is False for each in against.surplus)
+
+
+def searched(text, program) -> CountedDrawing:
+    """A drawing, judged and searched."""
+    drawing = read_drawing(text)
+    found = judge(drawing, program)
+    return CountedDrawing("it", drawing, found, finding=search_judged(drawing, found, program))
+
+
+NOTHING_CONFLICTS = "  nothing conflicts: positions were found that meet every constraint (by numbers)"
+
+
+def test_nothing_conflicts_where_the_search_knows_positions_that_meet_every_constraint(program):
+    """L is at x 70, and C 52 left of it: at 18, 24, where all holds, whatever the y of L is."""
+    text = BOTH_SIDES.replace("x C +18", "point L 70 70\nx L 70\nx C L 52")
+    found = searched(text, program)
+    assert found.judgement.verdict is Verdict.OVER and found.all_hold()
+    assert {each.name: each.off for each in found.surplus()}["Up"] is None
+    assert not any(each.repeats() is False for each in found.surplus())
+    assert NOTHING_CONFLICTS in drawing_lines(found)
+    assert not any(each["repeats"] is False for each in drawing_json(found)["spare"])
+    against = searched(text.replace("x C L 52", "x C L 51"), program)
+    assert any(each.repeats() is False for each in against.surplus())
+    assert NOTHING_CONFLICTS not in drawing_lines(against)
+
+
+def test_no_shape_is_told_as_not_found_where_one_is_constructed(program):
+    """Of two equal circles that touch inside each other the centres are one point."""
+    found = searched("circle A 0 0 10\ncircle B 1 0 10\ncoincident A Origin\nradius A 10\nequal A B\n"
+                     "tangent A B\n", program)
+    assert found.finding.solution is not None and found.all_hold()
+    assert found.unmet() is None and drawing_json(found)["by_numbers"] == {"unmet": None}
+    assert not any("no shape" in line for line in drawing_lines(found))
+
+

@@ -132,7 +132,7 @@ def _open(judged: JudgedDrawing, found: Missing) -> Iterator[Line]:
     yield from _not_tied(judgement, "quiet" if found.count else "")
     yield from _shown(judged, found)
     yield from _too_many(judgement)
-    yield from _unmet(judgement)
+    yield from _unmet(judged)
     for piece in found.pieces[:MOST_PIECES]:
         yield Line(f"cluster {piece.number}: {piece.text()}", list="pieces",
                    selects=piece.elements, part=piece.number)
@@ -184,11 +184,11 @@ def _too_many(judgement: Judgement) -> Iterator[Line]:
                 for each in judgement.too_many)
 
 
-def _unmet(judgement: Judgement) -> Iterator[Line]:
+def _unmet(judged: JudgedDrawing) -> Iterator[Line]:
     """That no shape is found, and without what there is one."""
-    if isinstance(judgement, WeighedJudgement) and judgement.unmet is not None:
-        without = (f" Without any one of these a shape is found: {listed(judgement.unmet)}."
-                   if judgement.unmet else "")
+    unmet = judged.unmet()
+    if unmet is not None:
+        without = f" Without any one of these a shape is found: {listed(unmet)}." if unmet else ""
         yield Line("No shape with these values was found near the drawing, by numbers." + without)
 
 

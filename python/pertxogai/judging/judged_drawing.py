@@ -7,7 +7,7 @@ from typing import TYPE_CHECKING
 
 from pertxogai.drawing import Drawing
 from pertxogai.judging.departures import Warned, warnings
-from pertxogai.judging.judgement import CountedJudgement, Judgement
+from pertxogai.judging.judgement import CountedJudgement, Judgement, WeighedJudgement
 from pertxogai.judging.measure.deviation import Deviation, Unit, greatest
 from pertxogai.judging.measure.limit import Limit
 from pertxogai.judging.measure.solution import Solution
@@ -16,6 +16,7 @@ from pertxogai.judging.printed import is_tied
 if TYPE_CHECKING:  # Each is imported where it is found: few drawings have any.
     from pertxogai.judging.as_stored import StoredOffs
     from pertxogai.judging.finding import Finding, Nearly, PlacesBy
+    from pertxogai.judging.surplus import Surplus
 
 
 @dataclass(frozen=True)
@@ -65,6 +66,30 @@ class JudgedDrawing:
         if self.judgement.solution is not None:
             return PlacesBy.PROGRAM
         return self.finding.places_by if self.finding else None
+
+    def all_hold(self) -> bool:
+        """Whether the search knows positions at which every constraint holds within the limit, as
+        measured."""
+        found = self.finding
+        return (found is not None and found.solution is not None
+                and not any(self.limit.beyond(found.deviations)))
+
+    def surplus(self) -> tuple[Surplus, ...]:
+        """If it is over-constrained: each removable dimension. None conflicts where positions are
+        known that meet every constraint."""
+        if not self.judgement.surplus or not self.all_hold():
+            return self.judgement.surplus
+        from pertxogai.judging.surplus import where_all_hold
+
+        return where_all_hold(self.judgement.surplus)
+
+    def unmet(self) -> tuple[str, ...] | None:
+        """If no shape is found: the constraints without any one of which there is a shape; None
+        otherwise, and where positions are known that meet every constraint."""
+        judgement = self.judgement
+        if not isinstance(judgement, WeighedJudgement) or self.all_hold():
+            return None
+        return judgement.unmet
 
     def warnings(self) -> tuple[Warned, ...]:
         """What is placed in another orientation than drawn at these positions, and the edges that

@@ -107,6 +107,10 @@ class Surplus:
         found = its_own[:1] or (with_it if len(with_it) == 1 else [])
         return tuple(name for group in found for name in group if name != self.name)
 
+    def untold(self) -> Surplus:
+        """The same, without how far it is off."""
+        return replace(self, off=None, rounding=0)
+
     def opens(self) -> bool:
         """Whether more is missing without it, and without what has to go beside it."""
         return self.lacks
@@ -166,7 +170,14 @@ def _consistent(found: Sequence[Surplus], excess: int, trials: _Trials) -> Itera
     for each in found:
         elsewhere = each.repeats() is False and (repeats or each.number in trials.met)
         is_told = not elsewhere and each.number not in trials.idle
-        yield each if is_told else replace(each, off=None, rounding=0)
+        yield each if is_told else each.untold()
+
+
+def where_all_hold(found: Iterable[Surplus]) -> tuple[Surplus, ...]:
+    """What may go of a drawing of which all constraints hold together somewhere: what is off by
+    more is so on another shape of its rest, and that isn't told."""
+    told = (each.untold() if each.repeats() is False else each for each in found)
+    return tuple(sorted(told, key=_order))
 
 
 def _order(each: Surplus) -> tuple[bool, int, int, int]:

@@ -48,7 +48,7 @@ def drawing_lines(judged: CountedDrawing) -> Iterator[str]:
     yield from _asked_lines(judged)
     yield from _places_lines(judged)
     yield from _open_lines(judged)
-    yield from _unmet_lines(judged.judgement)
+    yield from _unmet_lines(judged)
     yield from _surplus_lines(judged)
     yield from (f"  check: {warning.text()}" for warning in judged.warnings())
     yield from _nearly_lines(judged)
@@ -247,12 +247,13 @@ def _nearly_lines(judged: JudgedDrawing) -> Iterator[str]:
         yield f"  nearly: {each.line}, off by {each.off:.3g} {each.unit}; {why}"
 
 
-def _unmet_lines(judgement: CountedJudgement) -> Iterator[str]:
+def _unmet_lines(judged: CountedDrawing) -> Iterator[str]:
     """That no shape is found, and without what there is one."""
-    if judgement.unmet is not None:
+    unmet = judged.unmet()
+    if unmet is not None:
         yield "  no shape with these values was found near the drawing (by numbers)"
-    if judgement.unmet:
-        yield (f"  what to do: correct one of {listed(judgement.unmet)}; without any one of these "
+    if unmet:
+        yield (f"  what to do: correct one of {listed(unmet)}; without any one of these "
                "a shape is found")
 
 
@@ -262,9 +263,12 @@ def _surplus_lines(judged: CountedDrawing) -> Iterator[str]:
     judgement = judged.judgement
     yield from (f"  over-constrained as measured, which isn't certified: {quoted(what)} can't be "
                 "encoded, and the rest is enough" for what in judgement.measured_off)
-    yield from _advice_on(judgement.surplus, judgement.free is not None)
-    opening = [each for each in judgement.surplus if each.opens()]
-    others = [each for each in judgement.surplus if not each.opens()]
+    surplus = judged.surplus()
+    if surplus != judgement.surplus:
+        yield "  nothing conflicts: positions were found that meet every constraint (by numbers)"
+    yield from _advice_on(surplus, judgement.free is not None)
+    opening = [each for each in surplus if each.opens()]
+    others = [each for each in surplus if not each.opens()]
     for each in others or opening:
         yield from _removable_lines(each, judged)
     if others and opening:

@@ -23,7 +23,7 @@ if TYPE_CHECKING:  # What isn't well, or isn't met, imports what is told of it a
 def drawing_json(judged: CountedDrawing) -> dict[str, object]:
     """Everything that is reported of it, as one JSON object. Positions are in nm in the coordinates
     of the datum, whole numbers if they were printed in these."""
-    judgement = judged.judgement
+    judgement, unmet = judged.judgement, judged.unmet()
     return {
         "name": judged.name,
         "verdict": judgement.verdict.value,
@@ -38,7 +38,7 @@ def drawing_json(judged: CountedDrawing) -> dict[str, object]:
         "by_rank": _by_rank(judgement),
         "spare": _spare(judged),
         **_placed_json(judged),
-        "by_numbers": {"unmet": None if judgement.unmet is None else list(judgement.unmet)},
+        "by_numbers": {"unmet": None if unmet is None else list(unmet)},
         "warnings": [each.text() for each in judged.warnings()],
         **_stored_json(judged),
     }
@@ -155,7 +155,7 @@ def _spare(judged: CountedDrawing) -> list[dict[str, object]]:
     return [{**spare_json(each), "in_part": each.in_part, "opens": each.opens(),
              "beyond": each.beyond and _deviation(each.beyond, judged.drawing),
              "follows_from_by_numbers": list(each.others_by_numbers(judged.finding))}
-            for each in judged.judgement.surplus]
+            for each in judged.surplus()]
 
 
 def _places(drawing: Drawing, solution: Solution) -> dict[str, object]:
