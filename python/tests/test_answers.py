@@ -1145,3 +1145,24 @@ def test_no_shape_is_told_as_not_found_where_one_is_constructed(program):
     assert not any("no shape" in line for line in drawing_lines(found))
 
 
+@pytest.mark.parametrize("edge_mm, words, off_ppb", [
+    (1, ("angle A +30deg", "angle A +30.02deg"), 349_066),
+    (1, ("horizontal A", "angle A +0.02deg"), 349_066),
+    (10_000, ("angle A +30deg", "angle A +30.00001deg"), 175),
+])
+def test_an_angle_is_redundant_within_the_limit_of_angles(program, edge_mm, words, off_ppb):
+    """0.02 degrees are 349,066 ppb, and 349 nm of an edge of a millimetre; 0.00001 degrees are 175
+    ppb, and 1,745 nm of one of ten metres. The limit is 1,000 of each."""
+    found = searched(f"segment A 0 0 {edge_mm} 0\ncoincident A.start Origin\nlength A {edge_mm}\n"
+                     f"{words[0]}\n{words[1]}\n", program)
+    assert found.judgement.verdict is Verdict.OVER
+    repeats = off_ppb <= 1000
+    assert [each.repeats() for each in found.surplus()] == [repeats, repeats]
+    for each in found.surplus():
+        assert each.off.unit is Unit.PPB and abs(each.off.amount - off_ppb) < 1500 / edge_mm + 2
+    names = {each.name for each in found.surplus()}
+    groups = found.finding.repeats if repeats else found.finding.contradictions
+    assert [set(each) for each in groups] == [names]
+    assert not (found.finding.contradictions if repeats else found.finding.repeats)
+
+

@@ -12,7 +12,7 @@ from pertxogai.judging.edited import EditedDrawing
 from pertxogai.judging.freedoms import Freedoms, Gone, Twice, Whole, freedoms
 from pertxogai.judging.jets import TooMany
 from pertxogai.judging.limits import EncodingRefused, check_fits
-from pertxogai.judging.measure.deviation import Deviation, Unit, worst
+from pertxogai.judging.measure.deviation import Deviation, Unit
 from pertxogai.judging.measure.limit import Limit
 from pertxogai.judging.measure.measuring import Measurement, measure
 from pertxogai.judging.measure.solution import Solution
@@ -163,8 +163,12 @@ class Judgement:
         """The constraints that couldn't be encoded, with their measured deviations."""
         owners = sorted(each for each in self.asked.spelled.left_out if each.number)
         return tuple(LeftOut(self.names.owner(each), each,
-                             None if each.shape else worst(self.deviations, each.number),
+                             None if each.shape else self._off(each.number),
                              self.limit, self._twice(each) is Twice.WHOLE) for each in owners)
+
+    def _off(self, number: int) -> Deviation | None:
+        """How far a constraint is off at the solved position."""
+        return self.limit.told(each for each in self.deviations if each.number == number)
 
     def _twice(self, owner: Owner) -> Twice | None:
         """What of a constraint the others say too, by rank; None where the rank isn't known."""

@@ -10,11 +10,8 @@ from pertxogai.drawing import (
 from pertxogai.drawing.mentions import named
 from pertxogai.exact import square
 from pertxogai.judging.edges import LEAST_NM
-from pertxogai.judging.measure.amounts import amounts
-from pertxogai.judging.measure.deviation import Deviation, Unit
 from pertxogai.judging.measure.limit import Limit
-from pertxogai.judging.measure.measuring import measure_one
-from pertxogai.judging.measure.placed import Placed
+from pertxogai.judging.measure.measuring import Deviations, measure_one
 from pertxogai.judging.measure.solution import Frame, MissingPlace, PointNm, Solution
 from pertxogai.judging.printed import PrintedPlaces
 from pertxogai.judging.trials import Trial, written_by
@@ -28,19 +25,18 @@ UPRIGHT = Horizontal, Vertical, XDistance, YDistance
 DATUM_NAMES = {ORIGIN.shape, X_AXIS.name, Y_AXIS.name}
 
 
-def off_in_pieces(drawing: Drawing, number: int, asked: Trial, program: Solver) -> Deviation | None:
+def off_in_pieces(drawing: Drawing, number: int, asked: Trial, program: Solver) -> Deviations:
     """How far a constraint is off on the first placed piece that has all that it speaks of, where
-    `asked` is of the drawing without it; None where none has. Raises ProgramError."""
-    constraint = drawing.constraints[number - 1]
-    for _, off_nm in _measured(drawing, constraint, asked, program):
-        return Deviation(number, constraint, off_nm, Unit.NM)
-    return None
+    `asked` is of the drawing without it; nothing where none has. Raises ProgramError."""
+    for _, deviations in _measured(drawing, number, asked, program):
+        return deviations
+    return ()
 
 
 def is_lost_in_pieces(drawing: Drawing, number: int, asked: Trial, program: Solver) -> bool:
     """Whether an edge that is drawn with a length has none on the piece on which a constraint is
     measured, and so has any direction. Raises ProgramError."""
-    for solution, _ in _measured(drawing, drawing.constraints[number - 1], asked, program):
+    for solution, _ in _measured(drawing, number, asked, program):
         return has_lost(drawing, solution)
     return False
 
@@ -77,16 +73,14 @@ def _is_lost(drawing: Drawing, solution: Solution, edge: Segment) -> bool:
     return is_short and drawing.drawn(start) != drawing.drawn(end)
 
 
-def _measured(drawing: Drawing, constraint: Constraint, asked: Trial,
-              program: Solver) -> Iterator[tuple[Solution, int]]:
-    """Each placed piece that has all that a constraint speaks of, and how far it is off there, in
-    nanometres."""
+def _measured(drawing: Drawing, number: int, asked: Trial,
+              program: Solver) -> Iterator[tuple[Solution, Deviations]]:
+    """Each placed piece that has all that a constraint speaks of, and how far it is off there."""
     for piece in _pieces(drawing, asked, program):
         with suppress(MissingPlace):
-            if piece.lies_as_needed(constraint):
+            if piece.lies_as_needed(drawing.constraints[number - 1]):
                 solution = piece.solution()
-                off_nm = amounts(Placed(drawing, solution), constraint)[0]
-                yield solution, off_nm
+                yield solution, measure_one(drawing, solution, number)
 
 
 def _pieces(drawing: Drawing, asked: Trial, program: Solver) -> Iterator[_Piece]:

@@ -14,9 +14,9 @@ from pertxogai.drawing.places import NM_PER_UM
 from pertxogai.exact import whole_up
 from pertxogai.judging.finding import Finding, Group
 from pertxogai.judging.freedoms import Freedoms, Gone, Twice, freedoms
-from pertxogai.judging.measure.deviation import Deviation, Unit, greatest, worst
-from pertxogai.judging.measure.limit import Limit, amount_text
-from pertxogai.judging.measure.measuring import measure, measure_one
+from pertxogai.judging.measure.deviation import Deviation, Unit, greatest
+from pertxogai.judging.measure.limit import ROUNDING_NM, Limit, amount_text, is_direction
+from pertxogai.judging.measure.measuring import Deviations, measure, measure_one
 from pertxogai.judging.naming import quoted
 from pertxogai.judging.pieces_measured import (
     are_met_in_a_piece, has_lost, is_lost_in_pieces, off_in_pieces)
@@ -300,7 +300,7 @@ class _Trials:
         asked, is_freed = self._without(gone), bool(self.free.freed(gone))
         off = None
         if asked.verdict is not Verdict.OVER and not is_freed:
-            off = self._off(number, gone, asked)
+            off = self.limit.told(self._off(number, gone, asked))
         beyond = self._beyond(frozenset({number}))
         then = _then(self._without(frozenset({number}))) if beyond is None else Then.NOT_GOOD
         lacks = asked.verdict is Verdict.OPEN and (is_freed or not self.free.lacks)
@@ -355,15 +355,15 @@ class _Trials:
         if self._work < 0 and self._known:
             raise _Enough
 
-    def _off(self, number: int, gone: frozenset[int], asked: Trial) -> Deviation | None:
+    def _off(self, number: int, gone: frozenset[int], asked: Trial) -> Deviations:
         """How far a constraint is off on the places of the rest, or of a piece of it."""
         if asked.verdict is Verdict.OPEN:
             return (off_in_pieces(self.drawing, number, asked, self.program)
                     or self._off_by_sums(number, gone))
         if not isinstance(asked.solved, Solved):
-            return None
+            return ()
         places = solution_of(without(self.drawing, gone), asked, asked.solved)
-        return worst(measure_one(self.drawing, places, number), number)
+        return measure_one(self.drawing, places, number)
 
     def _with_rounding(self, tried: Surplus, gone: frozenset[int]) -> Surplus:
         """The same, of what is off by no more than rounding is looked at for, where the angles of
@@ -374,8 +374,8 @@ class _Trials:
         asked, off = self._measured_finely(tried.number, tried.off, gone)
         lines = self._rounded_lines(asked.spelled, gone)
         self._spend_on_rounding(2 * len(lines))
-        rounding = moved_by_rounding(asked.spelled, lines, off, lambda spelled: self._off(
-            tried.number, gone, told_by(asked, spelled, self.program)))
+        rounding = moved_by_rounding(asked.spelled, lines, off, lambda spelled: greatest(
+            self._off(tried.number, gone, told_by(asked, spelled, self.program)), off.unit))
         return self._noted(replace(tried, off=off, rounding=rounding), gone)
 
     def _noted(self, tried: Surplus, gone: frozenset[int]) -> Surplus:
@@ -416,7 +416,7 @@ class _Trials:
             return asked, off
         self._spend_on_rounding(1)
         fine = self._without_finely(gone)
-        there = self._off(number, gone, fine)
+        there = self.limit.told(self._off(number, gone, fine))
         return (asked, off) if there is None else (fine, there)
 
     def _spend_on_rounding(self, rests: int) -> None:
@@ -434,19 +434,22 @@ class _Trials:
         return [line for line in rounded_lines(spelled)
                 if not among.isdisjoint(spelled.owners[line - 1])]
 
-    def _off_by_sums(self, number: int, gone: frozenset[int]) -> Deviation | None:
-        """How far a constraint is off what the rest says of x and y; None where that doesn't tell
-        all that it says."""
+    def _off_by_sums(self, number: int, gone: frozenset[int]) -> Deviations:
+        """How far a constraint is off what the rest says of x and y; nothing where that doesn't
+        tell all that it says, as by which angle a direction is off."""
         others = gone - {number}
         owner = Owner(number - sum(other < number for other in others))
         rest = axes_said(without(self.drawing, gone)).system
         said = axes_said(without(self.drawing, others)).equations
         values = [rest.reduced(each.form) for each in said if owner in each.owners]
         if not values or any(each.terms for each in values):
-            return None
+            return ()
         off_um = max(max(each.number, -each.number) for each in values)
         off_nm = whole_up(Fraction(off_um) * NM_PER_UM)
-        return Deviation(number, self.drawing.constraints[number - 1], off_nm, Unit.NM)
+        of = self.drawing.constraints[number - 1]
+        if is_direction(of) and ROUNDING_NM < off_nm <= self.limit.amount:
+            return ()
+        return Deviation(number, of, off_nm, Unit.NM),
 
 
 def _then(asked: Trial) -> Then:

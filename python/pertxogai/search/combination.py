@@ -3,6 +3,9 @@ from __future__ import annotations
 
 from collections.abc import Mapping
 from dataclasses import dataclass, field
+from math import hypot
+
+from pertxogai.search.arrays import Array
 
 
 @dataclass(frozen=True)
@@ -23,6 +26,12 @@ class Combination:
 
     def __sub__(self, other: Combination) -> Combination:
         return self + other.times(-1.0)
+
+    def length_nm(self, x: Array) -> float:
+        """How long it is as a way, where the unknowns are x: the points' x and y first."""
+        return hypot(*(start + sum(factor * float(x[2 * point + is_y])
+                                   for point, factor in self.factors.items())
+                       for is_y, start in enumerate((self.x_nm, self.y_nm))))
 
     def times(self, factor: float) -> Combination:
         """Each factor, and the constant, times a number."""

@@ -2,6 +2,7 @@
 from __future__ import annotations
 
 from collections.abc import Iterable, Iterator
+from dataclasses import replace
 from math import cos, hypot, radians, sin
 
 from pertxogai.drawing import (
@@ -106,11 +107,11 @@ class _Asked:
         return [self._aside(line, point) for point in asked or points]
 
     def _level(self, level: Horizontal | Vertical) -> Row:
+        is_y = isinstance(level, Horizontal)
         if isinstance(level.of, Pair):
-            way = self._way(level.of.first, level.of.second)
-        else:
-            way = self._unknowns.line(level.of)[1]
-        return self._coordinate(way, is_y=isinstance(level, Horizontal))
+            return self._coordinate(self._way(level.of.first, level.of.second), is_y)
+        way = self._unknowns.line(level.of)[1]
+        return replace(self._coordinate(way, is_y), level=way)
 
     def _of_length(self, constraint: Length | Distance | XDistance | YDistance) -> Row:
         if isinstance(constraint, Length):

@@ -16,11 +16,11 @@ from time import thread_time
 import numpy as np
 
 from pertxogai.drawing import Segment, ShapeRef
+from pertxogai.judging.measure.limit import Limit
 from pertxogai.judging.surplus import without
 from pertxogai.search.arrays import Array
 from pertxogai.search.budget import Budget
-from pertxogai.search.combination import Combination
-from pertxogai.search.dependencies import Dependency
+from pertxogai.search.dependencies import PPB, Dependency
 from pertxogai.search.equations import Equations
 from pertxogai.search.freedom import Freedom, freedom
 from pertxogai.search.solving import Found, can_be_met, solve
@@ -57,37 +57,47 @@ class Clashes:
 
 
 def clashes(equations: Equations, found: Found, free: Freedom | None,
-            within_nm: float) -> Clashes:
-    """What can't all be met within so many nanometres, and what repeats others so nearly; nothing
-    where the drawing is solved. free: None where the rank isn't asked."""
+            limit: Limit) -> Clashes:
+    """What can't all be met within the limit, and what repeats others so nearly; nothing where the
+    drawing is solved. free: None where the rank isn't asked."""
     dependencies = free.dependencies if free is not None else ()
-    if not all(each.repeats(within_nm) for each in dependencies):
-        return _one_by_one(equations, dependencies, within_nm)
-    if found.end.worst_nm <= within_nm:
+    if not all(each.holds(limit) for each in dependencies):
+        return _one_by_one(equations, dependencies, limit)
+    if _is_within(equations, found.x, limit):
         return Clashes(repeats=dependencies)
     again = frozenset(each.sources[0].number for each in dependencies)
     worst = (number for number in _worst(equations, found) if number not in again)
-    sharp = _Rests(equations, within_nm, again).sharp(worst)
+    sharp = _Rests(equations, limit, again).sharp(worst)
     return Clashes((sharp,) if sharp else (), repeats=dependencies)
 
 
 def _one_by_one(equations: Equations, dependencies: Sequence[Dependency],
-                within_nm: float) -> Clashes:
+                limit: Limit) -> Clashes:
     """Each group by itself, of groups of which some seem to contradict where the search came
     nearest: by the place where all but the latest constraints of these are met, if one is found."""
-    off = [each for each in dependencies if not each.repeats(within_nm)]
+    off = [each for each in dependencies if not each.holds(limit)]
     latest = frozenset(each.sources[0].number for each in off)
-    rest = solve(Equations(equations.unknowns.drawing, latest), Budget(seconds=REST_SECONDS))
-    if rest.end.worst_nm > within_nm:
-        rests = _Rests(equations, within_nm, latest)
-        return rests.clashes(off, [each for each in dependencies if each.repeats(within_nm)])
+    others = Equations(equations.unknowns.drawing, latest)
+    rest = solve(others, Budget(seconds=REST_SECONDS))
+    if not _is_within(others, rest.x, limit):
+        rests = _Rests(equations, limit, latest)
+        return rests.clashes(off, [each for each in dependencies if each.holds(limit)])
     told = freedom(equations, rest.x).dependencies
     known = {number for each in told for number in _numbers(each)}
-    clashing = [each for each in told if not each.repeats(within_nm)]
+    clashing = [each for each in told if not each.holds(limit)]
     unknown = [each for each in off if each.sources[0].number not in known]
-    rests = _Rests(equations, within_nm, latest.union(each.sources[0].number for each in told))
+    rests = _Rests(equations, limit, latest.union(each.sources[0].number for each in told))
     return rests.clashes([*clashing, *unknown],
-                         [each for each in told if each.repeats(within_nm)], clashing)
+                         [each for each in told if each.holds(limit)], clashing)
+
+
+def _is_within(equations: Equations, x: Array, limit: Limit) -> bool:
+    """Whether no row is off by more than the limit where the unknowns are x: a length in
+    nanometres, a direction in nanometres or in ppb."""
+    off, radians = np.abs(equations.off(x)), equations.radians_nm()
+    is_turn = np.isfinite(radians)
+    is_near = is_turn & (PPB * off <= limit.amount * np.where(is_turn, radians, 1.0))
+    return bool((is_near | (off <= limit.amount)).all())
 
 
 @dataclass(frozen=True)
@@ -103,10 +113,9 @@ class _Rests:
     """A drawing without some of its constraints. latest: those that aren't needed by the others, of
     which a group is tried with one, its own."""
 
-    def __init__(self, equations: Equations, within_nm: float,
+    def __init__(self, equations: Equations, limit: Limit,
                  latest: frozenset[int] = frozenset()) -> None:
-        self._drawing, self._within_nm, self._latest = (
-            equations.unknowns.drawing, within_nm, latest)
+        self._drawing, self._limit, self._latest = equations.unknowns.drawing, limit, latest
 
     def clashes(self, groups: Iterable[Dependency], repeats: Iterable[Dependency],
                 known: Collection[Dependency] = ()) -> Clashes:
@@ -146,7 +155,7 @@ class _Rests:
     def _is_met(self, gone: Collection[int], seconds: float) -> bool:
         """Whether places are found that meet all but some constraints."""
         rest = Equations(without(self._drawing, gone))
-        return can_be_met(rest, self._within_nm, Budget(STEPS, seconds))
+        return can_be_met(rest, self._limit.amount, Budget(STEPS, seconds))
 
 
 def has_shrunk(equations: Equations, x: Array) -> bool:
@@ -166,16 +175,8 @@ def _sizes(unknowns: Unknowns, x: Array) -> Array:
     """The lengths of the edges, and the radii, in nanometres."""
     edges = [ShapeRef(shape.name) for shape in unknowns.drawing.geometry
              if isinstance(shape, Segment) and not shape.outer]
-    ways = (_way(unknowns.line(edge)[1], x) for edge in edges)
     radii = x[2 * len(unknowns.points):]
-    return np.array([*(float(np.hypot(*way)) for way in ways), *np.abs(radii)])
-
-
-def _way(way: Combination, x: Array) -> Array:
-    ends = np.array([way.x_nm, way.y_nm])
-    for point, factor in way.factors.items():
-        ends += factor * x[2 * point:2 * point + 2]
-    return ends
+    return np.array([*(unknowns.line(edge)[1].length_nm(x) for edge in edges), *np.abs(radii)])
 
 
 def _worst(equations: Equations, found: Found) -> Iterator[int]:

@@ -4,9 +4,11 @@ from __future__ import annotations
 
 from collections.abc import Iterator, Sequence
 from dataclasses import dataclass
+from math import inf
 
 import numpy as np
 
+from pertxogai.judging.measure.limit import ROUNDING_NM, Limit
 from pertxogai.search.arrays import Array
 from pertxogai.search.rank import Dependent
 from pertxogai.search.row import Row
@@ -18,6 +20,7 @@ BENT = 1e-3
 """What follows lasts where the bends of its rows cancel each other but for this part."""
 LEAST_BEND = 1e-4
 """What bends by less, in parts of the drawing's size, is straight."""
+PPB = 1e9
 SAME_NM = 1.0
 """Constraints that are off each other by no more say the same: places are whole nanometres."""
 
@@ -26,23 +29,33 @@ SAME_NM = 1.0
 class Dependency:
     """Constraints and shapes of which one follows from the others, or contradicts them: the latest
     first, and by how many nanometres it is off what the others say. lasts: whether it still follows
-    where what is free is moved; else it only seems to, as of a chain that is pulled straight."""
+    where what is free is moved; else it only seems to, as of a chain that is pulled straight.
+    length_nm, turn_ppb: by how many nanometres a length among them would have to be another so that
+    all hold, and by how many ppb a direction; infinitely many where there is none."""
 
     sources: tuple[Source, ...]
     off_nm: float
     lasts: bool = True
+    length_nm: float = inf
+    turn_ppb: float = inf
 
-    def repeats(self, within_nm: float = SAME_NM) -> bool:
-        """Whether the latest says what the others do, within so many nanometres."""
-        return self.off_nm <= within_nm
+    def repeats(self) -> bool:
+        """Whether the latest says what the others do."""
+        return self.off_nm <= SAME_NM
+
+    def holds(self, limit: Limit) -> bool:
+        """Whether it says so within the limit: a length in nanometres, a direction in ppb, as far
+        as whole nanometres can say it."""
+        least = min(self.length_nm, self.turn_ppb)
+        return least <= limit.amount or self.off_nm <= ROUNDING_NM
 
 
-def dependencies(rows: Sequence[Row], off: Array, bends: Array,
+def dependencies(rows: Sequence[Row], off: Array, radians: Array, bends: Array,
                  dependent: Dependent) -> Iterator[Dependency]:
-    """The dependencies among rows, of which `off` is how far each is off 0, and `bends` how it
-    changes along what is free where that has moved. What the shapes themselves ask for is the
-    latest nowhere, and what is only measured wherever it may be: that it follows is what is asked
-    for."""
+    """The dependencies among rows, of which `off` is how far each is off 0, `radians` by how much
+    each that asks for a direction is for a radian, and `bends` how it changes along what is free
+    where that has moved. What the shapes themselves ask for is the latest nowhere, and what is only
+    measured wherever it may be: that it follows is what is asked for."""
     sources = [rows[number].source for number in dependent.rows]
     places = sorted(range(len(sources)), key=lambda place: lateness(sources[place]), reverse=True)
     for place, factors in _reduced(dependent.factors, places):
@@ -51,7 +64,19 @@ def dependencies(rows: Sequence[Row], off: Array, bends: Array,
         latest_first = sorted(group, key=lateness, reverse=True)
         parts = factors / max(1.0, float(np.abs(factors).max()))
         yield Dependency((sources[place], *latest_first), abs(float(parts @ off[dependent.rows])),
-                         _cancel(parts * bends[dependent.rows]))
+                         _cancel(parts * bends[dependent.rows]),
+                         *_least(factors[seen], off[dependent.rows][seen],
+                                 radians[dependent.rows][seen]))
+
+
+def _least(factors: Array, off: Array, radians: Array) -> tuple[float, float]:
+    """By how many nanometres the length of one row would have to be another so that rows that are
+    off so much hold, and by how many ppb the direction of one."""
+    is_turn = np.isfinite(radians)
+    shares = np.abs(factors) * np.where(is_turn, radians, 1.0)
+    total_nm = abs(float(factors @ off))
+    length, turn = (float(shares[which].max(initial=0.0)) for which in (~is_turn, is_turn))
+    return total_nm / length if length else inf, PPB * total_nm / turn if turn else inf
 
 
 def _cancel(bends: Array) -> bool:

@@ -73,6 +73,16 @@ class System:
         return ((abs(row.number_nm), float(each)) for row, each in zip(self.rows, now)
                 if row.is_size)
 
+    def radians_nm(self) -> Array:
+        """By how many nanometres each row that asks for a direction is off 0 for each radian, by
+        its line as it is drawn; infinitely many for what is a length."""
+        found = np.full(len(self.rows), np.inf)
+        found[self._leans.rows] = self._leans.size_nm
+        for number, row in enumerate(self.rows):
+            if row.level is not None:
+                found[number] = max(row.level.length_nm(self.drawn), LEAST_LEAN * self.size_nm)
+        return found
+
     # -- how it is put together
 
     def _assemble(self) -> None:

@@ -130,7 +130,7 @@ class _Inside:
         known_nm = sum(factor * float(self._x[column]) for column, factor in row.linear.items()
                        if column not in self.columns)
         return replace(row, ways=tuple(map(self._way, row.ways)), linear=linear,
-                       number_nm=row.number_nm - known_nm)
+                       number_nm=row.number_nm - known_nm, level=None)
 
     def _way(self, way: Combination) -> Combination:
         """A way, with what stays in its constant."""

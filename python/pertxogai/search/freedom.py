@@ -53,8 +53,9 @@ def freedom(equations: Equations, x: Array) -> Freedom:
                           lambda near: unit_rows(equations.tangents(near).jacobian))
     rank = held = rank_of(asked.jacobian, len(unknowns.points))
     bends = asked.bends(held.free) if held.dependent else np.zeros(len(off))
+    radians = equations.radians_nm() * factors
     found = [each for dependent in held.dependent
-             for each in dependencies(equations.rows, off * factors, bends, dependent)]
+             for each in dependencies(equations.rows, off * factors, radians, bends, dependent)]
     crooked, whole = _crooked(equations, found), of_the_whole(asked, held.free)
     if crooked:
         asked = _without_measured(equations, asked)

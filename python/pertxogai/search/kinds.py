@@ -99,8 +99,8 @@ class Asides(RowsOfKind):
 
 
 class Leans(RowsOfKind):
-    """size * (the angle from u to Rv). Which of the two ways round parallel lines run is the drawn
-    one where they are held firmly, else the nearer one."""
+    """size * (the angle from u to Rv), and these sizes. Which of the two ways round parallel lines
+    run is the drawn one where they are held firmly, else the nearer one."""
 
     def __init__(self, rows: Sequence[Row], first_way: Sequence[int], drawn: Ways,
                  least_nm: float) -> None:
@@ -110,7 +110,7 @@ class Leans(RowsOfKind):
                              for number in self.rows], dtype=bool).reshape(-1, 2)
         lengths = np.stack([drawn.lengths[self.first], drawn.lengths[self.second]], axis=1)
         shorter = np.where(is_known, np.inf, lengths).min(axis=1, initial=np.inf)
-        self._size = np.maximum(np.where(np.isfinite(shorter), shorter, 1.0), least_nm)
+        self.size_nm = np.maximum(np.where(np.isfinite(shorter), shorter, 1.0), least_nm)
         self._drawn_way = np.where(self._is_directed, 1.0, self._nearer(drawn))
         self.is_firm = False
 
@@ -119,12 +119,12 @@ class Leans(RowsOfKind):
         sine, cosine = cross(first, second), dot(first, second)
         way = self._drawn_way if self.is_firm else np.where(
             self._is_directed, 1.0, np.where(cosine < 0, -1.0, 1.0))
-        found: Array = self._size * np.arctan2(way * sine, way * cosine)
+        found: Array = self.size_nm * np.arctan2(way * sine, way * cosine)
         return found
 
     def slopes(self, ways: Ways) -> Array:
         by_first, by_second = (
-            left(ways.unit[which]) * (self._size / ways.lengths[which])[:, None]
+            left(ways.unit[which]) * (self.size_nm / ways.lengths[which])[:, None]
             for which in (self.first, self.second))
         return np.concatenate([-by_first, by_second])
 

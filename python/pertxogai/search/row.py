@@ -41,7 +41,8 @@ class Row:
 
     linear and number_nm: B and b. turn: cosine and sine of R. is_sided: the side is the drawn one,
     else the left. is_size: the number is a designer's length, which tells the scale. is_directed:
-    two ways may not run against each other; of parallel lines that is left open."""
+    two ways may not run against each other; of parallel lines that is left open. level: of a row
+    that asks for the direction of a line by its y or x alone, the way along that line."""
 
     source: Source
     kind: Kind
@@ -52,3 +53,4 @@ class Row:
     is_sided: bool = False
     is_size: bool = False
     is_directed: bool = False
+    level: Combination | None = None

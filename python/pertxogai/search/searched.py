@@ -124,7 +124,7 @@ class Searched:
         what is taken for a contradiction. Where the search has ended with an edge or a rim that has
         shrunk to nothing, it is stuck, and nothing is told to repeat or to contradict."""
         free = self.freedom if self.equations.unknowns.count <= MOST_RANKED else None
-        found = clashes(self.equations, self.found, free, limit.amount)
+        found = clashes(self.equations, self.found, free, limit)
         latest = found.latest()
         rest = Searched(without(self.drawing, latest), REST_SECONDS) if latest else self
         told = Finding(rest.freedom.count, rest.freedom.motions.of_the_whole, True)

@@ -2,7 +2,7 @@
 
 from __future__ import annotations
 
-from collections.abc import Iterable
+from collections.abc import Collection, Iterable
 from dataclasses import dataclass
 from enum import Enum
 
@@ -64,7 +64,6 @@ def greatest(deviations: Iterable[Deviation], unit: Unit) -> Deviation | None:
     return max(of_unit, key=lambda each: each.amount) if of_unit else None
 
 
-def worst(deviations: Iterable[Deviation], number: int) -> Deviation | None:
-    """The deviation of a constraint that counts: in nanometres, before that of an angle."""
-    mine = [each for each in deviations if each.number == number]
-    return greatest(mine, Unit.NM) or greatest(mine, Unit.PPB)
+def worst(deviations: Collection[Deviation]) -> Deviation | None:
+    """The greatest deviation in nanometres, before that of an angle."""
+    return greatest(deviations, Unit.NM) or greatest(deviations, Unit.PPB)

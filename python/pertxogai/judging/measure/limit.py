@@ -8,7 +8,7 @@ from dataclasses import dataclass
 
 from pertxogai.drawing import (
     AngleBetween, Constraint, Horizontal, Parallel, Perpendicular, ShapeRef, Vertical)
-from pertxogai.judging.measure.deviation import Deviation, Implied, Unit
+from pertxogai.judging.measure.deviation import Deviation, Implied, Unit, worst
 
 ROUNDING_NM = 4
 """A direction is as good as whole nanometres can say it where the end of the shorter line lies no
@@ -46,6 +46,15 @@ class Limit:
             elif each.amount > self.amount and not _is_rounding(length_nm, each.amount):
                 if is_direction(each.of) or length_nm <= self.amount:
                     yield each
+
+    def told(self, deviations: Iterable[Deviation]) -> Deviation | None:
+        """The deviation of a constraint, of those that it has, that tells whether it holds within
+        the limit: in nanometres, but in ppb where its direction alone is beyond the limit, or
+        alone counts."""
+        found = tuple(deviations)
+        is_off = any(self.beyond(found))
+        telling = [each for each in found if (each.amount > self.amount) is is_off]
+        return worst(telling) or worst(found)
 
     def _is_too_long(self, off: Deviation) -> bool:
         return off.amount > self.amount and not is_direction(off.of)
