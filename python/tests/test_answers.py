@@ -1166,3 +1166,34 @@ def test_an_angle_is_redundant_within_the_limit_of_angles(program, edge_mm, word
     assert not (found.finding.contradictions if repeats else found.finding.repeats)
 
 
+BARS = """point A1 0 0
+point A2 40 0
+point A3 40 30
+point A4 0 30
+distance A1 A2 40
+distance A2 A3 30
+distance A3 A4 40
+distance A4 A1 30
+distance A1 A3 50
+point B1 10 60
+point B2 55 62
+point B3 60 95
+point B4 12 90
+distance B1 B2 45.0444
+distance B2 B3 33.3766
+distance B3 B4 48.2597
+distance B4 B1 30.0666
+distance B1 B3 61.0328
+distance A1 B1 60.8276
+distance A2 B2 63.7887
+distance A3 B3 68.0074
+distance A4 B4 61.1882
+"""
+"""Two rigid figures, and four bars between them, one too many: each length to a tenth of a
+micrometre of what is drawn, so that it is met there within 50 nm."""
+
+
+def test_what_is_redundant_within_the_limit_alone_is_met_but_not_exactly(program):
+    lines = [*drawing_lines(searched(BARS, program))]
+    assert any(line.startswith("  redundant (by numbers): constraint 14 ") for line in lines)
+    assert "  no positions were found that meet all of it exactly (by numbers)" in lines

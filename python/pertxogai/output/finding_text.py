@@ -92,7 +92,8 @@ def _placed_lines(judged: JudgedDrawing, finding: Finding) -> Iterator[str]:
     elif finding.places_by is PlacesBy.NUMBERS:
         yield "  placed by numbers, not constructed"
     elif not (finding.contradictions or finding.in_doubt):
-        yield "  no positions were found that meet all of it (by numbers)"
+        exactly = " exactly" if finding.repeats else ""  # These hold within the limit.
+        yield f"  no positions were found that meet all of it{exactly} (by numbers)"
     if finding.solution is not None:
         off = [each for each in judged.worst() if each.amount]
         yield from (f"  measured: at most {amount_text(each)} off, "
