@@ -116,3 +116,73 @@ def test_of_a_drawing_a_fault_is_about_the_dimensions_that_decide_it_too(program
         "Long: length Base 200\nShort: length Right 60\nOther: length Left 50\nx Hole 100\n"
         "distance Hole Base 12\ndiameter Hole 8\n"), program)
     assert found.failure is not None and found.failure.dimensions == ("Long", "Short", "Other")
+
+
+ANGLED = """point A 0 0
+point B 100 0
+point C 50 30
+segment S A B
+segment T B C
+segment U C A
+coincident A Origin
+horizontal S
+W: length S 100
+An: angle S T 150deg
+L: length U 30
+"""
+SQUARE = """rectangle P 0 0 100 100
+coincident PBottom.start Origin
+H: equal PBottom PRight
+W: length PBottom 100
+circle C 30 20 4
+D: diameter C 8
+D1: distance C.centre PBottom.start 20
+D2: distance C.centre PRight.end 50
+"""
+FOLDED = """point A 0 0
+point B 30 0
+point C 70 0
+point D 40 40
+segment S A B
+segment T B C
+segment U C D
+segment V D A
+coincident A Origin
+H1: horizontal S
+H2: horizontal T
+L1: length S 30
+L2: length T 40
+L3: length U 20
+L4: length V 30
+"""
+
+
+def blamed(drawing: str, program: Program) -> tuple[str, ...]:
+    found = judge(read_drawing(drawing), program).failure
+    assert found is not None
+    return found.dimensions
+
+
+def test_what_only_turns_all_that_meets_is_left_out(program: Program) -> None:
+    """T runs 100 sin 30 degrees = 50 from A, wherever S points, and C on it is to be 30 from A."""
+    assert blamed(ANGLED, program) == ("W", "An", "L")
+
+
+def test_between_points_the_directions_that_decide_are_named_and_no_other(program: Program) -> None:
+    """20 and 50 are too short for the diagonal of the square. That hangs on the bottom and the right edge: their
+    lengths, and the right angle, which the directions of these two give. Those of the top and the left edge place the
+    fourth corner alone."""
+    assert blamed(SQUARE, program) == ("constraint 1 (horizontal PBottom)", "constraint 2 (vertical PRight)",
+                                       "H", "W", "D1", "D2")
+
+
+def test_what_keeps_a_chain_straight_decides_though_its_length_is_greatest_there(program: Program) -> None:
+    """A and C are 30 + 40 apart since both edges are horizontal: without one of these the chain bends, and 20 and 30
+    may meet."""
+    assert blamed(FOLDED, program) == ("H1", "H2", "L1", "L2", "L3", "L4")
+
+
+def test_where_something_is_redundant_all_that_the_construction_uses_are_named(program: Program) -> None:
+    """A second `horizontal S` says what the first says: rank can't tell them apart."""
+    again = ANGLED.replace("horizontal S\n", "horizontal S\nhorizontal S\n")
+    assert set(blamed(again, program)) >= {"W", "An", "L", "constraint 2 (horizontal S)"}

@@ -7,6 +7,7 @@ from enum import Enum
 from fractions import Fraction
 
 from pertxogai.judging.deciding import deciding
+from pertxogai.judging.decisive import decisive
 from pertxogai.judging.naming import Names
 from pertxogai.program.reports import (
     ConstraintFault, Fault, FrameFault, LineFault, NumberFault, Phase, Plan, RangeFault, StepAt,
@@ -42,10 +43,12 @@ class Amount:
 
 @dataclass(frozen=True)
 class Failure:
-    """The program's fault, complete: the dimensions behind the step or the constraint that it names
-    and the points and segments at which the step meets, in the designer's names, and the number
-    that failed. text: the program's own line, in the names of its sketch; `drawing_lines` of
-    `pertxogai.output` say it in the designer's."""
+    """The program's fault, complete, in the designer's names. dimensions: those behind the
+    constraint that it names, or those that the construction uses at the step that it names, of
+    which not each need decide; if points and segments of the drawing meet there, and nothing is
+    redundant by rank, those that decide, by rank. at: the points and segments at which the step
+    meets. amount: the number that failed. text: the program's own line, in the names of its sketch;
+    `drawing_lines` of `pertxogai.output` say it in the designer's."""
 
     fault: Fault
     text: str
@@ -84,8 +87,10 @@ def _line(fault: Fault) -> str:
 
 def _of_step(names: Names, fault: Fault, plan: Plan, step: int, amount: Amount | None) -> Failure:
     found = next(each for each in plan.steps if each.number == step)
-    owners = {owner for leaf in deciding(plan, step)
-              for owner in names.spelled.owners[leaf.number - 1]}
+    used = frozenset(owner for leaf in deciding(plan, step)
+                     for owner in names.spelled.owners[leaf.number - 1])
+    drawn = [each for each in map(names.drawn, found.at) if each is not None]
+    owners = decisive(names.drawing, drawn, used) if len(drawn) == len(found.at) else used
     return Failure(fault, _line(fault), names.owners(owners), names.elements(found.at), amount)
 
 

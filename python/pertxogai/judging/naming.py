@@ -68,13 +68,17 @@ class Names:
         return {name: firsts[knot] for knot, name in self.spelled.points.items()
                 if knot in firsts}
 
+    def drawn(self, name: str) -> PointRef | ShapeRef | None:
+        """The designer's point, or the segment that a line is; None if it is auxiliary."""
+        track = self.spelled.tracks.get(name)
+        return self.point(name) or (track if isinstance(track, ShapeRef) else None)
+
     def element(self, name: str) -> str | None:
         """The name of a point, or of the segment that a line is; None if it is auxiliary."""
-        point = self.point(name)
-        if point is not None:
-            return str(point)
-        track = self.spelled.tracks.get(name)
-        return track.name if isinstance(track, ShapeRef) else None
+        found = self.drawn(name)
+        if found is None:
+            return None
+        return found.name if isinstance(found, ShapeRef) else str(found)
 
     def elements(self, names: Iterable[str]) -> tuple[str, ...]:
         """The elements that a designer drew, without auxiliary ones."""
