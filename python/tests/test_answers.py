@@ -690,6 +690,20 @@ def test_ends_that_become_one_are_named():
         judge(read_drawing(text), None)
 
 
+@pytest.mark.parametrize("text, names", [
+    ("point A 0 0\npoint B 40 0\npoint C 20 1\ndistance A B 7\ndistance A C 3\ndistance B C 4\n", 3),
+    ("segment S 0 0 40 0\nsegment T 40 0 20 1\nsegment U 20 1 0 0\ncoincident S.end T.start\n"
+     "coincident T.end U.start\ncoincident U.end S.start\ncoincident S.start Origin\nhorizontal S\n"
+     "length S 7\nlength T 4\nlength U 3\n", 3)])
+def test_a_flat_shape_is_not_told_as_one_that_is_not_there(text, names, program):
+    """3 + 4 = 7: C lies on A B, 3 from A. No search ends at such a place exactly."""
+    found = judge(read_drawing(text), program)
+    assert found.failure is not None and found.failure.is_flat and len(found.failure.dimensions) == names
+    assert found.unmet is None
+    lines = drawing_lines(JudgedDrawing("flat", read_drawing(text), found))
+    assert not [each for each in lines if "no shape" in each or "a shape is found" in each]
+
+
 def test_a_drawing_of_too_many_points_is_refused_before_the_program_is_asked():
     text = "\n".join(f"segment S{each} {each} 0 {each} 5" for each in range(1001))
     with pytest.raises(DrawingRefused, match="^2002 points are drawn, and the program takes 2000"):

@@ -10,8 +10,8 @@ from pertxogai.judging.deciding import deciding
 from pertxogai.judging.decisive import decisive
 from pertxogai.judging.naming import Names
 from pertxogai.program.reports import (
-    ConstraintFault, Fault, FrameFault, LineFault, NumberFault, Phase, Plan, RangeFault, StepAt,
-    TurnedFault)
+    Cause, ConstraintFault, Fault, FrameFault, LineFault, NumberFault, Phase, Plan, RangeFault,
+    StepAt, TurnedFault)
 
 UNDER_A_ROOT = ("base", "height", "reach")
 """Roots of square millimetres."""
@@ -55,6 +55,11 @@ class Failure:
     dimensions: tuple[str, ...]
     at: tuple[str, ...]
     amount: Amount | None
+
+    @property
+    def is_flat(self) -> bool:
+        """Whether the numbers don't tell on which side something lies."""
+        return isinstance(self.fault, NumberFault) and self.fault.cause is Cause.FLAT
 
 
 def failure(names: Names, fault: Fault, plan: Plan) -> Failure:

@@ -425,6 +425,12 @@ def _worst_off(judged: Judgement) -> tuple[bool, int]:
             max((each.amount for each in judged.deviations if each.unit is Unit.NM), default=0))
 
 
+def _is_flat(judged: Judgement) -> bool:
+    """Whether a step fails since all that meets there lies in one line: the shape may be there, and
+    Newton's method doesn't reach it."""
+    return judged.failure is not None and judged.failure.is_flat
+
+
 def weighed(judged: Judgement, program: Solver) -> WeighedJudgement:
     """The judgement with each removable dimension tried, and measured on the rest; for a drawing
     that isn't over-constrained and has no shape, with what isn't met. Raises the exceptions of
@@ -435,7 +441,8 @@ def weighed(judged: Judgement, program: Solver) -> WeighedJudgement:
 
     drawing = judged.names.drawing
     if not isinstance(judged.state, WithSurplus):
-        return _weighed_judgement(judged, judged.state, unmet=unmet(drawing))
+        return _weighed_judgement(
+            judged, judged.state, unmet=None if _is_flat(judged) else unmet(drawing))
     from pertxogai.judging.groups import groups_of
     from pertxogai.judging.surplus import what_may_go
 
