@@ -704,6 +704,27 @@ def test_a_flat_shape_is_not_told_as_one_that_is_not_there(text, names, program)
     assert not [each for each in lines if "no shape" in each or "a shape is found" in each]
 
 
+EDGE = "point A 0 0\npoint B 50 0\nsegment S A B\npoint C 50 20\ncoincident A Origin\n"
+
+
+@pytest.mark.parametrize("words, called", [
+    ("symmetric A B about S\n", "constraint 2 (symmetric A B about S)"),
+    ("symmetric B A about S\n", "constraint 2 (symmetric B A about S)"),
+    ("coincident C S.end\nM: symmetric S.start C about S\n", "M"),
+    ("M: symmetric Origin C about S\ncoincident C B\n", "M")])
+def test_ends_that_are_to_mirror_each_other_in_their_own_edge_are_named(words, called):
+    """Both would have to lie on S, which is then without a length, whatever the points are called."""
+    with pytest.raises(DrawingRefused) as refused:
+        judge(read_drawing(EDGE + words), None)
+    assert str(refused.value) == f"{called}: S would be without a length: write another segment"
+
+
+def test_ends_may_mirror_each_other_in_another_line(program):
+    """S runs from -25 to 25 along x, square to the y axis."""
+    text = "segment S -25 0 25 0\nlength S 50\non S.start XAxis\nsymmetric S about YAxis\n"
+    assert judge(read_drawing(text), program).verdict is Verdict.WELL
+
+
 def test_a_drawing_of_too_many_points_is_refused_before_the_program_is_asked():
     text = "\n".join(f"segment S{each} {each} 0 {each} 5" for each in range(1001))
     with pytest.raises(DrawingRefused, match="^2002 points are drawn, and the program takes 2000"):

@@ -19,7 +19,8 @@ from pertxogai.drawing.references import (
 from pertxogai.drawing.refusal import DrawingRefusal, DrawingUnsound, WordFault
 from pertxogai.drawing.senses import Slope, Touch, Turn, run_um, touch, turn, way
 from pertxogai.drawing.shorthands import Expansion, polyline, rectangle
-from pertxogai.drawing.soundness import checked, ends_made_one, faults
+from pertxogai.drawing.soundness import (
+    checked, ends_made_one, faults, mirrored_in_itself)
 from pertxogai.drawing.tolerances.check import Check, Tolerancing
 from pertxogai.drawing.tolerances.iso2768 import GeneralTolerance, Grade
 from pertxogai.drawing.tolerances.tolerance import Tolerance
@@ -39,11 +40,12 @@ __all__ = ["Anchor", "AngleBetween", "AngleValue", "Arc", "Axis", "Check", "Circ
            "PointLineDistance", "PointOn", "PointRef", "Quantity", "Radius", "Ratio",
            "ReckonedValue", "Segment", "Sense", "Shape", "ShapeRef", "Slope", "Symmetric",
            "Tangent", "Tolerance", "Tolerancing", "Touch", "Turn", "Unit", "VALUED", "Value",
-           "Valued", "Vertical", "Which", "WordFault", "XDistance", "X_AXIS", "YDistance", "Y_AXIS",
-           "asked_of", "checked", "ends_made_one", "faults", "line_of", "moved", "parameters",
-           "place_mm", "points_of", "polyline", "read_drawing", "read_expression",
-           "reckoned_values", "rectangle", "rounded_roots", "run_um", "spot_of", "touch", "turn",
-           "um_of_mm", "value_text", "way", "with_values", "words_of", "write_drawing"]
+           "Valued", "Vertical", "Which", "WordFault", "XDistance", "X_AXIS", "YDistance",
+           "Y_AXIS", "asked_of", "checked", "ends_made_one", "faults", "line_of",
+           "mirrored_in_itself", "moved", "parameters", "place_mm", "points_of", "polyline",
+           "read_drawing", "read_expression", "reckoned_values", "rectangle", "rounded_roots",
+           "run_um", "spot_of", "touch", "turn", "um_of_mm", "value_text", "way", "with_values",
+           "words_of", "write_drawing"]
 
 if TYPE_CHECKING:
     from pertxogai.drawing.values.expression import Expression

@@ -9,12 +9,13 @@ from fractions import Fraction
 from pertxogai.drawing.checks import MOST_UM, check_point, check_size
 from pertxogai.drawing.constraint_checks import (
     check_constraint, check_expression, check_tolerance)
+from pertxogai.drawing.constraints import Symmetric
 from pertxogai.drawing.drawing import Drawing
 from pertxogai.drawing.geometry import Anchor, Arc, Circle, Segment, Shape
 from pertxogai.drawing.named_shapes import NamedShapes, points_of, shares, spot_of
 from pertxogai.drawing.names import check_constraint_name, check_shape_name
 from pertxogai.drawing.numbers import MOST_MM, mm_text
-from pertxogai.drawing.references import PointRef, Which
+from pertxogai.drawing.references import Pair, PointRef, ShapeRef, Which
 from pertxogai.drawing.refusal import DrawingUnsound, WordFault
 from pertxogai.drawing.tolerances.check import check_checks
 from pertxogai.drawing.values.table import Values, check_value_name
@@ -104,6 +105,23 @@ def ends_made_one(drawing: Drawing) -> tuple[int, str] | None:
     name = _closed_shape(Drawing(drawing.geometry, said[:number]))
     assert name is not None
     return number, name
+
+
+def mirrored_in_itself(drawing: Drawing) -> tuple[int, str] | None:
+    """The number of the first constraint by which both ends of a segment are mirror images in it,
+    with the segment's name; None if there is none. Points that coincide count as one."""
+    return next(((number, each.about.name) for number, each in enumerate(drawing.constraints, 1)
+                 if isinstance(each, Symmetric) and isinstance(each.about, ShapeRef)
+                 and _are_ends(drawing, Pair(each.first, each.second), each.about)), None)
+
+
+def _are_ends(drawing: Drawing, pair: Pair, line: ShapeRef) -> bool:
+    """Whether two points coincide with both ends of a segment."""
+    if not isinstance(drawing.shape(line.name), Segment):
+        return False
+    leader = drawing.meetings.leader
+    ends = PointRef(line.name, Which.START), PointRef(line.name, Which.END)
+    return set(map(leader, ends)) == {leader(pair.first), leader(pair.second)}
 
 
 def _closed_shape(drawing: Drawing) -> str | None:

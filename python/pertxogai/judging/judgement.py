@@ -308,8 +308,8 @@ def judge_at_once(drawing: Drawing, program: Solver, freeze: bool = False,
     """The same with fewer calls of the program: the counts of a fully constrained drawing aren't
     asked for, and the removable dimensions are those that the program names, not measured. Raises
     ProgramError; DrawingRefused if the drawing has more points or constraints than the program
-    takes, if both ends of a shape coincide, or if the program rejects the encoded sketch; NotHeld
-    if a position or length is beyond the range of the language."""
+    takes, if both ends of a shape coincide or mirror each other in it, or if the program rejects
+    the encoded sketch; NotHeld if a position or length is beyond the range of the language."""
     return judge_edited(EditedDrawing(drawing), program, freeze, limit)
 
 

@@ -4,7 +4,7 @@ from __future__ import annotations
 
 from typing import TYPE_CHECKING
 
-from pertxogai.drawing import Drawing, ends_made_one
+from pertxogai.drawing import Drawing, ends_made_one, mirrored_in_itself
 from pertxogai.language.declared import MOST_CONSTRAINTS, MOST_ELEMENTS
 from pertxogai.language.refusal import Refusal
 
@@ -46,8 +46,9 @@ class TextRefused(Exception):
 
 def check_fits(drawing: Drawing) -> None:
     """Raises DrawingRefused where a drawing has more points, or more constraints, than the
-    program takes, or a segment or arc of which both ends are told to be one point. Each point
-    that isn't the origin is an element of the sketch."""
+    program takes, or a segment or arc of which both ends are told to be one point, or a segment
+    of which both ends are told to be mirror images in it. Each point that isn't the origin is an
+    element of the sketch."""
     points = drawing.meetings.count()
     if points > MOST_ELEMENTS:
         raise DrawingRefused(f"{points} points are drawn, and the program takes "
@@ -60,3 +61,8 @@ def check_fits(drawing: Drawing) -> None:
         number, name = closed
         raise DrawingRefused(f"{drawing.called(number)} makes both ends of {name} one point: "
                              "remove it, or draw a circle or a point")
+    mirrored = mirrored_in_itself(drawing)
+    if mirrored is not None:
+        number, name = mirrored
+        raise DrawingRefused(f"{drawing.called(number)}: {name} would be without a length: write "
+                             "another segment")
