@@ -65,6 +65,21 @@ def test_what_is_no_line_of_the_sketch_stands_in_for_none_of_a_group(program: Pr
     assert twice["Again"] & {"Width", "Third", "Height"} in ({"Width"}, {"Third"})
 
 
+def test_a_direction_that_is_no_line_of_the_sketch_is_in_the_groups_that_need_it(program: Program) -> None:
+    """Without either upright side the plate could be a trapezium with two widths; without either
+    level one, with two heights."""
+    text = ("rectangle P 0 0 118 79\ncoincident PBottom.start Origin\nWidth: length PBottom 120\n"
+            "Height: length PRight 80\nAgain: length PTop 120\n")
+    upright, level = ({f"constraint {number} ({name})" for number, name in sides} for sides in (
+        ((2, "vertical PRight"), (4, "vertical PLeft")),
+        ((1, "horizontal PBottom"), (3, "horizontal PTop"))))
+    found = others(judge(read_drawing(text), program))
+    assert found["Again"] == {"Width", *upright} and found["Width"] == {"Again", *upright}
+    twice = others(judge(read_drawing(text + "Left: length PLeft 82\n"), program))
+    assert twice["Again"] == {"Width", *upright}
+    assert twice["Left"] == {"Height", *level} and twice["Height"] == {"Left", *level}
+
+
 @pytest.mark.parametrize("size", ["radius East 8", "diameter East 16"])
 @pytest.mark.parametrize("across_mm", ["16", "17"])
 def test_who_gives_an_arc_its_radius_is_named_beside_its_ends(program: Program, size: str,

@@ -4,9 +4,11 @@ names them.
 The group of a dimension is the least of the kept lines that it follows from: without any one of
 them it wouldn't. What has to go beside it is left out before it, so it is in no group. A line may
 be said by several of the designer's words; then all of them are named, but for those that by rank
-it follows without. Of what asks several equations the program may leave out
-one alone, and of what is several lines, or a line together with others, one that is another's too:
-then the group isn't that of the dimension, and there is none."""
+it follows without. What is no line of the sketch is named with them where by rank the dimension
+doesn't follow without it, as the direction of a side by which the lines were chosen; but for what
+joins points. Of what asks several equations the program may leave out one alone, and of what is
+several lines, or a line together with others, one that is another's too: then the group isn't that
+of the dimension, and there is none."""
 from __future__ import annotations
 
 from collections.abc import Collection, Mapping, Sequence
@@ -15,6 +17,7 @@ from dataclasses import replace
 from itertools import islice
 from types import MappingProxyType
 
+from pertxogai.drawing import Coincident, Concentric
 from pertxogai.judging.freedoms import Freedoms, Twice, freedoms
 from pertxogai.judging.jets import TooMany
 from pertxogai.judging.naming import Names
@@ -54,30 +57,54 @@ def groups_of(names: Names, program: Solver, numbers: Mapping[int, Collection[in
 
 def _by_rank(names: Names, free: Freedoms, number: int,
              others: frozenset[Owner]) -> frozenset[Owner]:
-    """Those of a group that by rank take part in something that is too much, and of these no more
-    than are needed; none where of a dimension, all of which follows from others, not all follows
-    from these and from what is no line of the sketch."""
+    """Those of a group that by rank take part in something that is too much. Of a dimension, all of
+    which follows from others, no more than are needed, and with them what is no line of the sketch
+    and is needed too; none where not all of it follows from these."""
     found = others & free.among()
     if free.twice(number) is Twice.WHOLE:
         silent = free.among().difference(*names.spelled.owners)
         with suppress(TooMany):
             if not free.follows(number, others | silent):
                 return frozenset()
-            return _needed(free, number, found, silent)
+            needed = _needed(free, number, found, silent)
+            return frozenset(each for each in needed if each in found or _is_named(names, each))
     return found
+
+
+def _is_named(names: Names, owner: Owner) -> bool:
+    """Whether what is no line of the sketch is named in a group: no arc's ends, and nothing that
+    joins points, which are one in all that is told of them."""
+    return not owner.shape and not isinstance(
+        names.drawing.constraints[owner.number - 1], (Coincident, Concentric))
 
 
 def _needed(free: Freedoms, number: int, found: frozenset[Owner],
             silent: frozenset[Owner]) -> frozenset[Owner]:
-    """Those of a group without which a dimension wouldn't follow. The others, the latest of them
-    first, take part in something else that is too much. What is no line of the sketch stands in for
-    none of them. Raises TooMany."""
+    """Those of a group, and of what is no line of the sketch, without which a dimension wouldn't
+    follow. The others, the latest of them first, take part in something else that is too much. What
+    is no line of the sketch stands in for none of a group. Raises TooMany."""
     needed = found | silent
     for some in (silent - found, found):
-        for each in sorted(some, key=lambda owner: owner.number, reverse=True):
-            if not each.shape and free.follows(number, needed - {each}):
-                needed -= {each}
-    return needed & found
+        last_first = sorted((each for each in some if not each.shape),
+                            key=lambda owner: owner.number, reverse=True)
+        needed = _without_idle(free, number, needed, last_first)
+    return needed
+
+
+def _without_idle(free: Freedoms, number: int, needed: frozenset[Owner],
+                  some: Sequence[Owner]) -> frozenset[Owner]:
+    """Those of a set from which a dimension follows, without those of some, one after the other,
+    without which it follows too. Where it follows without all of these, it does at each step, so
+    that they are asked about at once. Raises TooMany."""
+    if not some:
+        return needed
+    if free.follows(number, needed.difference(some)):
+        return needed.difference(some)
+    if len(some) == 1:
+        return needed
+    half = len(some) // 2
+    fewer = _without_idle(free, number, needed, some[:half])
+    return _without_idle(free, number, fewer, some[half:])
 
 
 def _told_last(names: Names, owner: Owner, beside: frozenset[Owner]) -> Sequence[int]:
