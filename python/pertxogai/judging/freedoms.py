@@ -155,7 +155,7 @@ class Freedoms:
         inside = {Owner(number), *others}
         rows, mine = Rows[Decimal](NONE), list[Row]()
         with localcontext(EXACT):
-            for circuit in self.circuits:
+            for circuit in self._circuits_with(number):
                 left, rest = rows.add({
                     -1 - place if self.owners[place].shape or self.owners[place] in inside
                     else place: value for place, value in circuit.items()})
@@ -164,6 +164,23 @@ class Freedoms:
                                  if key < 0 and abs(value) > SOME
                                  and self.owners[-1 - key] == Owner(number)})
             return rank(mine) == self.equations(number)
+
+    def _circuits_with(self, number: int) -> Sequence[Row]:
+        """The circuits that an equation of a constraint is in, and those that share an equation
+        with one of these, in turn: no other one says anything about it."""
+        if number not in self._connected:
+            places, found = set(self._rows.get(number, ())), set[int]()
+            while met := [at for at, each in enumerate(self.circuits)
+                          if at not in found and not places.isdisjoint(each)]:
+                found.update(met)
+                places.update(*(self.circuits[at] for at in met))
+            self._connected[number] = [self.circuits[at] for at in sorted(found)]
+        return self._connected[number]
+
+    @cached_property
+    def _connected(self) -> dict[int, Sequence[Row]]:
+        """What `_circuits_with` found for a constraint."""
+        return {}
 
     def among(self) -> frozenset[Owner]:
         """Who asks something that others ask together."""
