@@ -243,6 +243,13 @@ right and 48 up: the root of 6660, 81.608, at 36.027 degrees."""
     # S stays where it is fixed, and so does the hole; A alone is moved.
     ("point A 10 10\nsegment S 40 40 90 40\ncircle H 70 60 5\ncoincident A Origin\nfixed S.start\n"
      "horizontal S\ndiameter H 10\nlength S 50\n", ["x H.centre 70", "y H.centre 60"], []),
+    # The mean of the two is -495: S is drawn 535 to the right of it, and above it.
+    ("point Far -1000 -1000\npoint A 10 10\nsegment S 40 40 90 40\ncoincident Far Origin\n"
+     "coincident A Origin\nhorizontal S\nlength S 50\n", ["x S.start 535", "y S.start 535"], []),
+    # How S runs doesn't say where it lies: H is drawn 50 to the right of A, and 20 above it.
+    *((f"point A 10 10\nsegment S A 50 10\ncircle H 60 30 5\ncoincident A Origin\n{runs}\nlength S 40\n"
+       "diameter H 10\n", ["x H.centre 50", "y H.centre 20"], [])
+      for runs in ("parallel S XAxis", "perpendicular S YAxis")),
 ])
 def test_values_are_as_drawn_from_a_point_that_is_told_to_be_the_origin(
         text, own, datum, program):

@@ -8,7 +8,7 @@ from math import degrees
 
 from pertxogai.drawing import (
     DATUM_NAMES, ORIGIN, AngleBetween, Arc, Circle, Coincident, Constraint, Drawing, Fixed,
-    PointRef, Segment, ShapeRef, Which, points_of)
+    Parallel, Perpendicular, PointRef, Segment, ShapeRef, Which, points_of)
 from pertxogai.drawing.mentions import named
 
 LEAST_UM = 1.0
@@ -97,18 +97,18 @@ class Figure:
 
 
 class Sketched(Figure):
-    """A drawing as it is drawn. Where nothing but points that are told to be the origin ties it,
-    and these are drawn in one place, it is moved as a whole so that they lie there. An edge has the
-    length and the direction that it is drawn with, also where one of its ends is told to be a point
-    that is drawn elsewhere."""
+    """A drawing as it is drawn, moved to the origin. If points are told to be the origin, and
+    nothing else ties the drawing, all of it is moved so that the mean of these points lies there,
+    as the search moves it. Each edge has its drawn length and direction, also if one of its ends is
+    told to be a point that is drawn elsewhere."""
 
     def __init__(self, drawing: Drawing, given: Drawing | None = None) -> None:
         """given: the same without what is proposed, which ties nothing yet."""
         given = given or drawing
-        tied = {given.drawn(ref) for ref in given.points()
-                if given.meetings.leader(ref) == ORIGIN}
-        alone = len(tied) == 1 and not any(map(_places, given.constraints))
-        self._moved = sum(complex(each.x_um, each.y_um) for each in tied) if alone else 0j
+        tied = [given.drawn(ref) for ref in given.points() if given.meetings.leader(ref) == ORIGIN]
+        alone = tied and not any(map(_places, given.constraints))
+        drawn = sum((complex(each.x_um, each.y_um) for each in tied), 0j)
+        self._moved = drawn / len(tied) if alone else 0j
         super().__init__(drawing)
 
     def at(self, ref: PointRef) -> complex:
@@ -120,9 +120,11 @@ class Sketched(Figure):
 
 
 def _places(constraint: Constraint) -> bool:
-    """Whether it says where something lies, from the origin or the axes, or as drawn."""
+    """Whether it says where something lies, from the origin or the axes, or as drawn; a direction
+    says only how it runs."""
     return isinstance(constraint, Fixed) or not isinstance(
-        constraint, (AngleBetween, Coincident)) and not DATUM_NAMES.isdisjoint(named(constraint))
+        constraint, (AngleBetween, Coincident, Parallel, Perpendicular)
+    ) and not DATUM_NAMES.isdisjoint(named(constraint))
 
 
 def ends(edge: Segment | Arc) -> tuple[PointRef, PointRef]:
