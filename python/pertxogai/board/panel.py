@@ -123,12 +123,12 @@ def _open(judged: JudgedDrawing, found: Missing) -> Iterator[Line]:
     judgement = judged.judgement
     yield Line("Under-constrained, or rigid in a way that the program doesn’t find.", "quiet")
     yield from _freedoms(judged)
-    is_tied = found.whole is None or not found.whole.ways
     if found.count:
         missing = "dimensions are" if found.count > 1 else "dimension is"
         yield Line(f"At least {found.count} {missing} missing, by rank.")
-    elif is_tied:
-        yield Line("It isn’t built of triangles, so the program can’t prove it rigid.")
+    elif found.whole is not None and not found.whole.ways:
+        yield Line("It isn’t built of triangles, so the program doesn’t find it fully "
+                   "constrained.")
     yield from _not_tied(judgement, "quiet" if found.count else "")
     yield from _shown(judged, found)
     yield from _too_many(judgement)

@@ -30,7 +30,7 @@ ADVICE = {
     Lack.MIRRORED: "draw it the way round that you want, or change a dimension",
 }
 """What to do where a drawing is placed and isn't good."""
-BY_TRIANGLES = "dimension it by triangles, so that the program can prove it rigid"
+BY_TRIANGLES = "dimension it by triangles, so that the program finds it fully constrained"
 BY_CHOSEN = "give the chosen values as dimensions, in place of what isn't passed to the program"
 """What to do with what is open, and lacks no dimension by rank."""
 FOLLOWS = {True: "follows from", False: "conflicts with",

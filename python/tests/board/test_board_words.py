@@ -212,6 +212,7 @@ UTILITIES = "".join(
                for one in (1, 2, 3) for other in (1, 2, 3))
 """Three points, each with its distance from three others: nine dimensions of twelve freedoms, and
 no triangle."""
+NO_TRIANGLES = "It isn’t built of triangles, so the program doesn’t find it fully constrained."
 
 
 @pytest.mark.parametrize("text, first", [
@@ -219,7 +220,7 @@ no triangle."""
      "Not tied to the origin and the axes: the whole can still be moved along x, by rank."),
     ("segment S 10 0 10 10\non S.start XAxis\nvertical S\n",
      "At least 1 dimension is missing, by rank."),
-    (UTILITIES + TIES, "It isn’t built of triangles, so the program can’t prove it rigid."),
+    (UTILITIES + TIES, NO_TRIANGLES),
     (UTILITIES, "Not tied to the origin and the axes: the whole can still be moved and turned, by rank."),
 ])
 def test_what_an_open_drawing_lacks_is_told_first(program: Program, text: str, first: str) -> None:
@@ -227,7 +228,14 @@ def test_what_an_open_drawing_lacks_is_told_first(program: Program, text: str, f
     gloss, *lines = told(program, text)
     assert gloss == "Under-constrained, or rigid in a way that the program doesn’t find."
     assert (lines[1] if "freedom (by numbers" in lines[0] else lines[0]) == first
-    assert ("It isn’t built of triangles, so the program can’t prove it rigid." in lines) is (text == UTILITIES + TIES)
+    assert (NO_TRIANGLES in lines) is (text == UTILITIES + TIES)
+
+
+def test_nothing_is_told_of_triangles_where_the_rank_isnt_counted(
+        program: Program, monkeypatch: pytest.MonkeyPatch) -> None:
+    """As of a large drawing, which may just lack a dimension."""
+    monkeypatch.setattr("pertxogai.judging.missing.freedoms", lambda drawing: None)
+    assert NO_TRIANGLES not in told(program, UTILITIES + TIES)
 
 
 class Coarse:
