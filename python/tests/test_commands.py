@@ -478,7 +478,8 @@ def test_what_opens_a_drawing_stands_below_where_two_have_to_go(capsys, tmp_path
     _, out, _ = judged(capsys, "judge", "--no-search", str(path))
     lines = out.splitlines()
     below = lines.index("  removable too, but then a dimension is missing:")
-    assert "  what to do: more than one has to go; remove one of these, and judge again" in lines
+    assert ("  what to do: more than one has to go; remove one of these, and judge again "
+            "(by rank; each was tried)" in lines)
     above = [line for line in lines[:below] if line.startswith("    '")]
     assert [line.split("'")[1] for line in above] == ["Wide", "Along", "Across", "Twice"]
     assert ("    constraint 12 (vertical Right); without it the rest is over still, and open once "

@@ -312,10 +312,11 @@ def _advice_on(surplus: Sequence[Surplus], is_ranked: bool) -> Iterator[str]:
     from pertxogai.judging.surplus import Then
 
     untried = [each for each in surplus if each.then is None]
+    who = "by rank" if is_ranked else "named by the program"
     if all(each.then is Then.OVER for each in surplus):
-        yield "  what to do: more than one has to go; remove one of these, and judge again"
+        yield ("  what to do: more than one has to go; remove one of these, and judge again "
+               f"({who}; each was tried)")
     else:
-        who = "by rank" if is_ranked else "named by the program"
         tried = ("none was" if len(untried) == len(surplus) else
                  "some were" if untried else "each was")
         yield f"  what to do: remove one of these, and judge again ({who}; {tried} tried)"
