@@ -541,6 +541,17 @@ def test_ranges_are_told_in_lines_and_as_json(asked, tmp_path, capsys):
         "high_why": "Bottom and Hole cross, but are drawn apart", "clear_by_numbers": True}]}]}
 
 
+def test_on_a_terminal_it_is_told_how_many_ranges_are_found(asked, tmp_path, capsys, monkeypatch):
+    path = tmp_path / "edge.drawing"
+    path.write_text("segment Edge 0 0 60 40\ncoincident Edge.start Origin\n"
+                    "x Edge.end 60\ny Edge.end 40\n")
+    assert main(["range", str(path)]) == 0
+    assert capsys.readouterr().err == ""
+    monkeypatch.setattr(sys.stderr, "isatty", lambda: True)
+    assert main(["range", str(path)]) == 0
+    assert capsys.readouterr().err == "0 of 2\r1 of 2\r2 of 2\r\033[K"
+
+
 def test_what_has_no_range_is_told(asked, tmp_path, capsys):
     path = tmp_path / "plate.drawing"
     path.write_text(PLATE)

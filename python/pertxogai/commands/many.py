@@ -17,6 +17,7 @@ from pathlib import Path
 from pertxogai.commands.judging import (
     REFUSALS, SAID, file_json, outcome_of, program_of, refusal, refusal_json)
 from pertxogai.commands.processes import processes
+from pertxogai.commands.progress import show_progress
 from pertxogai.exits import CommandError, Exit
 from pertxogai.files.kinds import read_inputs
 from pertxogai.files.printable import printable
@@ -45,7 +46,7 @@ def judge_files(options: argparse.Namespace) -> Exit:
     for judged in _judge_each(options):
         print(*judged.lines, sep="\n", flush=True)
         counts[judged.exit] += 1
-        _show_progress(counts.total(), len(options.file))
+        show_progress(counts.total(), len(options.file))
     print(_summary(counts), file=sys.stderr if options.json else sys.stdout)
     return max(counts)
 
@@ -89,13 +90,6 @@ def _refused(path: Path, ends: Exit, why: str, as_json: bool) -> JudgedFile:
         return JudgedFile(ends, (json.dumps(refusal_json(path, ends, why)),))
     told = why.removeprefix(f"{path}: ")
     return JudgedFile(ends, (printable(f"{path}: {SAID[ends]}: {told}"),))
-
-
-def _show_progress(done: int, all_files: int) -> None:
-    """How many files are judged, on a terminal."""
-    if sys.stderr.isatty():
-        end = "\r" if done < all_files else "\r\033[K"
-        print(f"{done} of {all_files}", end=end, file=sys.stderr, flush=True)
 
 
 def _summary(counts: Counter[Exit]) -> str:

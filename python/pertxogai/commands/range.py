@@ -6,6 +6,7 @@ import json
 from collections.abc import Iterator, Sequence
 
 from pertxogai.commands.judging import chosen, made_of
+from pertxogai.commands.progress import show_progress
 from pertxogai.commands.solvers import solver_of
 from pertxogai.drawing import VALUED, Drawing, Parameter
 from pertxogai.drawing.values.parameters import Dimension
@@ -64,8 +65,11 @@ def _ranges(found: DesignerDrawing, program: Solver,
             options: argparse.Namespace) -> Iterator[Range]:
     with made_of(found):
         ranging = Ranging.of(found.drawing, program, options.within)
-        for each in _asked_for(found.drawing, ranging.parameters(), options.names):
+        asked = _asked_for(found.drawing, ranging.parameters(), options.names)
+        for done, each in enumerate(asked):
+            show_progress(done, len(asked))
             yield ranging.range_of(each)
+        show_progress(len(asked), len(asked))
 
 
 def _asked_for(drawing: Drawing, known: Sequence[Parameter],

@@ -1,0 +1,11 @@
+"""How far a command is, on a terminal."""
+from __future__ import annotations
+
+import sys
+
+
+def show_progress(done: int, of: int) -> None:
+    """How many of so many are done; nothing where all are, or standard error is no terminal."""
+    if sys.stderr.isatty():
+        end = "\r" if done < of else "\r\033[K"
+        print(f"{done} of {of}", end=end, file=sys.stderr, flush=True)
