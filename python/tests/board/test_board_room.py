@@ -205,7 +205,7 @@ def test_what_has_changed_is_said_and_no_time(page: Page) -> None:
     wait_for("it is said", lambda: said() and said()[-1].startswith("well"))
     page.type(PLATE + "length RTop 100\n")
     wait_for("the next is said", lambda: any(each.startswith("over") for each in said()))
-    assert not any(" ms" in each for each in said())
+    assert not any(" ms" in each or ".." in each for each in said())
     assert page.count("#verdict[aria-live]") == 0
 
 

@@ -7,6 +7,14 @@ import { byId } from './nodes.js';
 /** The most new lines that are said. */
 const MOST = 3;
 
+/**
+ * Lines one behind the other, with a full stop between two where the first has no mark at its end.
+ * @param {string[]} lines
+ */
+export function inOne(lines) {
+  return lines.join('. ').replace(/([.:;!?])\. /g, '$1 ');
+}
+
 /** Says in a line what an answer tells that the one before didn't. */
 export class Speaking {
   node = byId('said');
@@ -21,7 +29,7 @@ export class Speaking {
     const told = [...byId('verdict').querySelectorAll(parts)];
     const lines = new Set(told.map((each) => each.textContent ?? ''));
     const more = [...lines].filter((each) => each && !this.lines.has(each)).slice(0, MOST);
-    const said = [title !== this.title && title, ...more].filter(Boolean).join('. ');
+    const said = inOne(title && title !== this.title ? [title, ...more] : more);
     Object.assign(this, { title, lines });
     if (said) this.node.textContent = said;
   }
