@@ -32,7 +32,8 @@ UNCOMPARED: tuple[tuple[ModuleType, str, Callable[..., Any]], ...] = (
     (groups, "groups_of", lambda *_, **__: {}),
 )
 """What would complete a drawing, other choices of its steps, what an impossible one would need, and
-the groups behind what may go: no part of these is compared with what is true."""
+the groups behind what may go: what these say is compared with nothing. Where they are left out, it
+isn't seen either that one of them ends in a traceback, or comes late."""
 
 
 class Late(BaseException):

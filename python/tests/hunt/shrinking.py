@@ -7,23 +7,25 @@ from dataclasses import replace
 
 import numpy as np
 
-from .asking import asked
+from .asking import Answer, asked
 from .making import Made
 from .plane import Vector
 from .reading import read
 from .truth import Model, Untold, truth
 from .wrongs import Cause, wrongs
 
-Same = Callable[[Made], bool]
+Ask = Callable[[str], Answer]
+"""Asks of a text."""
 
 
-def shrunk(made: Made, cause: Cause, search: bool = True) -> Made:
-    """The drawing with lines taken away, one after the other, while the cause stays."""
+def shrunk(made: Made, cause: Cause, ask: Ask = asked) -> Made:
+    """The drawing with lines taken away, one after the other, while the cause stays. ask: how the
+    drawing was asked about: another way may give another answer."""
     again = True
     while again:
         again = False
         for less in _lesser(made):
-            if any(found.cause is cause for found in wrongs(less, asked(less.text, search=search))):
+            if any(found.cause is cause for found in wrongs(less, ask(less.text))):
                 made, again = less, True
                 break
     return made

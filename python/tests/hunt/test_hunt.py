@@ -1,7 +1,10 @@
 """That the hunt knows what is true of a drawing, and finds what isn't so."""
 from __future__ import annotations
 
+import argparse
 import os
+import types
+from pathlib import Path
 
 import pytest
 
@@ -13,6 +16,8 @@ from hunt.reading import read  # noqa: E402
 from hunt.shrinking import shrunk  # noqa: E402
 from hunt.truth import Model, truth  # noqa: E402
 from hunt.wrongs import Cause, offs, wrongs  # noqa: E402
+
+HUNT = Path(__file__).resolve().parents[3] / "bench" / "hunt"
 
 os.environ.setdefault("OPENBLAS_NUM_THREADS", "1")
 PLATE = """rectangle Plate 0 0 118 79
@@ -258,11 +263,32 @@ def test_a_seed_makes_one_drawing() -> None:
     assert made(17).text == made(17).text != made(18).text
 
 
-def test_a_drawing_is_made_smaller(monkeypatch: pytest.MonkeyPatch) -> None:
-    """An answer that calls everything over where there is a hole: what is left is the hole."""
-    def lie(text: str, search: bool) -> Answer:
-        said: dict[str, object] = {"verdict": "over", "spare": []} if "circle" in text else {"verdict": "open"}
-        return Answer(1, {**said, "by_rank": by_rank()})
+def lie(text: str) -> Answer:
+    """Calls everything over where there is a hole."""
+    said: dict[str, object] = {"verdict": "over", "spare": []} if "circle" in text else {"verdict": "open"}
+    return Answer(1, {**said, "by_rank": by_rank()})
 
-    monkeypatch.setattr("hunt.shrinking.asked", lie)
-    assert shrunk(plate_of(), Cause.OVER_INDEPENDENT).text == "circle Hole 47 28 5\n"
+
+def test_a_drawing_is_made_smaller() -> None:
+    """What is left is the hole."""
+    assert shrunk(plate_of(), Cause.OVER_INDEPENDENT, lie).text == "circle Hole 47 28 5\n"
+
+
+def test_a_wrong_answer_is_shown_by_the_way_in_which_it_was_given(
+        monkeypatch: pytest.MonkeyPatch, capsys: pytest.CaptureFixture[str]) -> None:
+    """Only the library says what is wrong, and only where all else is left out."""
+    def told(text: str, search: bool, solver: object, all_of_it: bool) -> Answer:
+        is_that_way = (search, solver, all_of_it) == (False, "library it.so", False)
+        return lie(text) if is_that_way else Answer(1, {"verdict": "open", "by_rank": by_rank()})
+
+    script = types.ModuleType("bench_hunt")
+    script.__file__ = str(HUNT)
+    exec(compile(HUNT.read_text(), HUNT, "exec"), vars(script))
+    for name, instead in (("asked", told), ("Library", lambda path: f"library {path}"),
+                          ("made", lambda seed, most: plate_of())):
+        monkeypatch.setattr(script, name, instead)
+    script.show(1, argparse.Namespace(blocks=1, search=False, library="it.so", compared=True),
+                Cause.OVER_INDEPENDENT)
+    shown = capsys.readouterr().out
+    assert shown.startswith(f"# {Cause.OVER_INDEPENDENT.value}: ") and "'verdict': 'over'" in shown
+    assert shown.endswith("\ncircle Hole 47 28 5\n\n")
