@@ -106,6 +106,17 @@ def test_of_a_changed_tree_nothing_is_recorded(repository: Path) -> None:
     assert not (repository / RECORD).exists()
 
 
+@pytest.mark.parametrize("version", ['cat "$0.kit"', 'cat "$0.kit" | grep kit-1', 'cat "$0.kit" | grep kit-2', "true"])
+def test_of_a_kit_that_is_changed_meanwhile_or_does_not_say_which_it_is_nothing_is_recorded(
+        version: str, repository: Path) -> None:
+    rt = repository.parent / "bin/rt"
+    put(rt, f'[ "$1" = ci ] || {{ {version}; exit; }}\necho kit-2 >"$0.kit"; echo "$HALF_1"\n')
+    rt.with_name("rt.kit").write_text("kit-1\n")
+    status, lines = gate(repository, "30 passed, 0 failed", "12 passed, 0 failed")
+    assert status == 0 and lines == ["30 passed, 0 failed", "12 passed, 0 failed", "42 passed, 0 failed"]
+    assert not (repository / RECORD).exists()
+
+
 def test_at_most_one_proof_more_goes_side_by_side_than_there_are_processors(repository: Path, monkeypatch: pytest.MonkeyPatch) -> None:
     monkeypatch.delenv("RT_JOBS", raising=False)
     gate(repository, "30 passed, 0 failed", "12 passed, 0 failed")
