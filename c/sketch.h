@@ -56,7 +56,8 @@ enum sketch_status {
  *               does all the work again
  *
  * All pointers belong to the caller, before and after; the library keeps none of them. None may be null, even if its
- * length or room is 0, and output and *size must overlap nothing else. A call takes at most 64 KiB of stack.
+ * length or room is 0, and output and *size must overlap nothing else. No contract bounds the stack of a call: leave
+ * 64 KiB for it. The most that was measured is 24 kB.
  *
  * SKETCH_WRITE_FAULT and SKETCH_NO_MEMORY both mean out of memory, and any call may answer so: treat both alike.
  *
