@@ -159,7 +159,7 @@ def _shown(judged: JudgedDrawing, missing: Missing) -> Iterator[Line]:
         return
     off = [amount_text(each) for each in judged.worst() if each.amount]
     within = f"at most {' and '.join(off)} off" if off else "each constraint holds exactly"
-    yield Line("The board shows the shape nearest to the drawing that meets every constraint, "
+    yield Line("The board shows a shape near the drawing that meets every constraint, "
                "placed by numbers.", "quiet")
     if finding.places_by is PlacesBy.PROGRAM:
         yield from _constructed(finding)
