@@ -20,14 +20,15 @@ thousand."""
 
 @dataclass(frozen=True)
 class Affine:
-    """A number, in micrometres or degrees: `at` with nothing off, and besides so many times as far
-    as the dimension of each number in `slopes` lies off."""
+    """A number that changes evenly with dimensions, in micrometres or degrees. at: what it is if no
+    dimension is off. slopes: by how much it changes for each micrometre or degree by which a
+    dimension is off, by the number of the dimension."""
 
     at: Fraction
     slopes: Mapping[int, Fraction]
 
     def value(self, offs: Mapping[int, Fraction]) -> Fraction:
-        """What it is with the dimensions of these numbers so far off, in micrometres or
+        """What it is if dimensions are off by so much, by their numbers; in micrometres or
         degrees."""
         return Affines({0: self}).values(offs)[0] if self.slopes else self.at
 
@@ -44,7 +45,7 @@ class Affines(Generic[Key]):
                         for key, each in of.items()}
 
     def values(self, offs: Mapping[int, Fraction]) -> dict[Key, Fraction]:
-        """What they are with the dimensions of these numbers so far off, in micrometres or
+        """What they are if dimensions are off by so much, by their numbers; in micrometres or
         degrees."""
         below = lcm(*(off.denominator for off in offs.values()))
         steps = {number: off.numerator * (below // off.denominator)
