@@ -250,7 +250,7 @@ def _head(left: TooMuch | Untold, has_others: bool) -> str:
     if isinstance(left, TooMuch) and left.dimensions:
         return f"Over-constrained. {left.rest.value}"
     return ("Over-constrained. Remove one of these:" if has_others
-            else "Over-constrained, and no dimension can be removed by itself.")
+            else "Over-constrained, and no dimension is found that can be removed by itself.")
 
 
 def alone_of(judgement: Judgement, listed: Sequence[Excess]) -> Surplus | None:

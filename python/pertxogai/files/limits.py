@@ -1,7 +1,7 @@
 """How much of a file is read, and why no more.
 
 A reader counts what it reads, while it reads, and refuses a file in one line once there is too
-much: within 5 seconds, and within 500 MB, whatever the file has. The numbers are some times what
+much. The limits are chosen to keep that within 5 seconds and 500 MB. They are some times what
 a file has that is drawn by hand; the proved program takes 2,000 points and lines and 4,000
 constraints of a sketch.
 """
