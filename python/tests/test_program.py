@@ -4,6 +4,7 @@ from __future__ import annotations
 import os
 import stat
 import subprocess
+import sys
 import time
 from collections.abc import Callable
 from concurrent.futures import ThreadPoolExecutor
@@ -16,6 +17,7 @@ from pertxogai.program import (
     Answer, MissingProgram, Program, ProgramCrashed, ProgramError, ProgramSpoke, ProgramTimedOut,
     Solver, Status)
 from pertxogai.program.library import BUILD, Library, quickest
+from pertxogai.program.process import seconds_of_runs
 from pertxogai.program.reports import NotAReport, read_answer
 from pertxogai.program.running import BUILD as PROGRAM
 
@@ -195,6 +197,28 @@ def test_a_program_that_hangs(tmp_path) -> None:
     time.sleep(2.6)
     assert not (tmp_path / "left").exists()  # what it started was stopped too
     assert time.monotonic() - begin < 20
+
+
+BUSY = "import time\nwhile time.process_time() < 0.3: pass"
+
+
+def test_the_runs_of_a_thread_are_timed_and_nothing_else_that_ends_meanwhile(tmp_path) -> None:
+    other = subprocess.Popen([sys.executable, "-c", BUSY])
+    begun = seconds_of_runs()
+    other.wait()
+    assert seconds_of_runs() == begun
+    busy = Program(script(tmp_path, f"exec {sys.executable} -c '{BUSY}'"))
+    busy.ask(["check"], "")
+    assert seconds_of_runs() >= begun + 0.3
+    with ThreadPoolExecutor(1) as elsewhere:
+        assert elsewhere.submit(seconds_of_runs).result() == 0.0
+
+
+def test_a_run_that_is_stopped_is_timed_too(tmp_path) -> None:
+    begun = seconds_of_runs()
+    endless = Program(script(tmp_path, "while :; do :; done"), seconds=1)
+    refused(ProgramTimedOut, endless, "1 s")
+    assert seconds_of_runs() > begun
 
 
 def test_a_program_that_reads_nothing(tmp_path) -> None:

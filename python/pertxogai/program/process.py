@@ -6,6 +6,7 @@ import resource
 import selectors
 import signal
 import subprocess
+import threading
 import time
 from collections.abc import Sequence
 from contextlib import suppress
@@ -58,7 +59,38 @@ def run_process(words: Sequence[str], given: bytes, limits: Limits) -> Ended:
             return _Talk(words, process, given, limits).to_the_end()
         except BaseException:
             stop(process)
+            _wait(process)
             raise
+
+
+class _Taken(threading.local):
+    """What the runs that a thread has waited for took."""
+
+    seconds = 0.0
+
+
+_TAKEN = _Taken()
+
+
+def seconds_of_runs() -> float:
+    """The seconds of a processor that the runs of this thread have taken, those that have ended.
+    What else the process has started isn't among them, whenever that ends."""
+    return _TAKEN.seconds
+
+
+def _wait(process: subprocess.Popen[bytes], seconds: float | None = None) -> int:
+    """The exit status of a run, for whose end it waits. Raises TimeoutExpired."""
+    before = _seconds_of_children()
+    try:
+        return process.wait(seconds)
+    finally:
+        _TAKEN.seconds += _seconds_of_children() - before
+
+
+def _seconds_of_children() -> float:
+    """The seconds of a processor of all that this process has started and waited for."""
+    usage = resource.getrusage(resource.RUSAGE_CHILDREN)
+    return usage.ru_utime + usage.ru_stime
 
 
 def stop(process: subprocess.Popen[bytes]) -> None:
@@ -103,7 +135,7 @@ class _Talk:
                 for key, _ in ready.select(self._seconds_left()):
                     self._serve(ready, key.fileobj)  # type: ignore[arg-type]
         try:
-            code = self.process.wait(self._seconds_left())
+            code = _wait(self.process, self._seconds_left())
         except subprocess.TimeoutExpired:
             raise self._late() from None
         return Ended(code, *map(bytes, self.written.values()))

@@ -1,18 +1,19 @@
 """How much a search may take: steps and seconds, over all that it tries."""
 from __future__ import annotations
 
-from resource import RUSAGE_CHILDREN, getrusage
 from time import thread_time
+
+from pertxogai.program.process import seconds_of_runs
 
 MOST_STEPS = 400
 MOST_SECONDS = 1.0
 
 
 def spent_seconds() -> float:
-    """The seconds of a processor that this thread, and programs that have ended, have taken so far:
-    on a machine that does something else besides, the clock says nothing."""
-    programs = getrusage(RUSAGE_CHILDREN)
-    return thread_time() + programs.ru_utime + programs.ru_stime
+    """The seconds of a processor that this thread, and the runs of the program that it has waited
+    for, have taken so far: on a machine that does something else besides, the clock says
+    nothing."""
+    return thread_time() + seconds_of_runs()
 
 
 class Budget:
