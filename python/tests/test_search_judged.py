@@ -10,6 +10,7 @@ import pytest
 from pertxogai import search
 from pertxogai.commands import main
 from pertxogai.program import Program
+from pertxogai.search import constructing
 from pertxogai.search.searched import Searched
 from shared_drawings import SHRUNKEN_TRIANGLE
 
@@ -71,6 +72,12 @@ def test_what_is_rigid_beyond_triangles_is_constructed_with_a_word_only_measured
     assert len(found["only_measured"]) == len(found["chosen"]) == 1
     # By hand: r = 3924 / 240.
     assert found["places"]["C1"]["radius_nm"] == pytest.approx(16_350_000, abs=2)
+
+
+def test_what_takes_three_drawings_is_constructed_whatever_the_time(capsys, monkeypatch):
+    monkeypatch.setattr(constructing, "MOST_SECONDS", 0.0)
+    found = json_of(capsys, "beyond_triangles/sangaku-two-equal-circles-and-a-square")
+    assert found["places_by"] == "program"
 
 
 def test_a_circle_that_equals_one_from_outside_is_constructed_beside_what_is_rigid(
