@@ -11,15 +11,15 @@ mod calls;
 #[cfg(test)]
 mod claims;
 #[cfg(test)]
+mod closings;
+#[cfg(test)]
 mod damaged;
 #[cfg(test)]
 mod derived;
 #[cfg(test)]
-mod faults;
+mod devices;
 #[cfg(test)]
 mod flips;
-#[cfg(test)]
-mod halting;
 #[cfg(test)]
 mod limits;
 #[cfg(test)]

@@ -1,7 +1,7 @@
-// Drawings at the limits of the language, and one element, constraint or byte beyond them.
-//
-// A long text is told by its parts, between lines of two points: every second part is put once for each number from 3 on.
-use crate::row::{answer, ending_of, ends, joined, parts_of, rows_of};
+// Drawings at the limits of the language, one element, constraint or byte beyond them, and long chains.
+use crate::row::{Row, answer, ending_of, ends, joined, number};
+use crate::tables::rows_of;
+use sk_test_tables::limits::CHAINS;
 use std::alloc::Global;
 use std::process::Abort;
 
@@ -49,274 +49,23 @@ fn fingerprint(bytes: &[u8]) -> u32 {
     print
 }
 
-/// Calls with a last number and `:` before their words, on a text by its parts, that come to a text by its parts; or to the
-/// status before ` print ` and a text with the fingerprint behind it.
-///
-/// A strip of triangles, points in a zigzag, each at a distance of 1 from the next two, is one part, and is placed by points.
-/// No two of 2,000 points have a constraint. Each two of three points have 1,333 distances. An element too many and a
-/// constraint too many are refused.
-///
-/// As many line feeds as a sketch may have bytes are no sketch, and a session without replies. As many spaces are one
-/// line, which is too long, and which a session answers. A byte more is too long a text, whatever its first line is.
-const LONG: &str = "
-$2000: check order=first
-sketch 2
-point P1 1 0
-point P2 2 1
-..
-point P# # ~
-..
-distance P1 P2 1
-..
-distance P< P# 1
-..
-..
-distance P= P# 1
-..
-end
-> 0
-verdict well
-elements 2000
-constraints 3997
-parts 1
-part 1 sound elements 2000 held 3997 due 3997 : P1 P2..
- P#..
-
-$2000: solve order=first place=points
-sketch 2
-point P1 1 0
-point P2 2 1
-..
-point P# # ~
-..
-distance P1 P2 1
-..
-distance P< P# 1
-..
-..
-distance P= P# 1
-..
-end
-> 0 print 1063990
-$2000: check order=last
-sketch 2
-point P1 1 0
-point P2 2 1
-..
-point P# # ~
-..
-distance P1 P2 1
-..
-distance P< P# 1
-..
-..
-distance P= P# 1
-..
-end
-> 0
-verdict well
-elements 2000
-constraints 3997
-parts 1
-part 1 sound elements 2000 held 3997 due 3997 : P1 P2..
- P#..
-
-$2000: solve order=last place=points
-sketch 2
-point P1 1 0
-point P2 2 1
-..
-point P# # ~
-..
-distance P1 P2 1
-..
-distance P< P# 1
-..
-..
-distance P= P# 1
-..
-end
-> 0 print 5437873
-$2000: check order=7
-sketch 2
-point P1 1 0
-point P2 2 1
-..
-point P# # ~
-..
-distance P1 P2 1
-..
-distance P< P# 1
-..
-..
-distance P= P# 1
-..
-end
-> 0
-verdict well
-elements 2000
-constraints 3997
-parts 1
-part 1 sound elements 2000 held 3997 due 3997 : P1 P2..
- P#..
-
-$2000: solve order=7 place=points
-sketch 2
-point P1 1 0
-point P2 2 1
-..
-point P# # ~
-..
-distance P1 P2 1
-..
-distance P< P# 1
-..
-..
-distance P= P# 1
-..
-end
-> 0 print 9434737
-$2000: check
-sketch 1
-point P1 1 0
-point P2 2 1
-..
-point P# # ~
-..
-end
-> 0
-verdict open
-elements 2000
-constraints 0
-parts 2000
-part 1 sound elements 1 held 0 due 0 : P1
-part 2 sound elements 1 held 0 due 0 : P2
-..
-part # sound elements 1 held 0 due 0 : P#
-..
-$1335: check
-sketch 1
-point A 0 0
-point B 1 0
-point C 0 1
-..
-distance A B 1
-..
-..
-distance B C 1
-..
-..
-distance A C 1
-..
-end
-> 0
-verdict over
-elements 3
-constraints 3999
-parts 1
-part 1 over elements 3 held 3999 due 3 : A B C
-$2001: check
-sketch 1
-point P1 1 0
-point P2 2 1
-..
-point P# # ~
-..
-> 1
-refused line 2002 E13 too-many-elements
-$4003: check
-sketch 1
-point A 0 0
-point B 1 0
-..
-distance A B 1
-..
-> 1
-refused line 4004 E14 too-many-constraints
-$4002: check
-sketch 2
-point A 0 0
-point B 1 0
-..
-distance A B 1
-..
-block A 0 0 B 1 0
-> 1
-refused line 4004 E14 too-many-constraints
-$1048578: check
-..
-
-..
-> 1
-refused line 0 E18 empty
-$1048578: session
-..
-
-..
-> 0
-$1048578: check
-..
-
-..
-
-> 1
-refused line 0 E20 too-long
-$1048578: offers
-..
-
-..
-
-> 1
-refused line 0 E20 too-long
-$1048578: verify
-..
-
-..
-
-> 1
-refused line 0 E20 too-long
-$1048578: flips
-..
-
-..
-
-> 1
-refused line 0 E20 too-long
-$1048578: check
-..
- ..
-> 1
-refused line 1 E15 line-too-long
-$1048578: session
-..
- ..
-> 0
-refused E15 line-too-long
-$1048578: check
-..
- ..
- > 1
-refused line 0 E20 too-long
-$1048578: session
-..
- ..
- > 1
-refused line 0 E20 too-long
-";
+/// A number of a row that isn't large.
+fn small(rt: &impl Abort, text: &str) -> u32 {
+    u32::try_from(number(rt, text)).expect(rt, "a small number")
+}
 
 /// The call of the row comes to its text.
-fn is_answered(rt: &impl Abort, alloc: Global, row: &str) {
-    let (line, input, wanted) = parts_of(rt, row);
+pub(crate) fn is_answered_at_length(rt: &impl Abort, alloc: Global, (line, input, wanted): Row) {
     let (last, words) = line.split_once(':').expect(rt, "a number");
-    let last = last.parse::<u32>().expect(rt, "a number");
+    let last = small(rt, last);
     let input = long_text(rt, alloc, input, last);
     let (status, sink) = answer(rt, alloc, words, input.as_bytes());
     match wanted.split_once(" print ") {
         Some((wanted_status, print)) => {
-            let wanted_status = wanted_status.parse::<u8>().expect(rt, "a status");
-            let print = print.trim().parse::<u32>().expect(rt, "a fingerprint");
+            let wanted_status = number(rt, wanted_status);
+            let print = small(rt, print.trim());
             assert!(rt;
-                status == wanted_status && fingerprint(sink.written()) == print,
+                u64::from(status) == wanted_status && fingerprint(sink.written()) == print,
                 "{line}"
             );
         }
@@ -328,113 +77,22 @@ fn is_answered(rt: &impl Abort, alloc: Global, row: &str) {
     }
 }
 
-#[test]
-fn long_texts_are_answered(rt: HostRuntime) {
-    for row in rows_of(&rt, LONG, '$').split('$') {
-        is_answered(&rt, rt.alloc(), row);
-    }
+/// The drawing is placed by points in the order.
+fn is_placed(rt: &impl Abort, alloc: Global, within: &str, text: &str, order: &str) {
+    let words = [" solve within=", within, " place=points order=", order];
+    let line = joined(rt, alloc, &words);
+    let (status, _sink) = answer(rt, alloc, line.as_str(), text.as_bytes());
+    assert!(rt; status == 0, "{line} of {text}");
 }
 
-/// Drawings that are long chains, each with the tolerance in nm and in parts of 10^9 that it is placed within, and with how
-/// long it is: strips, with equal and with other sides, fans, with a hub far off too, a polyline of lengths and angles, a
-/// truss on a line, and a row of blocks.
-const CHAINS: &str = "
-$1 10 100 1000
-point P1 1 0
-point P2 2 1
-..
-point P# # ~
-..
-distance P1 P2 1
-..
-distance P< P# 1
-distance P= P# 1
-$2 10 100 2000
-point P1 1 0
-point P2 2 1
-..
-point P# # ~
-..
-distance P1 P2 1
-..
-distance P< P# 1.^
-distance P= P# 1.^
-$2 10 100 1000
-point H 0 0
-point P2 1000 2
-..
-point P# 1000 #
-..
-distance H P2 1000
-..
-distance H P# 1000.^
-distance P< P# 2.^
-$3 10 198
-point H 0 0
-point P2 10000 2
-..
-point P# 10000 #
-..
-distance H P2 10000
-..
-distance H P# 10000
-distance P< P# 0.1
-$2 10 100 1000
-point P1 1 0
-point P2 2 0
-line L2 1 0 2 0
-..
-point P# # 0
-line L# < 0 # 0
-..
-on P1 L2
-on P2 L2
-distance P1 P2 10
-..
-on P< L#
-on P# L#
-distance P< P# 1^
-angle L< L# 1/1^
-$1 10 201
-line L 0 0 1 0
-point B1 1 0
-point B2 2 0
-..
-point B# # 0
-point T# # 1
-..
-on B1 L
-on B2 L
-distance B1 B2 1
-..
-on B# L
-distance B< B# 1
-distance B< T# 1.^
-distance B# T# 1.^
-$2 10 100 900
-point Q1 1 0
-point Q2 2 0
-point R2 2 1
-..
-point Q# # 0
-point R# # 1
-..
-block Q1 0 0 R2 0.5 0.6 Q2 1 0
-..
-block Q< 0 0 R# 0.5 0.6 Q# 1 0
-distance R< R# 1
-";
-
-/// The drawing is placed by points in four orders.
-fn is_placed(rt: &impl Abort, alloc: Global, within: &str, parts: &str, last: u32) {
+/// The chain is placed in four orders.
+fn is_placed_at_length(rt: &impl Abort, alloc: Global, within: &str, parts: &str, last: u32) {
     let chain = long_text(rt, alloc, parts, last);
     let text = joined(rt, alloc, &["sketch 2\n", chain.as_str(), "end\n"]);
-    for order in ["first", "last", "7", "64"] {
-        let words = [" solve within=", within, " place=points order=", order];
-        let line = joined(rt, alloc, &words);
-        let (status, _sink) = answer(rt, alloc, line.as_str(), text.as_bytes());
-        assert!(rt; status == 0, "{line} of {last} {parts}");
-    }
+    is_placed(rt, alloc, within, text.as_str(), "first");
+    is_placed(rt, alloc, within, text.as_str(), "last");
+    is_placed(rt, alloc, within, text.as_str(), "7");
+    is_placed(rt, alloc, within, text.as_str(), "64");
 }
 
 #[test]
@@ -443,8 +101,7 @@ fn long_chains_are_placed(rt: HostRuntime) {
         let (numbers, parts) = row.split_once('\n').expect(&rt, "parts");
         let (within, lengths) = numbers.split_once(' ').expect(&rt, "lengths");
         for length in lengths.split(' ') {
-            let last = length.parse::<u32>().expect(&rt, "a length");
-            is_placed(&rt, rt.alloc(), within, parts, last);
+            is_placed_at_length(&rt, rt.alloc(), within, parts, small(&rt, length));
         }
     }
 }

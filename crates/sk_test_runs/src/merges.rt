@@ -1,30 +1,21 @@
-// The merges that closing and a finished board answer, on drawings that are read. Elements and
+// The merges that a finished board answers, on drawings that are read. Elements and
 // constraints are numbered from 1 in order of their lines.
-use crate::calls::sketch_of;
+ghost use Rattle.sk_base.specs.SoundSketch.{IsSoundSketch};
+
 use crate::row::put_each;
-use sk_base::{Name, Text};
-use sk_close_by_order::{Chosen, Order, close_family};
-use sk_family::initial;
+use sk_base::{Name, Sketch, Text};
+use sk_close_by_order::{Chosen, Order};
 use sk_graph::reduce;
 use sk_offers::Board;
 use sk_rules::Merge;
 use std::alloc::Global;
 use std::process::Abort;
 
-/// The merges by which closing in the order comes to an end.
-pub(crate) fn merges_told(rt: &impl Abort, alloc: Global, text: &str, order: Order) -> Text {
-    let graph = reduce(alloc, &sketch_of(rt, alloc, text)).expect(rt, "memory");
-    let mut family = initial(alloc, &graph).expect(rt, "memory");
-    let mut picker = Chosen::new(order);
-    let taken = close_family(alloc, &mut family, &graph, &mut picker).expect(rt, "memory");
-    let mut told = Text::new(alloc);
-    put_each(rt, alloc, &mut told, taken.as_slice());
-    told
-}
-
 /// What the drawing's board answers to two offers of its last three clusters, and its merges at its end.
-pub(crate) fn board_told(rt: &impl Abort, alloc: Global, text: &str) -> Text {
-    let graph = reduce(alloc, &sketch_of(rt, alloc, text)).expect(rt, "memory");
+pub(crate) fn board_told(rt: &impl Abort, alloc: Global, sketch: &Sketch) -> Text
+    requires { IsSoundSketch sketch.now }
+{
+    let graph = reduce(alloc, sketch).expect(rt, "memory");
     let mut board = Board::new(alloc, graph).expect(rt, "memory");
     let merge = Merge::Three(Name::Con(5), Name::Con(4), Name::Con(3));
     let first = board.offer(1, merge).expect(rt, "memory");

@@ -13,7 +13,7 @@ use std::fmt::Debug;
 use std::process::Abort;
 
 /// Room for every text of these tests.
-const ROOM: u32 = 300_000;
+pub const ROOM: u32 = 300_000;
 
 /// The status of a call over the source and the sink. A line of no word is empty; any other begins with a blank.
 pub fn status_of<R: Abort, S: Source, K: Sink>(
@@ -23,10 +23,7 @@ pub fn status_of<R: Abort, S: Source, K: Sink>(
     source: &mut S,
     sink: &mut K,
 ) -> u8 {
-    assert!(rt;
-        line.is_empty() || line.starts_with(' '),
-        "no blank before {line}"
-    );
+    assert!(rt; line.is_empty() || line.starts_with(' '), "no blank");
     let mut words = Vec::new(alloc);
     for word in line.split(' ').skip(1) {
         let word = String::from_str(alloc, word).expect(rt, "memory");
@@ -66,22 +63,23 @@ pub fn same(rt: &impl Abort, whose: &str, found: &[u8], wanted: &[u8]) {
     assert!(rt; found == wanted, "{whose} tells:\n{told}");
 }
 
+/// What a call is to come to: its status, and what it writes.
+pub type Ending<'a> = (u64, &'a [u8]);
+
 /// The status and what is written are those that are wanted.
-pub fn ends(
-    rt: &impl Abort,
-    line: &str,
-    (status, written): (u8, &[u8]),
-    (wanted_status, wanted): (u8, &[u8]),
-) {
-    same(rt, line, written, wanted);
-    assert!(rt; status == wanted_status, "{line} has status {status}");
+pub fn ends(rt: &impl Abort, line: &str, (status, written): (u8, &[u8]), wanted: Ending) {
+    same(rt, line, written, wanted.1);
+    assert!(rt; u64::from(status) == wanted.0, "{line} has status {status}");
 }
 
 /// The status of a text that a call is to come to, and what is to be written.
-pub fn ending_of<'a>(rt: &impl Abort, text: &'a str) -> (u8, &'a [u8]) {
+pub fn ending_of<'a>(rt: &impl Abort, text: &'a str) -> Ending<'a> {
     let (status, written) = text.split_once('\n').expect(rt, "a status");
-    let status = status.parse::<u8>().expect(rt, "a status");
-    (status, written.as_bytes())
+    (number(rt, status), written.as_bytes())
+}
+
+pub fn number(rt: &impl Abort, text: &str) -> u64 {
+    text.parse::<u64>().expect(rt, "a number")
 }
 
 /// The call comes to that text.
@@ -90,18 +88,23 @@ pub fn answers(rt: &impl Abort, alloc: Global, line: &str, input: &[u8], wanted:
     ends(rt, line, (status, sink.written()), ending_of(rt, wanted));
 }
 
-/// The rows of a table, each of which stands behind the mark: what is behind the first one. No table is without a row.
-pub fn rows_of<'a>(rt: &impl Abort, table: &'a str, mark: char) -> &'a str {
-    let (before, rows) = table.split_once(mark).expect(rt, "a row");
-    assert!(rt; before.trim().is_empty(), "no mark before {before}");
-    rows
-}
+/// A row: its words, its input, and the text that is wanted.
+pub type Row<'a> = (&'a str, &'a str, &'a str);
 
-/// The words, the input and the wanted text of a row, which stands behind its `$`.
-pub fn parts_of<'a>(rt: &impl Abort, row: &'a str) -> (&'a str, &'a str, &'a str) {
+/// The parts of a row, which stands behind its `$`.
+pub fn parts_of<'a>(rt: &impl Abort, row: &'a str) -> Row<'a> {
     let (line, rest) = row.split_once('\n').expect(rt, "an input");
     let (input, wanted) = rest.split_once("> ").expect(rt, "a text that is wanted");
     (line, input, wanted)
+}
+
+/// The three numbers of a row before `:` and its words.
+pub fn numbers_of<'a>(rt: &impl Abort, line: &'a str) -> ([u64; 3], &'a str) {
+    let (numbers, words) = line.split_once(':').expect(rt, "numbers");
+    let (first, numbers) = numbers.split_once(' ').expect(rt, "two numbers");
+    let (second, third) = numbers.split_once(' ').expect(rt, "three numbers");
+    let numbers = [number(rt, first), number(rt, second), number(rt, third)];
+    (numbers, words)
 }
 
 /// The commands that place elements.
@@ -117,27 +120,12 @@ fn is_done_by_boxes(line: &str, wanted: &str) -> bool {
     }
 }
 
-/// Each row of the table passes; one that is done by boxes comes to the same by points.
-pub fn rows_pass(rt: &impl Abort, alloc: Global, table: &str) {
-    for row in rows_of(rt, table, '$').split('$') {
-        let (line, input, wanted) = parts_of(rt, row);
-        answers(rt, alloc, line, input.as_bytes(), wanted);
-        if is_done_by_boxes(line, wanted) {
-            let by_points = joined(rt, alloc, &[line, " place=points"]);
-            answers(rt, alloc, by_points.as_str(), input.as_bytes(), wanted);
-        }
-    }
-}
-
-/// Behind the sketch, each line of the table is refused: it stands behind a line feed, its code and `: `.
-pub fn lines_are_refused(rt: &impl Abort, alloc: Global, command: &str, sketch: &str, table: &str) {
-    let number = sketch.lines().count().saturating_add(1);
-    let refused = format!(in alloc; "1\nrefused line {number} ").expect(rt, "memory");
-    for row in rows_of(rt, table, '\n').split('\n') {
-        let (code, line) = row.split_once(": ").expect(rt, "a code");
-        let text = joined(rt, alloc, &[sketch, line, "\n"]);
-        let wanted = joined(rt, alloc, &[refused.as_str(), code, "\n"]);
-        answers(rt, alloc, command, text.as_bytes(), wanted.as_str());
+/// The row of a call passes; one that is done by boxes comes to the same by points.
+pub fn is_answered(rt: &impl Abort, alloc: Global, (line, input, wanted): Row) {
+    answers(rt, alloc, line, input.as_bytes(), wanted);
+    if is_done_by_boxes(line, wanted) {
+        let by_points = joined(rt, alloc, &[line, " place=points"]);
+        answers(rt, alloc, by_points.as_str(), input.as_bytes(), wanted);
     }
 }
 

@@ -5,26 +5,9 @@ use sk_close_by_order::Order;
 use sk_family::Family;
 use sk_lines::Code;
 use sk_session::{Closing, Reply, Session};
+use sk_test_tables::sessions::HINGED;
 use std::alloc::Global;
 use std::process::Abort;
-
-/// Two triangles that share a point: one of them loses a side, is checked, and gets it back.
-const HINGED: &str = "\
-point A 0 0
-point B 1 0
-point C 0 1
-point D 1 1
-point E 2 0
-distance A B 1
-distance A C 1
-distance B C 1
-distance A D 1
-distance A E 1
-distance D E 1
-drop 1
-check
-undo
-check";
 
 /// The session behind these lines, which it takes.
 fn hinged(rt: &impl Abort, alloc: Global, closing: Closing) -> Session {

@@ -3,6 +3,7 @@ use crate::calls::planned;
 use crate::row::put_each;
 use sk_base::{ConId, List, Text, parse_mm};
 use sk_gen::datum_sketch;
+use sk_graph::reduce;
 use sk_lang::write_sketch;
 use std::alloc::Global;
 use std::process::Abort;
@@ -11,7 +12,8 @@ use std::process::Abort;
 pub(crate) fn datum_told(rt: &impl Abort, alloc: Global) -> Text {
     let sketch = datum_sketch(alloc, 3).expect(rt, "memory");
     let mut told = write_sketch(alloc, &sketch).expect(rt, "memory");
-    let steps = planned(rt, alloc, &sketch).steps.len();
+    let graph = reduce(alloc, &sketch).expect(rt, "memory");
+    let steps = planned(rt, alloc, &sketch, &graph).steps.len();
     let line = format!(in alloc; "steps {steps}\n").expect(rt, "memory");
     told.put(line.as_bytes()).expect(rt, "memory");
     told

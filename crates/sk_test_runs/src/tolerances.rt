@@ -1,54 +1,46 @@
 // Drawings whose elements lie at places that were made by hand: their tolerances, what is beyond a limit, and turned signs.
 //
 // A row has a sketch, `at`, and a place for each of its elements.
-ghost use Rattle.std.specs.Prelude.{◌<◌, ◌≤◌, ◌^◌, length, IsTrue};
+ghost use Rattle.std.specs.Prelude.{◌≡◌, ◌<◌, ◌≤◌, ◌^◌, length, All, IsTrue};
 ghost use Rattle.sk_base.specs.Bounds.{IsWithin};
 ghost use Rattle.sk_base.specs.Places.{IsBounded};
 ghost use Rattle.sk_base.specs.SoundGraph.{IsSoundGraph};
 ghost use Rattle.sk_base.specs.SoundSketch.{IsSoundSketch};
 ghost use Rattle.sk_graph.specs.SketchGraph.{graph_of};
 ghost use Rattle.sk_measure.specs.Placing.{HasKind, PlacesExactly, AreSpotsOf};
-ghost use Rattle.sk_tree.specs.LegalPlan.{IsLegalPlan};
 
-use crate::calls::{planned, sketch_of};
+use crate::calls::{Read, planned, read_of};
+use crate::row::number;
 use sk_base::{At, Graph, Kind, List, Placed, Sketch, Spot, Text};
-use sk_graph::reduce;
 use sk_measure::{meets, meets_block};
 use sk_report::{passed_text, solve_text, turned_text};
 use sk_tolerance::{first_turned, least, passed};
-use sk_tree::Plan;
 use std::alloc::Global;
 use std::process::Abort;
 
-/// A drawing, its graph and its plan, and where its elements lie.
+/// A drawing and its graph, and where its elements lie.
 #[derive(Drop)]
 pub(crate) struct Laid {
     pub sketch: Sketch,
     pub graph: Graph,
-    pub plan: Plan,
     pub at: Placed,
 }
 
 /// The drawing of a row with its elements at the places of the row.
 pub(crate) fn lay(rt: &impl Abort, alloc: Global, text: &str) -> Laid
     ensures sketch { IsSoundSketch result.sketch }
-    ensures legal { IsLegalPlan (graph_of result.sketch) result.plan }
+    ensures is { result.graph ≡ graph_of result.sketch }
+    ensures some { 0 < length result.sketch.elements }
     ensures lies { PlacesExactly (graph_of result.sketch) result.at }
     ensures graph { IsSoundGraph result.graph }
     ensures placed { PlacesExactly result.graph result.at }
+    ensures bounded { All (λ spot. IsBounded spot.at) result.at.spots }
 {
     let (text, places) = text.split_once("at\n").expect(rt, "places");
-    let sketch = sketch_of(rt, alloc, text);
-    let graph = reduce(alloc, &sketch).expect(rt, "memory");
-    let plan = planned(rt, alloc, &sketch);
+    let Read { sketch, graph } = read_of(rt, alloc, text);
     let places = places_of(rt, alloc, places);
     let at = placed(rt, alloc, &graph, places.as_slice());
-    Laid {
-        sketch,
-        graph,
-        plan,
-        at,
-    }
+    Laid { sketch, graph, at }
 }
 
 /// The places of the lines, `point x y` or `line a b c`.
@@ -63,22 +55,22 @@ fn places_of(rt: &impl Abort, alloc: Global, lines: &str) -> Vec<At> {
 fn place_of(rt: &impl Abort, line: &str) -> At {
     let (kind, rest) = line.split_once(' ').expect(rt, "a kind");
     let (first, rest) = rest.split_once(' ').expect(rt, "two numbers");
-    let first = number(rt, first);
+    let first = whole(rt, first);
     match rest.split_once(' ') {
         Some((b, c)) if kind == "line" => At::Line {
             a: first,
-            b: number(rt, b),
-            c: number(rt, c),
+            b: whole(rt, b),
+            c: whole(rt, c),
         },
         None if kind == "point" => At::Point {
             x: first,
-            y: number(rt, rest),
+            y: whole(rt, rest),
         },
         _ => panic!(rt; "a place"),
     }
 }
 
-fn number(rt: &impl Abort, text: &str) -> i64 {
+fn whole(rt: &impl Abort, text: &str) -> i64 {
     text.parse::<i64>().expect(rt, "a number")
 }
 
@@ -87,6 +79,7 @@ fn placed(rt: &impl Abort, alloc: Global, graph: &Graph, places: &[At]) -> Place
     requires { IsSoundGraph graph.now }
     ensures exactly { PlacesExactly graph.now result }
     ensures in_order { AreSpotsOf graph.now.nodes result.spots }
+    ensures bounded { All (λ spot. IsBounded spot.at) result.spots }
 {
     let nodes = graph.nodes.as_slice();
     assert!(rt; places.len() == nodes.len(), "a place for each element");
@@ -129,18 +122,25 @@ fn is_part(part: i64) -> bool
 }
 
 /// The report on the drawing, what is first beyond the limit, and the first turned sign.
-pub(crate) fn judged(rt: &impl Abort, alloc: Global, text: &str, limit: &str) -> Text {
-    let laid = lay(rt, alloc, text);
-    let limit = limit.parse::<u64>().expect(rt, "a limit");
+pub(crate) fn judged(rt: &impl Abort, alloc: Global, laid: &Laid, limit: &str) -> Text
+    requires sketch { IsSoundSketch laid.now.sketch }
+    requires some { 0 < length laid.now.sketch.elements }
+    requires graph { IsSoundGraph laid.now.graph }
+    requires is { laid.now.graph ≡ graph_of laid.now.sketch }
+    requires placed { PlacesExactly laid.now.graph laid.now.at }
+    requires lies { PlacesExactly (graph_of laid.now.sketch) laid.now.at }
+{
+    let limit = number(rt, limit);
     let tolerance = least(&laid.at, &laid.graph);
-    let (sketch, plan) = (&laid.sketch, &laid.plan);
-    let told = solve_text(alloc, sketch, plan, 38, &laid.at, &tolerance);
+    let sketch = &laid.sketch;
+    let plan = planned(rt, alloc, sketch, &laid.graph);
+    let told = solve_text(alloc, sketch, &plan, 38, &laid.at, &tolerance);
     let mut told = told.expect(rt, "memory");
     if let Some(beyond) = passed(&laid.at, &laid.graph, limit) {
         let line = passed_text(alloc, sketch, &beyond).expect(rt, "memory");
         told.put(line.as_bytes()).expect(rt, "memory");
     }
-    if let Some(turned) = first_turned(&laid.at, sketch, plan) {
+    if let Some(turned) = first_turned(&laid.at, sketch, &plan) {
         let line = turned_text(alloc, &turned).expect(rt, "memory");
         told.put(line.as_bytes()).expect(rt, "memory");
     }
@@ -149,11 +149,13 @@ pub(crate) fn judged(rt: &impl Abort, alloc: Global, text: &str, limit: &str) ->
 
 /// Whether the edge, or behind all of them the block, at a place of the graph holds within a tolerance: if it doesn't,
 /// nothing is told.
-pub(crate) fn held(rt: &impl Abort, alloc: Global, text: &str, numbers: &str) -> Text {
-    let laid = lay(rt, alloc, text);
+pub(crate) fn held(rt: &impl Abort, alloc: Global, laid: &Laid, numbers: &str) -> Text
+    requires graph { IsSoundGraph laid.now.graph }
+    requires placed { PlacesExactly laid.now.graph laid.now.at }
+{
     let (place, tolerance) = numbers.split_once(' ').expect(rt, "a tolerance");
-    let place = place.parse::<usize>().expect(rt, "a place");
-    let tolerance = tolerance.parse::<u64>().expect(rt, "a tolerance");
+    let place = usize::try_from(number(rt, place)).expect(rt, "a place");
+    let tolerance = number(rt, tolerance);
     let mut told = Text::new(alloc);
     if holds_at(rt, &laid.at, &laid.graph, place, tolerance) {
         told.put(b"holds\n").expect(rt, "memory");

@@ -1,9 +1,12 @@
 // Trees of drawings' plans, of a constraint alone, and of no merge.
-ghost use Rattle.std.specs.Prelude.{◌<◌, ◌^◌};
+ghost use Rattle.std.specs.Prelude.{◌≡◌, ◌<◌, ◌^◌, length};
+ghost use Rattle.sk_base.specs.SoundGraph.{IsSoundGraph};
+ghost use Rattle.sk_base.specs.SoundSketch.{IsSoundSketch};
+ghost use Rattle.sk_graph.specs.SketchGraph.{graph_of};
 ghost use Rattle.sk_tree.specs.Trees.{step_count};
 
-use crate::calls::{planned, sketch_of};
-use sk_base::{ConId, List, Text};
+use crate::calls::planned;
+use sk_base::{ConId, Graph, List, Sketch, Text};
 use sk_plan::plan_tree;
 use sk_tree::{Tree, build, height, leaf_tree, leaves, steps};
 use std::alloc::Global;
@@ -28,9 +31,13 @@ fn told(rt: &impl Abort, alloc: Global, tree: &Tree) -> Text
 }
 
 /// The tree of the drawing's plan.
-pub(crate) fn tree_told(rt: &impl Abort, alloc: Global, text: &str) -> Text {
-    let sketch = sketch_of(rt, alloc, text);
-    let plan = planned(rt, alloc, &sketch);
+pub(crate) fn tree_told(rt: &impl Abort, alloc: Global, sketch: &Sketch, graph: &Graph) -> Text
+    requires sound { IsSoundSketch sketch.now }
+    requires some { 0 < length sketch.now.elements }
+    requires graph { graph.now ≡ graph_of sketch.now }
+    requires reduced { IsSoundGraph (graph_of sketch.now) }
+{
+    let plan = planned(rt, alloc, sketch, graph);
     match plan_tree(alloc, &plan).expect(rt, "memory") {
         Some(tree) => told(rt, alloc, &tree),
         None => Text::new(alloc),

@@ -392,17 +392,6 @@ E4 name: flip s1x
 E10 same: flip s1 s1
 E10 same: flip s2 s1 s2";
 
-/// Lines behind 64 lines of flips.
-pub const ONE_TOO_MANY: &str = "
-E15 line-too-long: xxxxxxxxxxxxxxxxxxxxxxxxxxxxxxxxxxxxxxxxxxxxxxxxxxxxxxxxxxxxxxxxxxxxxxxxxxxxxxxxxxxxxxxxxxxxxxxxxxxxxxxxxxxxxxxxxxxxxxxxxxxxxxxxxxxxxxxxxxxxxxxxxxxxxxxxxxxxxxxxxxxxxxxxxxxxxxxxxxxxxxxxxxxxxxxxxxxxxxxxx
-E19 not-ascii: flip\x7f
-E2 word: flop
-E3 shape: flip s1 s2 s3 s4 s5 s6 s7 s8 s9 s10 s11 s12 s13 s14 s15 s16 s17
-E4 name: flip c1
-E10 same: flip s1 s1
-E21 too-many-flips: flip s1
-E21 too-many-flips: flip";
-
 /// A triangle's plan with its step turned over wants the third corner on the other side. The sign that it chooses is the
 /// one that is called drawn.
 pub const TURNED: &str = "

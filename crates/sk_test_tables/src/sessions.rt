@@ -339,3 +339,21 @@ ok B
 ok c1
 fault c1 tolerance 2 nm limit 1
 ";
+
+/// Two triangles that share a point: one of them loses a side, is checked, and gets it back.
+pub const HINGED: &str = "\
+point A 0 0
+point B 1 0
+point C 0 1
+point D 1 1
+point E 2 0
+distance A B 1
+distance A C 1
+distance B C 1
+distance A D 1
+distance A E 1
+distance D E 1
+drop 1
+check
+undo
+check";

@@ -3,13 +3,7 @@
 #![tactic(auto)]
 
 #[cfg(test)]
-mod closings;
-#[cfg(test)]
-mod drawings;
-#[cfg(test)]
 mod grown;
-#[cfg(test)]
-mod halting;
 #[cfg(test)]
 mod intervals;
 #[cfg(test)]
@@ -24,7 +18,5 @@ mod spellings;
 mod steps;
 #[cfg(test)]
 mod streams;
-#[cfg(test)]
-mod verdicts;
 #[cfg(test)]
 mod words;

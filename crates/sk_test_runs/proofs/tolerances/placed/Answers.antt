@@ -1,10 +1,13 @@
 use Rattle.std.proofs.Common.{◌≡◌, ◌++◌, ◌∷◌, [], List, get_or, take, pos, refl, rules, subst, arith, true}
+use Rattle.std.specs.Prelude.{All}
+use Rattle.std.proofs.lemmas.List.Elements.{All-nil, All-cons}
 use Rattle.std.proofs.lemmas.Grind.{common_steps}
 use Rattle.std.proofs.lemmas.List.{take_more, take_all}
 use Rattle.sk_base.specs.declared.At.{At}
 use Rattle.sk_base.specs.declared.At.TheVariants.{Point}
 use Rattle.sk_base.specs.declared.Node.{Node}
 use Rattle.sk_base.specs.declared.Spot.{Spot}
+use Rattle.sk_base.specs.Places.{IsBounded}
 use Rattle.sk_measure.specs.Placing.{AreSpotsOf}
 use Rattle.sk_measure.proofs.InOrder.{spots_more, exactly_in_order}
 use Rattle.sk_measure.proofs.Placings.{any_node}
@@ -30,3 +33,13 @@ pub returns-clause-in_order : goal.returns-clause-in_order
 returns-clause-in_order g c =
     let all : AreSpotsOf c.as_slice-nodes.result.now c.loop-i.spots = subst (λ (xs : List Node). AreSpotsOf xs c.loop-i.spots) (take_all c.loop-i.i c.as_slice-nodes.result.now (omega arith)) c.loop-i.invariant in
     rw c.as_slice-nodes.ensures at all
+
+all_bounded : (nodes : List Node) (spots : List Spot) → AreSpotsOf nodes spots → All (λ (spot : Spot). IsBounded spot.at) spots
+all_bounded nodes [] are = All-nil (λ (spot : Spot). IsBounded spot.at)
+all_bounded [] (spot ∷ spots) are = absurd are
+all_bounded (n ∷ nodes) (spot ∷ spots) are = All-cons (λ (s : Spot). IsBounded s.at) spot spots are.0.bounded (all_bounded nodes spots are.1)
+
+pub returns-clause-bounded : goal.returns-clause-bounded
+returns-clause-bounded g c =
+    let all : AreSpotsOf c.as_slice-nodes.result.now c.loop-i.spots = subst (λ (xs : List Node). AreSpotsOf xs c.loop-i.spots) (take_all c.loop-i.i c.as_slice-nodes.result.now (omega arith)) c.loop-i.invariant in
+    all_bounded c.as_slice-nodes.result.now c.loop-i.spots all

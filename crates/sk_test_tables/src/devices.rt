@@ -1,9 +1,4 @@
-// Reads and writes that fail. The tables of readers and of others are run by `halting`, in which each call in turn fails.
-use crate::row::{answer_over, ending_of, ends, parts_of, rows_of, status_of};
-use sk_io::{StdSink, StdSource};
-use std::alloc::Global;
-use std::io::{self, Read};
-use std::process::Abort;
+//! Calls over devices of which some call fails, or that move little at a time.
 
 /// Calls of the commands that read a whole input first.
 pub const READERS: &str = "
@@ -347,7 +342,7 @@ angle tolerance 0 ppb at line X
 /// The first read, the first write, no room at all, a room of five bytes, calls that never come. A session writes whole
 /// replies: a read that fails, even the one behind the last line, leaves nothing written, and a write that fails leaves the
 /// replies before it.
-const FAULTS: &str = "
+pub const FAULTS: &str = "
 $1 1000 0: check
 sketch 1
 point A 0 0
@@ -469,58 +464,154 @@ ok A
 ok B
 ";
 
-/// Over its devices the call of the row ends so.
-fn is_faulty(rt: &impl Abort, alloc: Global, row: &str) {
-    let (line, input, wanted) = parts_of(rt, row);
-    let (numbers, words) = line.split_once(':').expect(rt, "numbers");
-    let (read, numbers) = numbers.split_once(' ').expect(rt, "a read");
-    let (room, write) = numbers.split_once(' ').expect(rt, "a room");
-    let reads = [read.parse::<u64>().expect(rt, "a read")];
-    let room = room.parse::<u32>().expect(rt, "a room");
-    let writes = [write.parse::<u64>().expect(rt, "a write")];
-    let (status, sink) = answer_over(
-        rt,
-        alloc,
-        words,
-        (input.as_bytes(), &reads),
-        (room, &writes),
-    );
-    ends(rt, line, (status, sink.written()), ending_of(rt, wanted));
-}
+/// Sessions that end in the middle of a piece, and lines that are blank, a comment, or unknown.
+pub const ENDS: &str = "
+$ live
+point A 0 0
+end
+point B 1 0
+> 0
+ok A
+$ live
 
-#[test]
-fn faults_have_their_statuses(rt: HostRuntime) {
-    for row in rows_of(&rt, FAULTS, '$').split('$') {
-        is_faulty(&rt, rt.alloc(), row);
-    }
-}
+point A 0 0
 
-/// Over std's reader and writer a check comes to the text.
-fn is_handed_on<R: Abort, S: Read + Drop>(rt: &R, alloc: Global, reader: S, wanted: &str) {
-    let mut written = Vec::new(alloc);
-    let mut sink = StdSink::new(&mut written);
-    let status = status_of(rt, alloc, " check", &mut StdSource::new(reader), &mut sink);
-    drop(sink);
-    ends(
-        rt,
-        "check",
-        (status, written.as_slice()),
-        ending_of(rt, wanted),
-    );
-}
+# a comment
+check
+> 0
+ok A
+verdict well
+elements 1
+constraints 0
+parts 1
+part 1 sound elements 1 held 0 due 0 : A
+$ live
+endpoint
+end end
+end
+> 0
+refused E2 word
+refused E3 shape
+";
 
-/// The adapters over std's readers and writers hand on what they are given. Blanks without end are read to the limit of a
-/// sketch and a byte beyond it.
-#[test]
-fn the_adapters_hand_on(rt: HostRuntime) {
-    let point = b"sketch 1\npoint A 7 7\nend\n".as_slice();
-    let report =
-        "0\nverdict well\nelements 1\nconstraints 0\nparts 1\npart 1 sound elements 1 held 0 due 0 : A\n";
-    is_handed_on(&rt, rt.alloc(), point, report);
-    is_handed_on(
-        &rt,
-        rt.alloc(),
-        io::repeat(b' '),
-        "1\nrefused line 0 E20 too-long\n",
-    );
-}
+/// Pieces of so many bytes a call, and whole replies: before `:` and its words a row has how many bytes, which read fails, and
+/// which write fails, or 0. A failing call leaves the replies to the lines that had come to their end before it.
+pub const PIECES: &str = "
+$9 1 0: live
+point A 0 0
+undo
+undo
+> 3
+$9 2 0: live
+point A 0 0
+undo
+undo
+> 3
+$9 3 0: live
+point A 0 0
+undo
+undo
+> 3
+ok A
+ok
+$9 4 0: live
+point A 0 0
+undo
+undo
+> 3
+ok A
+ok
+refused S3 nothing-to-undo
+$9 0 1: live
+point A 0 0
+undo
+undo
+> 4
+$9 0 2: live
+point A 0 0
+undo
+undo
+> 4
+ok A
+$9 0 3: live
+point A 0 0
+undo
+undo
+> 4
+ok A
+ok
+";
+
+/// A byte a call: before `:` and its words a row has which read fails, which write or flush, or 0, and whether it takes nothing.
+///
+/// Behind each reply is a flush: the last byte of a reply, its flush, the byte behind that, the next flush, and the last one.
+pub const BYTES: &str = "
+$0 5 0: live
+point A 0 0
+undo
+undo
+> 4
+ok A$0 6 0: live
+point A 0 0
+undo
+undo
+> 4
+ok A
+$0 7 0: live
+point A 0 0
+undo
+undo
+> 4
+ok A
+$0 10 0: live
+point A 0 0
+undo
+undo
+> 4
+ok A
+ok
+$0 38 0: live
+point A 0 0
+undo
+undo
+> 4
+ok A
+ok
+refused S3 nothing-to-undo
+";
+
+/// What is read of a text a byte a call, where a call fails, behind how many calls there are: three bytes take four calls, the
+/// last of which is told the end, and there is no fifth at the end, nor any behind a call that fails.
+///
+/// What is taken of a text and a flush behind it a byte a call, where a call fails, or takes nothing, behind whether all was
+/// done: a writer that fails, or takes nothing of a piece, has not taken it, and one that can't be flushed tells it.
+pub const ADAPTERS: &str = "
+$ read 1
+abc> 1
+fault$ read 2
+abc> 2
+fault$ read 3
+abc> 3
+fault$ read 4
+abc> 4
+fault$ read 5
+abc> 4
+abc$ read 9
+abc> 4
+abc$ put 1
+abc> false
+$ put 2
+abc> false
+a$ put 3
+abc> false
+ab$ put 4
+abc> false
+abc$ put 5
+abc> true
+abc$ put-none 1
+abc> false
+$ put-none 2
+abc> false
+a$ put-none 3
+abc> false
+ab";

@@ -1,2 +1,0 @@
-mod TrialGraphs
-mod Lone
