@@ -3,94 +3,90 @@
 use sk_base::Um;
 use sk_interval::{Cause, G16, G27, G38, Grid, Iv};
 use std::process::Abort;
-use std::test::Fail;
 
 const TWO_TO_25: i64 = 33554432;
 
 const TWO_TO_40: i64 = 1099511627776;
 
-#[test]
-fn lengths_and_roots_on_each_grid(rt: HostRuntime) -> Result<(), Fail> {
-    let table = [
-        (Iv::<G16>::of_um(Um(1)).ends(), (65, 66)),
-        (Iv::<G27>::of_um(Um(1)).ends(), (134217, 134218)),
-        (Iv::<G38>::of_um(Um(1)).ends(), (274877906, 274877907)),
-        (Iv::<G16>::of_um(Um(-1)).ends(), (-66, -65)),
-        (Iv::<G16>::of_um(Um(3000)).ends(), (196608, 196608)),
-        (Iv::<G16>::whole(2).sqrt()?.ends(), (92681, 92682)),
-        (
-            Iv::<G38>::whole(2).sqrt()?.ends(),
-            (388736063996, 388736063997),
-        ),
-        (Iv::<G16>::whole(4).sqrt()?.ends(), (131072, 131072)),
-        (Iv::<G16>::of_um(Um(1)).middle().ends(), (65, 65)),
-        (Iv::<G16>::of_um(Um(-1)).middle().ends(), (-66, -66)),
-    ];
-    for (ends, expected) in table {
-        assert_eq!(rt; ends, expected);
+type Answer<G> = Result<Iv<G>, Cause>;
+
+/// The interval has these ends.
+fn ends<G: Grid>(rt: &impl Abort, answer: Answer<G>, lo: i128, hi: i128) {
+    match answer {
+        Ok(found) => assert!(rt; found.ends() == (lo, hi), "{lo} {hi}"),
+        Err(_) => panic!(rt; "an interval"),
     }
-    Ok(())
+}
+
+fn um<G: Grid>(far: i16) -> Iv<G> {
+    Iv::of_um(Um(i64::from(far)))
 }
 
 #[test]
-fn sums_products_and_quotients(rt: HostRuntime) -> Result<(), Fail> {
-    let thousandth = Iv::<G16>::of_um(Um(1));
-    let three = Iv::<G16>::whole(3);
-    let table = [
-        (three.add(thousandth)?.ends(), (196673, 196674)),
-        (three.sub(thousandth)?.ends(), (196542, 196543)),
-        (three.mul(thousandth.neg())?.ends(), (-198, -195)),
-        (Iv::<G16>::whole(1).div(three)?.ends(), (21845, 21846)),
-        (Iv::<G16>::whole(-1).div(three)?.ends(), (-21846, -21845)),
-        (thousandth.mul(thousandth)?.ends(), (0, 1)),
-    ];
-    for (ends, expected) in table {
-        assert_eq!(rt; ends, expected);
-    }
-    Ok(())
+fn lengths_and_roots_on_each_grid(rt: HostRuntime) {
+    ends::<G16>(&rt, Ok(um(1)), 65, 66);
+    ends::<G27>(&rt, Ok(um(1)), 134217, 134218);
+    ends::<G38>(&rt, Ok(um(1)), 274877906, 274877907);
+    ends::<G16>(&rt, Ok(um(-1)), -66, -65);
+    ends::<G16>(&rt, Ok(um(3000)), 196608, 196608);
+    ends::<G16>(&rt, Iv::whole(2).sqrt(), 92681, 92682);
+    ends::<G38>(&rt, Iv::whole(2).sqrt(), 388736063996, 388736063997);
+    ends::<G16>(&rt, Iv::whole(4).sqrt(), 131072, 131072);
+    ends::<G16>(&rt, Ok(um(1).middle()), 65, 65);
+    ends::<G16>(&rt, Ok(um(-1).middle()), -66, -66);
+}
+
+#[test]
+fn sums_products_and_quotients(rt: HostRuntime) {
+    let (thousandth, three) = (um::<G16>(1), Iv::<G16>::whole(3));
+    ends(&rt, three.add(thousandth), 196673, 196674);
+    ends(&rt, three.sub(thousandth), 196542, 196543);
+    ends(&rt, three.mul(thousandth.neg()), -198, -195);
+    ends(&rt, Iv::<G16>::whole(1).div(three), 21845, 21846);
+    ends(&rt, Iv::<G16>::whole(-1).div(three), -21846, -21845);
+    ends(&rt, thousandth.mul(thousandth), 0, 1);
+}
+
+/// The answer is refused for that, or just isn't.
+fn refused<G: Grid>(rt: &impl Abort, answer: Answer<G>, cause: Option<Cause>) {
+    assert!(rt; answer.err() == cause);
 }
 
 /// What is refused, and what just isn't, on a grid with so many units to the millimetre.
-fn refuses<G: Grid>(rt: &impl Abort, unit: i128) -> Result<(), Fail> {
+fn refuses<G: Grid>(rt: &impl Abort, unit: i128) -> Result<(), Cause> {
     assert!(rt; 0 < unit && unit <= 274877906944);
     let (zero, one) = (Iv::<G>::whole(0), Iv::<G>::whole(1));
+    let flat = Cause::Flat { lo: 0, hi: 0 };
+    refused(rt, zero.sqrt(), Some(flat));
+    refused(rt, one.div(zero), Some(flat));
     let below = Cause::Gap {
         lo: -unit,
         hi: -unit,
     };
-    let around_zero = Iv::<G>::of_um(Um(-1)).add(Iv::of_um(Um(1)))?;
+    refused(rt, one.neg().sqrt(), Some(below));
+    let around_zero = um::<G>(-1).add(um(1))?;
+    let flat = Cause::Flat { lo: -1, hi: 1 };
+    refused(rt, one.div(around_zero), Some(flat));
+
+    let out = Some(Cause::Range);
     let large = Iv::<G>::whole(TWO_TO_25);
-    let limit = large.mul(large)?;
-    let larger = large.add(large)?;
-    let table = [
-        (zero.sqrt(), Some(Cause::Flat { lo: 0, hi: 0 })),
-        (one.neg().sqrt(), Some(below)),
-        (one.div(zero), Some(Cause::Flat { lo: 0, hi: 0 })),
-        (one.div(around_zero), Some(Cause::Flat { lo: -1, hi: 1 })),
-        (larger.mul(larger), Some(Cause::Range)),
-        (limit.add(one), Some(Cause::Range)),
-        (limit.sub(one), None),
-        (limit.neg().sub(one), Some(Cause::Range)),
-        (Iv::whole(TWO_TO_40).length_box(), None),
-        (
-            Iv::whole(TWO_TO_40).add(one)?.length_box(),
-            Some(Cause::Range),
-        ),
-        (Iv::whole(-2).normal_box(), None),
-        (
-            Iv::whole(2).add(Iv::of_um(Um(1)))?.normal_box(),
-            Some(Cause::Range),
-        ),
-    ];
-    for (answer, cause) in table {
-        assert_eq!(rt; answer.err(), cause);
-    }
+    let (limit, larger) = (large.mul(large)?, large.add(large)?);
+    refused(rt, larger.mul(larger), out);
+    refused(rt, limit.add(one), out);
+    refused(rt, limit.sub(one), None);
+    refused(rt, limit.neg().sub(one), out);
+    let length = Iv::<G>::whole(TWO_TO_40);
+    refused(rt, length.length_box(), None);
+    refused(rt, length.add(one)?.length_box(), out);
+    refused(rt, Iv::<G>::whole(-2).normal_box(), None);
+    let normal = Iv::<G>::whole(2).add(um(1))?;
+    refused(rt, normal.normal_box(), out);
     Ok(())
 }
 
 #[test]
-fn refusals_on_each_grid(rt: HostRuntime) -> Result<(), Fail> {
-    refuses::<G16>(&rt, 65536)?;
-    refuses::<G27>(&rt, 134217728)?;
-    refuses::<G38>(&rt, 274877906944)
+fn refusals_on_each_grid(rt: HostRuntime) {
+    assert!(rt; refuses::<G16>(&rt, 65536).is_ok());
+    assert!(rt; refuses::<G27>(&rt, 134217728).is_ok());
+    assert!(rt; refuses::<G38>(&rt, 274877906944).is_ok());
 }

@@ -7,6 +7,7 @@ use sk_orient::{
     advance_drawn, advance_placed, sense_drawn, sense_placed, side_drawn, side_placed, turn_drawn,
     turn_placed,
 };
+use std::process::Abort;
 
 fn point(x: i8, y: i8) -> Shape
     ensures kind { HasCentre result }
@@ -53,89 +54,75 @@ fn placed_line(x: i8, y: i8) -> At
     }
 }
 
+fn turns_to(rt: &impl Abort, x: i8, y: i8, drawn: Sign, placed: i8) {
+    assert!(rt;
+        turn_drawn(&point(0, 0), &point(4, 0), &point(x, y)) == drawn,
+        "at {x} {y}"
+    );
+    assert!(rt;
+        turn_placed(spot(0, 0), spot(4, 0), spot(x, y)) == placed,
+        "at {x} {y}"
+    );
+}
+
 #[test]
 fn turns(rt: HostRuntime) {
-    let rows = [
-        (4, 3, Sign::Plus, 1),
-        (8, 0, Sign::Plus, 0),
-        (4, -3, Sign::Minus, -1),
-    ];
-    for (x, y, drawn, placed) in rows {
-        assert_eq!(rt;
-            turn_drawn(&point(0, 0), &point(4, 0), &point(x, y)),
-            drawn,
-            "at {x} {y}"
-        );
-        assert_eq!(rt;
-            turn_placed(spot(0, 0), spot(4, 0), spot(x, y)),
-            placed,
-            "at {x} {y}"
-        );
-    }
+    turns_to(&rt, 4, 3, Sign::Plus, 1);
+    turns_to(&rt, 8, 0, Sign::Plus, 0);
+    turns_to(&rt, 4, -3, Sign::Minus, -1);
+}
+
+/// A point at (3, way) beside a line, and the way along it from (3, 7) to (end, 2).
+fn goes(rt: &impl Abort, way: i8, end: i8, drawn: Sign, placed: i8) {
+    assert!(rt;
+        side_drawn(&line(10, 0), &point(3, way)) == drawn,
+        "at {way}"
+    );
+    assert!(rt;
+        side_placed(placed_line(10, 0), spot(3, way)) == placed,
+        "at {way}"
+    );
+    let (from, to) = (point(3, 7), point(end, 2));
+    assert!(rt;
+        advance_drawn(&line(10, 0), &from, &to) == drawn,
+        "to {end}"
+    );
+    let (from, to) = (spot(3, 7), spot(end, 2));
+    assert!(rt;
+        advance_placed(placed_line(10, 0), from, to) == placed,
+        "to {end}"
+    );
 }
 
 #[test]
 fn sides_and_advances(rt: HostRuntime) {
-    let rows = [
-        (5, Sign::Plus, 1),
-        (0, Sign::Plus, 0),
-        (-5, Sign::Minus, -1),
-    ];
-    for (way, drawn, placed) in rows {
-        assert_eq!(rt; side_drawn(&line(10, 0), &point(3, way)), drawn, "at {way}");
-        assert_eq!(rt;
-            side_placed(placed_line(10, 0), spot(3, way)),
-            placed,
-            "at {way}"
-        );
-        assert_eq!(rt;
-            advance_drawn(&line(10, 0), &point(3, 7), &point(3 + way, 2)),
-            drawn,
-            "at {way}"
-        );
-        assert_eq!(rt;
-            advance_placed(placed_line(10, 0), spot(3, 7), spot(3 + way, 2)),
-            placed,
-            "at {way}"
-        );
-    }
+    goes(&rt, 5, 8, Sign::Plus, 1);
+    goes(&rt, 0, 3, Sign::Plus, 0);
+    goes(&rt, -5, -2, Sign::Minus, -1);
+}
+
+/// The sense of the angle from the line to (length, 0) to that to (x, y), of that tangent.
+fn senses(rt: &impl Abort, length: i8, (x, y): (i8, i8), q: i8, drawn: Sign, placed: i8) {
+    let ratio = Ratio {
+        p: 1,
+        q: i32::from(q),
+    };
+    assert!(rt;
+        sense_drawn(&line(length, 0), &line(x, y), ratio) == drawn,
+        "at {x} {y}"
+    );
+    assert!(rt;
+        sense_placed(placed_line(length, 0), placed_line(x, y), ratio) == placed,
+        "at {x} {y}"
+    );
 }
 
 #[test]
-fn senses_of_a_right_angle(rt: HostRuntime) {
-    let right = Ratio { p: 1, q: 0 };
-    let rows = [
-        (0, 25, Sign::Plus, 1),
-        (25, 0, Sign::Plus, 0),
-        (0, -25, Sign::Minus, -1),
-    ];
-    for (x, y, drawn, placed) in rows {
-        assert_eq!(rt;
-            sense_drawn(&line(40, 0), &line(x, y), right),
-            drawn,
-            "at {x} {y}"
-        );
-        assert_eq!(rt;
-            sense_placed(placed_line(40, 0), placed_line(x, y), right),
-            placed,
-            "at {x} {y}"
-        );
-    }
-}
-
-#[test]
-fn senses_of_a_half_right_angle(rt: HostRuntime) {
-    let half = Ratio { p: 1, q: 1 };
-    let rows = [
-        (1, 1, Sign::Plus),
-        (1, -1, Sign::Plus),
-        (-1, -1, Sign::Minus),
-    ];
-    for (x, y, drawn) in rows {
-        assert_eq!(rt;
-            sense_drawn(&line(1, 0), &line(x, y), half),
-            drawn,
-            "at {x} {y}"
-        );
-    }
+fn senses_of_a_right_angle_and_half_of_it(rt: HostRuntime) {
+    senses(&rt, 40, (0, 25), 0, Sign::Plus, 1);
+    senses(&rt, 40, (25, 0), 0, Sign::Plus, 0);
+    senses(&rt, 40, (0, -25), 0, Sign::Minus, -1);
+    senses(&rt, 1, (1, 1), 1, Sign::Plus, 1);
+    senses(&rt, 1, (1, -1), 1, Sign::Plus, 0);
+    senses(&rt, 1, (-1, -1), 1, Sign::Minus, -1);
 }

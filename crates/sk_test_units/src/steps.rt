@@ -1,103 +1,127 @@
-//! Places that were worked out by hand.
-ghost use Rattle.std.specs.Prelude.{◌≡◌};
-ghost use Rattle.sk_base.specs.declared.Kind.{Kind};
-ghost use Rattle.sk_steps.specs.Boxes.{kind_of};
+//! Elements constructed at places that were worked out by hand.
+ghost use Rattle.std.specs.Prelude.{◌≡◌, IsTrue};
 ghost use Rattle.sk_steps.specs.Leaves.{AreMeasured, IsSoundMeasure};
+ghost use Rattle.sk_steps.specs.ThirdElement.{HasConstruction};
 
-use sk_base::{ConId, Edge, Elem, Measure, Ratio, Sign, Um};
+use crate::boxes::{Answer, Ends, are_alike, ends_of, exact, lies_at, same};
+use sk_base::{ConId, Edge, Elem, Kind, Measure, Ratio, Sign, Um};
 use sk_interval::{Cause, G16, G27, G38, Grid, Iv};
 use sk_steps::{BoxOf, Given, What, leaf_boxes, settle, third_element};
 use std::process::Abort;
 
-type Ends = (i128, i128);
-
-/// The ends of an answer's numbers, with zeros for what a point doesn't have.
-fn ends_of<G: Grid>(answer: &Result<BoxOf<G>, (What, Cause)>) -> Result<[Ends; 3], (What, Cause)> {
-    match answer {
-        Ok(BoxOf::Point { x, y }) => Ok([x.ends(), y.ends(), (0, 0)]),
-        Ok(BoxOf::Line { a, b, c }) => Ok([a.ends(), b.ends(), c.ends()]),
-        Err(fault) => Err(*fault),
-    }
-}
-
-/// A point on the first axis, so many micrometres from the origin.
-fn along<G: Grid>(rt: &impl Abort, far: i64) -> BoxOf<G>
-    ensures { kind_of result ≡ Kind.Point }
+/// The measure is within the limits of a sketch.
+fn is_sound(measure: Measure) -> bool
+    ensures { IsTrue result → IsSoundMeasure measure }
 {
-    assert!(rt; far.unsigned_abs() <= 2_000_000_000);
-    BoxOf::Point {
-        x: Iv::of_um(Um(far)),
-        y: Iv::whole(0),
+    match measure {
+        Measure::PointPoint(Um(far)) => 1 <= far && far <= 2_000_000_000,
+        Measure::PointLine(Um(far), _) => 0 <= far && far <= 1_000_000_000,
+        Measure::LineLine(Ratio { p, q }, _) => {
+            p != 0 && -10_000 <= p && p <= 10_000 && 0 <= q && q <= 10_000
+        }
     }
 }
 
-/// The third corner of a triangle, by the lengths of its sides in micrometres.
-fn triangle<G: Grid>(
-    rt: &impl Abort,
-    (base, first, second): (i64, i64, i64),
-    root: Sign,
-) -> Result<BoxOf<G>, (What, Cause)> {
-    third_element(&Given {
-        u: along(rt, 0),
-        v: along(rt, base),
-        ux: along(rt, 0),
-        wx: along(rt, first),
-        vy: along(rt, 0),
-        wy: along(rt, second),
-        root,
-    })
-}
-
-/// What the corners are on a grid with so many units to the millimetre, and what an impossible triangle falls short by.
-fn triangles<G: Grid>(rt: &impl Abort, unit: i128, short: i128) {
-    assert!(rt; 0 < unit && unit <= 274877906944);
-    let (four, three, below) = ((4 * unit, 4 * unit), (3 * unit, 3 * unit), -3 * unit);
-    let flat = Cause::Flat { lo: 0, hi: 0 };
-    let gap = Cause::Gap {
-        lo: short,
-        hi: short,
-    };
-    let table = [
-        ((4000, 5000, 3000), Sign::Plus, Ok([four, three, (0, 0)])),
-        (
-            (4000, 5000, 3000),
-            Sign::Minus,
-            Ok([four, (below, below), (0, 0)]),
-        ),
-        ((7000, 3000, 4000), Sign::Plus, Err((What::Height, flat))),
-        ((5000, 1000, 1000), Sign::Plus, Err((What::Height, gap))),
-    ];
-    for (sides, root, expected) in table {
-        let corner = triangle::<G>(rt, sides, root);
-        assert_eq!(rt; ends_of(&corner), expected);
-    }
-}
-
-#[test]
-fn triangles_on_each_grid(rt: HostRuntime) {
-    triangles::<G16>(&rt, 65536, -344064);
-    triangles::<G27>(&rt, 134217728, -704643072);
-    triangles::<G38>(&rt, 274877906944, -1443109011456);
-
-    let sides = (1, 1_000_000_000, 1000);
-    let fine = triangle::<G38>(&rt, sides, Sign::Plus);
-    assert_eq!(rt; ends_of(&fine), Err((What::Height, Cause::Range)));
-    let coarse = triangle::<G16>(&rt, sides, Sign::Plus);
-    let flat = Cause::Flat { lo: 0, hi: 1 };
-    assert_eq!(rt; ends_of(&coarse), Err((What::Base, flat)));
-}
-
-/// The boxes of a constraint's ends.
-fn frame<G: Grid>(measure: Measure) -> (BoxOf<G>, BoxOf<G>)
-    requires { IsSoundMeasure measure }
-    ensures { AreMeasured measure result }
-{
-    leaf_boxes(&Edge {
+/// The boxes of a constraint's ends, the second one first where they are turned.
+fn frame<G: Grid>(rt: &impl Abort, measure: Measure, are_turned: bool) -> (BoxOf<G>, BoxOf<G>) {
+    assert!(rt; is_sound(measure));
+    let (u, v) = leaf_boxes(&Edge {
         id: ConId(1),
         u: Elem(1),
         v: Elem(2),
         measure,
-    })
+    });
+    if are_turned { (v, u) } else { (u, v) }
+}
+
+fn has_construction(u: Kind, v: Kind, w: Kind) -> bool
+    ensures { IsTrue result → HasConstruction u v w }
+{
+    match (u, v, w) {
+        (Kind::Point, _, _) | (Kind::Line, Kind::Line, Kind::Point) => true,
+        _ => false,
+    }
+}
+
+/// Three constraints, of the elements u and v, u and w, v and w, and whether the second and the third name w first.
+type Three = ([Measure; 3], bool);
+
+/// The ends of w by three constraints.
+fn third<G: Grid>(rt: &impl Abort, three: Three, root: Sign) -> Answer<[Ends; 3]> {
+    let ([base, first, second], w_is_first) = three;
+    let (u, v) = frame::<G>(rt, base, false);
+    let (ux, wx) = frame(rt, first, w_is_first);
+    let (vy, wy) = frame(rt, second, w_is_first);
+    assert!(rt; are_alike(ux.kind(), u.kind()) && are_alike(vy.kind(), v.kind()));
+    assert!(rt; are_alike(wy.kind(), wx.kind()));
+    assert!(rt; has_construction(u.kind(), v.kind(), wx.kind()));
+    ends_of(&third_element(&Given {
+        u,
+        v,
+        ux,
+        wx,
+        vy,
+        wy,
+        root,
+    }))
+}
+
+/// The sides of a triangle, in micrometres.
+fn sides(base: i64, first: i64, second: i64) -> Three {
+    let lengths = [
+        Measure::PointPoint(Um(base)),
+        Measure::PointPoint(Um(first)),
+        Measure::PointPoint(Um(second)),
+    ];
+    (lengths, false)
+}
+
+fn along(far: i64, side: Sign) -> Measure {
+    Measure::PointLine(Um(far), side)
+}
+
+const UPRIGHT: Measure = Measure::LineLine(Ratio { p: 1, q: 0 }, Sign::Plus);
+
+/// What is constructed on a grid with so many units to the millimetre, and what an impossible triangle falls short by: the
+/// corners of triangles; the point that is 5 above one line and 30 to the right of another, at a right angle to it; of a
+/// rectangle the side that stands at a right angle on the lower one, through a corner of both, and the corner on the lower
+/// side, 40 to the left of the other.
+fn constructed<G: Grid>(rt: &impl Abort, unit: i128, short: i128) {
+    let (plus, minus) = (Sign::Plus, Sign::Minus);
+    let triangle = sides(4000, 5000, 3000);
+    lies_at(rt, unit, third::<G>(rt, triangle, plus), [4, 3, 0]);
+    lies_at(rt, unit, third::<G>(rt, triangle, minus), [4, -3, 0]);
+    let hole = ([UPRIGHT, along(5000, plus), along(30000, minus)], true);
+    lies_at(rt, unit, third::<G>(rt, hole, plus), [30, 5, 0]);
+    let side = ([along(0, plus), along(0, plus), UPRIGHT], false);
+    lies_at(rt, unit, third::<G>(rt, side, plus), [-1, 0, 0]);
+    let level = Measure::PointPoint(Um(40000));
+    let corner = ([along(0, plus), level, along(0, plus)], true);
+    lies_at(rt, unit, third::<G>(rt, corner, minus), [-40, 0, 0]);
+
+    let flat = Cause::Flat { lo: 0, hi: 0 };
+    fails::<G>(rt, sides(7000, 3000, 4000), What::Height, flat);
+    let gap = Cause::Gap {
+        lo: short,
+        hi: short,
+    };
+    fails::<G>(rt, sides(5000, 1000, 1000), What::Height, gap);
+}
+
+/// The construction fails by that.
+fn fails<G: Grid>(rt: &impl Abort, three: Three, what: What, cause: Cause) {
+    same(rt, third::<G>(rt, three, Sign::Plus), Err((what, cause)));
+}
+
+#[test]
+fn elements_on_each_grid(rt: HostRuntime) {
+    constructed::<G16>(&rt, 65536, -344064);
+    constructed::<G27>(&rt, 134217728, -704643072);
+    constructed::<G38>(&rt, 274877906944, -1443109011456);
+
+    let far = sides(1, 1_000_000_000, 1000);
+    fails::<G38>(&rt, far, What::Height, Cause::Range);
+    fails::<G16>(&rt, far, What::Base, Cause::Flat { lo: 0, hi: 1 });
 }
 
 /// Tells whether both ends are within four units of a place.
@@ -105,118 +129,38 @@ fn are_near(ends: Ends, place: i128) -> bool {
     ends.0.abs_diff(place) <= 4 && ends.1.abs_diff(place) <= 4
 }
 
-/// The line that touches a circle of radius 5 about the origin and one of radius 2, 5 further along the first axis.
-fn belt<G: Grid>() -> Result<BoxOf<G>, (What, Cause)> {
-    let (u, v) = frame(Measure::PointPoint(Um(5000)));
-    let (ux, wx) = frame(Measure::PointLine(Um(5000), Sign::Plus));
-    let (vy, wy) = frame(Measure::PointLine(Um(2000), Sign::Plus));
-    third_element(&Given {
-        u,
-        v,
-        ux,
-        wx,
-        vy,
-        wy,
-        root: Sign::Plus,
-    })
+fn are_at(ends: Ends, place: i128) -> bool {
+    ends.0 == place && ends.1 == place
 }
 
-/// The point that is 5 above one line and 30 to the right of another, at a right angle to it.
-fn hole<G: Grid>() -> Result<BoxOf<G>, (What, Cause)> {
-    let (u, v) = frame(Measure::LineLine(Ratio { p: 1, q: 0 }, Sign::Plus));
-    let (wx, ux) = frame(Measure::PointLine(Um(5000), Sign::Plus));
-    let (wy, vy) = frame(Measure::PointLine(Um(30000), Sign::Minus));
-    third_element(&Given {
-        u,
-        v,
-        ux,
-        wx,
-        vy,
-        wy,
-        root: Sign::Plus,
-    })
-}
-
-/// The first step of a rectangle: the side that stands at a right angle on the lower one, through a corner of both.
-fn side<G: Grid>() -> Result<BoxOf<G>, (What, Cause)> {
-    let (u, v) = frame(Measure::PointLine(Um(0), Sign::Plus));
-    let (ux, wx) = frame(Measure::PointLine(Um(0), Sign::Plus));
-    let (vy, wy) = frame(Measure::LineLine(Ratio { p: 1, q: 0 }, Sign::Plus));
-    third_element(&Given {
-        u,
-        v,
-        ux,
-        wx,
-        vy,
-        wy,
-        root: Sign::Plus,
-    })
-}
-
-/// Its fourth step: the corner on the lower side, 40 to the left of the other.
-fn corner<G: Grid>() -> Result<BoxOf<G>, (What, Cause)> {
-    let (u, v) = frame(Measure::PointLine(Um(0), Sign::Plus));
-    let (wx, ux) = frame(Measure::PointPoint(Um(40000)));
-    let (wy, vy) = frame(Measure::PointLine(Um(0), Sign::Plus));
-    third_element(&Given {
-        u,
-        v,
-        ux,
-        wx,
-        vy,
-        wy,
-        root: Sign::Minus,
-    })
-}
-
-/// Lines and points on a grid with so many units to the millimetre; 0.6 and 0.8 are so many units, rounded down.
-fn lines<G: Grid>(
-    rt: &impl Abort,
-    unit: i128,
-    tenths_6: i128,
-    tenths_8: i128,
-) -> Result<(), (What, Cause)> {
-    assert!(rt; 0 < unit && unit <= 274877906944);
+/// Slanted lines on a grid with so many units to the millimetre; 0.6 and 0.8 are so many units, rounded down. One touches a
+/// circle of radius 5 about the origin and one of radius 2, 5 further along the first axis.
+fn slanted<G: Grid>(rt: &impl Abort, unit: i128, tenths_6: i128, tenths_8: i128) {
     assert!(rt; 0 < tenths_6 && tenths_6 < tenths_8 && tenths_8 < unit);
-    let (five, thirty) = ((5 * unit, 5 * unit), (30 * unit, 30 * unit));
-    let below = (-5 * unit, -5 * unit);
-    let sloping = [(tenths_6, tenths_6 + 1), (-1 - tenths_8, -tenths_8), (0, 0)];
-    let [a, b, c] = ends_of(&belt::<G>())?;
+    assert!(rt; unit <= 274877906944);
+    let centres = Measure::PointPoint(Um(5000));
+    let belt = [centres, along(5000, Sign::Plus), along(2000, Sign::Plus)];
+    let [a, b, c] = match third::<G>(rt, (belt, false), Sign::Plus) {
+        Ok(ends) => ends,
+        Err(_) => panic!(rt; "a belt"),
+    };
     assert!(rt; are_near(a, -tenths_6) && are_near(b, tenths_8));
-    assert_eq!(rt; c, below);
-    assert_eq!(rt; ends_of(&hole::<G>()), Ok([thirty, five, (0, 0)]));
-
-    let (_, line) = frame::<G>(Measure::LineLine(Ratio { p: 3, q: 4 }, Sign::Minus));
-    assert_eq!(rt; ends_of(&Ok(line)), Ok(sloping));
-    Ok(())
+    assert!(rt; are_at(c, exact(rt, unit, -5).0));
+    let slope = Measure::LineLine(Ratio { p: 3, q: 4 }, Sign::Minus);
+    let (_, line) = frame::<G>(rt, slope, false);
+    let wanted = [(tenths_6, tenths_6 + 1), (-1 - tenths_8, -tenths_8), (0, 0)];
+    same(rt, ends_of(&Ok(line)), Ok(wanted));
 }
 
 #[test]
-fn lines_on_each_grid(rt: HostRuntime) {
-    assert!(rt; lines::<G16>(&rt, 65536, 39321, 52428).is_ok());
-    assert!(rt; lines::<G27>(&rt, 134217728, 80530636, 107374182).is_ok());
-    assert!(rt; lines::<G38>(&rt, 274877906944, 164926744166, 219902325555).is_ok());
-}
-
-/// A side and a corner of a rectangle on a grid with so many units to the millimetre.
-fn rectangle<G: Grid>(rt: &impl Abort, unit: i128) {
-    assert!(rt; 0 < unit && unit <= 274877906944);
-    let (back, left) = (-unit, -40 * unit);
-    let upright = [(back, back), (0, 0), (0, 0)];
-    assert_eq!(rt; ends_of(&side::<G>()), Ok(upright));
-    let end = [(left, left), (0, 0), (0, 0)];
-    assert_eq!(rt; ends_of(&corner::<G>()), Ok(end));
-}
-
-#[test]
-fn a_rectangle_on_each_grid(rt: HostRuntime) {
-    rectangle::<G16>(&rt, 65536);
-    rectangle::<G27>(&rt, 134217728);
-    rectangle::<G38>(&rt, 274877906944);
+fn slanted_lines_on_each_grid(rt: HostRuntime) {
+    slanted::<G16>(&rt, 65536, 39321, 52428);
+    slanted::<G27>(&rt, 134217728, 80530636, 107374182);
+    slanted::<G38>(&rt, 274877906944, 164926744166, 219902325555);
 }
 
 /// A line with these parts of its normal, by 0.001 mm off the origin.
-fn sloping(a: i32, b: i32) -> BoxOf<G16> {
+fn sloping(a: i8, b: i8) -> BoxOf<G16> {
     BoxOf::Line {
         a: Iv::whole(i64::from(a)),
         b: Iv::whole(i64::from(b)),
@@ -226,28 +170,30 @@ fn sloping(a: i32, b: i32) -> BoxOf<G16> {
 
 #[test]
 fn boxes_are_settled_at_midpoints(rt: HostRuntime) {
-    let point = [(-66, -66), (0, 0), (0, 0)];
-    let line = [(39321, 39321), (52428, 52428), (65, 65)];
+    let point = BoxOf::<G16>::Point {
+        x: Iv::of_um(Um(-1)),
+        y: Iv::whole(0),
+    };
     let flat = Cause::Flat { lo: 0, hi: 0 };
-    let table = [
-        (along(&rt, -1), Ok(point)),
-        (sloping(3, 4), Ok(line)),
-        (sloping(0, 0), Err((What::Size, flat))),
-    ];
-    for (made, expected) in table {
-        assert_eq!(rt; ends_of(&settle(&made)), expected);
-    }
+    let line = [(39321, 39321), (52428, 52428), (65, 65)];
+    same(
+        &rt,
+        ends_of(&settle(&point)),
+        Ok([(-66, -66), (0, 0), (0, 0)]),
+    );
+    same(&rt, ends_of(&settle(&sloping(3, 4))), Ok(line));
+    let none = Err((What::Size, flat));
+    same(&rt, ends_of(&settle(&sloping(0, 0))), none);
+}
+
+fn has_word(rt: &impl Abort, what: What, word: &str) {
+    assert!(rt; what.word() == word, "{word}");
 }
 
 #[test]
 fn words_are_in_lower_case(rt: HostRuntime) {
-    let table = [
-        (What::Base2, "base2"),
-        (What::Height, "height"),
-        (What::A, "a"),
-        (What::Det2, "det2"),
-    ];
-    for (what, word) in table {
-        assert_eq!(rt; what.word(), word);
-    }
+    has_word(&rt, What::Base2, "base2");
+    has_word(&rt, What::Height, "height");
+    has_word(&rt, What::A, "a");
+    has_word(&rt, What::Det2, "det2");
 }

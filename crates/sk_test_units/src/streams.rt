@@ -1,63 +1,58 @@
 use sk_io::{MemSink, MemSource, ReadEnd, StdSink, StdSource, read_all, write_all};
-use std::test::Fail;
+use std::alloc::Global;
+use std::process::Abort;
 
-#[test]
-fn reads_to_the_end_or_to_the_most(rt: HostRuntime) -> Result<(), Fail> {
-    let alloc = rt.alloc();
-    let rows: [(&[u8], u64, &[u8], &[u8]); 3] = [
-        (b"abc", 10, b"abc", b""),
-        (b"abc", 2, b"ab", b"c"),
-        (b"", 10, b"", b""),
-    ];
-    for (bytes, most, taken, left) in rows {
-        let mut source = MemSource::new(alloc, bytes, &[])?;
-        let text = read_all(alloc, &mut source, most).expect(&rt, "memory is ample");
-        assert_eq!(rt; text.as_bytes(), taken);
-        assert_eq!(rt; source.left(), left);
+/// What is taken of the bytes where these reads fail, or nothing if one of them does, and what is left.
+fn reads(
+    rt: &impl Abort,
+    alloc: Global,
+    (bytes, most, fails): (&[u8], u64, &[u64]),
+    taken: Option<&[u8]>,
+    left: &[u8],
+) {
+    assert!(rt; most <= 10);
+    let mut source = MemSource::new(alloc, bytes, fails).expect(rt, "memory");
+    match read_all(alloc, &mut source, most) {
+        Ok(text) => assert!(rt; taken == Some(text.as_bytes())),
+        Err(ReadEnd::ReadFault) => assert!(rt; taken.is_none()),
+        Err(ReadEnd::NoMemory) => panic!(rt; "memory"),
     }
-    Ok(())
+    assert!(rt; source.left() == left);
 }
 
 #[test]
-fn a_listed_read_fails(rt: HostRuntime) -> Result<(), Fail> {
+fn reads_to_the_end_or_to_the_most(rt: HostRuntime) {
     let alloc = rt.alloc();
-    let rows: [(u64, &[u8]); 2] = [(1, b"abc"), (2, b"")];
-    for (fails, left) in rows {
-        let mut source = MemSource::new(alloc, b"abc", &[fails])?;
-        match read_all(alloc, &mut source, 10) {
-            Err(ReadEnd::ReadFault) => assert_eq!(rt; source.left(), left),
-            _ => return Err(Fail::from("no fault")),
-        }
-    }
-    Ok(())
+    reads(&rt, alloc, (b"abc", 10, &[]), Some(b"abc"), b"");
+    reads(&rt, alloc, (b"abc", 2, &[]), Some(b"ab"), b"c");
+    reads(&rt, alloc, (b"", 10, &[]), Some(b""), b"");
+    reads(&rt, alloc, (b"abc", 10, &[1]), None, b"abc");
+    reads(&rt, alloc, (b"abc", 10, &[2]), None, b"");
+}
+
+/// What is written of a word where there is so much room and these writes fail, and whether all of it is.
+fn writes(rt: &impl Abort, alloc: Global, (room, fails): (u32, &[u64]), all: bool, written: &[u8]) {
+    let mut sink = MemSink::new(alloc, room, fails).expect(rt, "memory");
+    assert!(rt; write_all(&mut sink, b"verdict").is_ok() == all);
+    assert!(rt; sink.written() == written);
 }
 
 #[test]
-fn writes_all_or_a_front(rt: HostRuntime) -> Result<(), Fail> {
+fn writes_all_or_a_front(rt: HostRuntime) {
     let alloc = rt.alloc();
-    let rows: [(u32, &[u64], bool, &[u8]); 4] = [
-        (7, &[], true, b"verdict"),
-        (5, &[], false, b"verdi"),
-        (7, &[1], false, b""),
-        (7, &[2], true, b"verdict"),
-    ];
-    for (room, fails, all, written) in rows {
-        let mut sink = MemSink::new(alloc, room, fails)?;
-        assert_eq!(rt; write_all(&mut sink, b"verdict").is_ok(), all);
-        assert_eq!(rt; sink.written(), written);
-    }
-    Ok(())
+    writes(&rt, alloc, (7, &[]), true, b"verdict");
+    writes(&rt, alloc, (5, &[]), false, b"verdi");
+    writes(&rt, alloc, (7, &[1]), false, b"");
+    writes(&rt, alloc, (7, &[2]), true, b"verdict");
 }
 
 #[test]
-fn the_adapters_hand_on(rt: HostRuntime) -> Result<(), Fail> {
-    let alloc = rt.alloc();
-    let mut written = Vec::new(alloc);
+fn the_adapters_hand_on(rt: HostRuntime) {
+    let mut written = Vec::new(rt.alloc());
     let mut source = StdSource::new(b"abc".as_slice());
     let mut sink = StdSink::new(&mut written);
-    let text = read_all(alloc, &mut source, 10).expect(&rt, "memory is ample");
+    let text = read_all(rt.alloc(), &mut source, 10).expect(&rt, "a text");
     assert!(rt; write_all(&mut sink, text.as_bytes()).is_ok());
     drop(sink);
-    assert_eq!(rt; written.as_slice(), b"abc".as_slice());
-    Ok(())
+    assert!(rt; written.as_slice() == b"abc".as_slice());
 }
