@@ -5,7 +5,8 @@ import sys
 
 
 def show_progress(done: int, of: int) -> None:
-    """How many of so many are done; nothing where all are, or standard error is no terminal."""
+    """Shows how many are done, as `3 of 12`, and clears the line once all are. Writes nothing if
+    standard error is no terminal."""
     if sys.stderr.isatty():
         end = "\r" if done < of else "\r\033[K"
         print(f"{done} of {of}", end=end, file=sys.stderr, flush=True)

@@ -97,10 +97,10 @@ class Figure:
 
 
 class Sketched(Figure):
-    """A drawing as it is drawn, moved to the origin. If points are told to be the origin, and
+    """A drawing as it is drawn, moved to the origin. If constraints put points on the origin, and
     nothing else ties the drawing, all of it is moved so that the mean of these points lies there,
-    as the search moves it. Each edge has its drawn length and direction, also if one of its ends is
-    told to be a point that is drawn elsewhere."""
+    as the search moves it. Each edge has its drawn length and direction, also if one of its ends
+    coincides with a point that is drawn elsewhere."""
 
     def __init__(self, drawing: Drawing, given: Drawing | None = None) -> None:
         """given: the same without what is proposed, which ties nothing yet."""

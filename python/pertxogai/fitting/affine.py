@@ -28,8 +28,8 @@ class Affine:
     slopes: Mapping[int, Fraction]
 
     def value(self, offs: Mapping[int, Fraction]) -> Fraction:
-        """What it is if dimensions are off by so much, by their numbers; in micrometres or
-        degrees."""
+        """Its value, in micrometres or degrees. offs: by how much each dimension is off, by the
+        number of the dimension."""
         return Affines({0: self}).values(offs)[0] if self.slopes else self.at
 
 
@@ -45,8 +45,8 @@ class Affines(Generic[Key]):
                         for key, each in of.items()}
 
     def values(self, offs: Mapping[int, Fraction]) -> dict[Key, Fraction]:
-        """What they are if dimensions are off by so much, by their numbers; in micrometres or
-        degrees."""
+        """Their values, in micrometres or degrees. offs: by how much each dimension is off, by the
+        number of the dimension."""
         below = lcm(*(off.denominator for off in offs.values()))
         steps = {number: off.numerator * (below // off.denominator)
                  for number, off in offs.items()}

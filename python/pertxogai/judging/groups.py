@@ -72,8 +72,8 @@ def _by_rank(names: Names, free: Freedoms, number: int,
 
 
 def _is_named(names: Names, owner: Owner) -> bool:
-    """Whether what is no line of the sketch is named in a group: no arc's ends, and nothing that
-    joins points, which are one in all that is told of them."""
+    """Whether a group names a constraint that is no line of the sketch. It names neither the ends
+    of an arc nor what joins points: in the sketch such points are one element."""
     return not owner.shape and not isinstance(
         names.drawing.constraints[owner.number - 1], (Coincident, Concentric))
 
