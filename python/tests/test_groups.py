@@ -80,6 +80,17 @@ def test_a_direction_that_is_no_line_of_the_sketch_is_in_the_groups_that_need_it
     assert twice["Left"] == {"Height", *level} and twice["Height"] == {"Left", *level}
 
 
+def test_what_follows_from_what_is_no_line_of_the_sketch_alone_has_no_group_of_the_program(program: Program) -> None:
+    """Of the three that tell how both level edges run, at most one is a line of the sketch, and the program leaves that
+    out for none of the others."""
+    found = others(judge(read_drawing(
+        "rectangle P 0 0 118 79\ncoincident PBottom.start Origin\nWidth: length PBottom 120\nHeight: length PRight 80\n"
+        "Again: length PTop 120\nPara: parallel PTop PBottom\n"), program))
+    level = ["constraint 1 (horizontal PBottom)", "constraint 3 (horizontal PTop)", "Para"]
+    assert [found[name] for name in level] == [set(), set(), set()]
+    assert "Again" in found["Width"] and "Width" in found["Again"]
+
+
 @pytest.mark.parametrize("size", ["radius East 8", "diameter East 16"])
 @pytest.mark.parametrize("across_mm", ["16", "17"])
 def test_who_gives_an_arc_its_radius_is_named_beside_its_ends(program: Program, size: str,

@@ -59,7 +59,8 @@ def _by_rank(names: Names, free: Freedoms, number: int,
              others: frozenset[Owner]) -> frozenset[Owner]:
     """Those of a group that by rank take part in something that is too much. Of a dimension, all of
     which follows from others, no more than are needed, and with them what is no line of the sketch
-    and is needed too; none where not all of it follows from these."""
+    and is needed too. None where not all of it follows from these, or where none of the group is
+    needed: the rank alone says then what it follows from, and the program nothing."""
     found = others & free.among()
     if free.twice(number) is Twice.WHOLE:
         silent = free.among().difference(*names.spelled.owners)
@@ -67,7 +68,8 @@ def _by_rank(names: Names, free: Freedoms, number: int,
             if not free.follows(number, others | silent):
                 return frozenset()
             needed = _needed(free, number, found, silent)
-            return frozenset(each for each in needed if each in found or _is_named(names, each))
+            named = frozenset(each for each in needed if each in found or _is_named(names, each))
+            return named if found & needed else frozenset()
     return found
 
 
