@@ -464,6 +464,16 @@ def test_where_an_edge_has_shrunk_to_nothing_nothing_is_known_to_contradict():
     assert has_shrunk(equations, equations.drawn * 0.01)
 
 
+def test_what_shrinks_to_nothing_without_a_constraint_puts_that_into_no_contradiction():
+    """The hole is 30 from the left and 85 from the right, of 120. A bottom that slopes, or a side that leans, makes room.
+    Without the height, or with a top that slopes, there is none, but that a side without a length runs anywhere."""
+    found = found_of("rectangle P 0 0 100 60\ncircle H 25 30 6\nWidth: length PBottom 120\nlength PRight 80\n"
+                     "diameter H 12\nLeft: distance H PLeft 30\nRight: distance H PRight 85\n")
+    sides = "constraint 4 (vertical PLeft)", "constraint 2 (vertical PRight)"
+    assert found.contradictions == (("Right", "Left", "Width", *sides, "constraint 1 (horizontal PBottom)"),)
+    assert found.in_doubt == ()
+
+
 def test_a_triangle_that_cannot_be_is_contradicted_by_its_three_lengths():
     found = found_of("point A 0 0\npoint B 10 0\npoint C 5 1\n"
                      "AB: distance A B 30\nBC: distance B C 10\nCA: distance C A 10\n")

@@ -153,9 +153,11 @@ class _Rests:
         return self._latest - {max(self._latest.intersection(numbers), default=0)}
 
     def _is_met(self, gone: Collection[int], seconds: float) -> bool:
-        """Whether places are found that meet all but some constraints."""
+        """Whether places are found that meet all but some constraints, without an edge or a rim
+        that has shrunk to nothing: of these anything holds."""
         rest = Equations(without(self._drawing, gone))
-        return can_be_met(rest, self._limit.amount, Budget(STEPS, seconds))
+        return can_be_met(rest, self._limit.amount, Budget(STEPS, seconds),
+                          lambda x: not has_shrunk(rest, x))
 
 
 def has_shrunk(equations: Equations, x: Array) -> bool:

@@ -73,10 +73,11 @@ def solve(equations: Equations, budget: Budget | None = None) -> Found:
     return _Solving(equations, budget or Budget()).best()
 
 
-def can_be_met(equations: Equations, within_nm: float, budget: Budget) -> bool:
+def can_be_met(equations: Equations, within_nm: float, budget: Budget,
+               counts: Callable[[Array], bool] = lambda x: True) -> bool:
     """Whether places are found at which no row is off by more than so many nanometres, whichever
-    way round things lie there."""
-    return _Solving(equations, budget).meets(within_nm)
+    way round things lie there. counts: whether places count, for some unknowns."""
+    return _Solving(equations, budget).meets(within_nm, counts)
 
 
 class _Solving:
@@ -96,10 +97,10 @@ class _Solving:
                 break
         return min(self._found, key=Found.worth)
 
-    def meets(self, within_nm: float) -> bool:
-        """Whether one of them meets all within so many nanometres."""
+    def meets(self, within_nm: float, counts: Callable[[Array], bool]) -> bool:
+        """Whether one of them that counts meets all within so many nanometres."""
         for end in self._ends():
-            if end.is_met() or end.worst_nm <= within_nm:
+            if (end.is_met() or end.worst_nm <= within_nm) and counts(end.x):
                 return True
             self._found.append(Found(end, 0))
             if self._budget.is_spent():
