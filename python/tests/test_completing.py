@@ -246,6 +246,9 @@ right and 48 up: the root of 6660, 81.608, at 36.027 degrees."""
     # The mean of the two is -495: S is drawn 535 to the right of it, and above it.
     ("point Far -1000 -1000\npoint A 10 10\nsegment S 40 40 90 40\ncoincident Far Origin\n"
      "coincident A Origin\nhorizontal S\nlength S 50\n", ["x S.start 535", "y S.start 535"], []),
+    # The same, though S begins in A: A lies in one place. H is drawn 555 to the right of the mean, and 525 above it.
+    ("point Far -1000 -1000\npoint A 10 10\nsegment S A 50 10\ncircle H 60 30 5\ncoincident Far Origin\n"
+     "coincident A Origin\nhorizontal S\nlength S 40\ndiameter H 10\n", ["x H.centre 555", "y H.centre 525"], []),
     # How S runs doesn't say where it lies: H is drawn 50 to the right of A, and 20 above it.
     *((f"point A 10 10\nsegment S A 50 10\ncircle H 60 30 5\ncoincident A Origin\n{runs}\nlength S 40\n"
        "diameter H 10\n", ["x H.centre 50", "y H.centre 20"], [])

@@ -98,14 +98,15 @@ class Figure:
 
 class Sketched(Figure):
     """A drawing as it is drawn, moved to the origin. If constraints put points on the origin, and
-    nothing else ties the drawing, all of it is moved so that the mean of these points lies there,
-    as the search moves it. Each edge has its drawn length and direction, also if one of its ends
-    coincides with a point that is drawn elsewhere."""
+    no other ties the drawing to it or to the axes, all of it is moved so that the mean of the
+    places of these points lies there; the search moves it so, too. Each edge has its drawn length
+    and direction, also if one of its ends coincides with a point that is drawn elsewhere."""
 
     def __init__(self, drawing: Drawing, given: Drawing | None = None) -> None:
         """given: the same without what is proposed, which ties nothing yet."""
         given = given or drawing
-        tied = [given.drawn(ref) for ref in given.points() if given.meetings.leader(ref) == ORIGIN]
+        tied = dict.fromkeys(given.drawn(ref) for ref in given.points()
+                             if given.meetings.leader(ref) == ORIGIN)
         alone = tied and not any(map(_places, given.constraints))
         drawn = sum((complex(each.x_um, each.y_um) for each in tied), 0j)
         self._moved = drawn / len(tied) if alone else 0j

@@ -146,10 +146,12 @@ class Unknowns:
         return start
 
     def _shift(self) -> Array:
-        """How far the given points lie from where those that are told to be them are drawn."""
-        off = [np.subtract(self.given[leader], nm_of(self.drawing.drawn(ref)))
-               for ref, leader in ((ref, self.leader(ref)) for ref in self._rank)
-               if leader in self.given and ref not in self.given]
+        """How far the given points lie from where those that are told to be them are drawn, in the
+        mean: points that are drawn in one place count once."""
+        tied = dict.fromkeys((leader, self.drawing.drawn(ref))
+                             for ref, leader in ((ref, self.leader(ref)) for ref in self._rank)
+                             if leader in self.given and ref not in self.given)
+        off = [np.subtract(self.given[leader], nm_of(place)) for leader, place in tied]
         shift: Array = np.mean(off, axis=0) if off else np.zeros(2)
         return shift
 
