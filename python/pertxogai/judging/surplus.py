@@ -58,8 +58,9 @@ class Surplus:
     """A removable dimension, what the rest is without it, and its deviation where the rest is
     placed: it is redundant if that is within the limit. off: None if the rest has no positions, or
     if more is free without the dimension. then: None if it wasn't tried. others: those that it
-    follows from or conflicts with, as the program names them. rounding: by how much the rounded
-    values of the rest change `off`, in the same unit."""
+    follows from or conflicts with, as the program names them, and with them what is no line of the
+    sketch and by rank is needed too. rounding: by how much the rounded values of the rest change
+    `off`, in the same unit."""
 
     number: int
     name: str
@@ -68,7 +69,7 @@ class Surplus:
     limit: Limit = Limit()
     others: tuple[str, ...] = ()
     """Those that it follows from, as the program names them, of those that by rank take part in
-    something that is too many; none where it wasn't asked, or keeps it."""
+    something that is too many; none where it wasn't asked, keeps it, or doesn't name enough."""
     rounding: int = 0
     in_part: bool = False
     """Whether the others say only a part of it, by rank."""
