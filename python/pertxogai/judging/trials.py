@@ -246,7 +246,7 @@ def _grow(asked: Trial, program: Solver, care: Care) -> Trial | None:
 
 def _contradict(question: Question, asked: Trial, care: Care) -> Trial:
     """The same; where something couldn't be spelled, and contradicts what is placed, with that
-    told so. Where nothing is said twice by rank, nothing contradicts: there is no such shape."""
+    told so. Where nothing is said twice by rank, nothing is told to contradict."""
     if not asked.spelled.left_out or asked.verdict is Verdict.OVER:
         return asked
     free = freedoms(question.drawing)

@@ -74,7 +74,8 @@ _TAKEN = _Taken()
 
 def seconds_of_runs() -> float:
     """The seconds of a processor that the runs of this thread have taken, those that have ended.
-    What else the process has started isn't among them, whenever that ends."""
+    What else the process has started isn't among them, but for what another thread waits for in the
+    moment in which a run ends."""
     return _TAKEN.seconds
 
 

@@ -41,8 +41,8 @@ MOST_ASKED, MOST_SECONDS = 200, 2.0
 """The most drawings of which the program is asked, and the seconds of a processor after which no
 more are. What is constructed takes three drawings at most in the gallery, and 0.13 s."""
 LEAST_ASKED = 6
-"""The drawings of which it is asked whatever the time: so what takes few of them is constructed on
-a slow machine too, and on one that stood still meanwhile."""
+"""The drawings of which it is asked whatever the time: so what takes few of them, and has places by
+then, is constructed on a slow machine too, and on one that stood still meanwhile."""
 MANY_PIECES = 10 ** 6
 _FIRST = (Equal, Tangent, PointOn, Symmetric, Midpoint, Collinear)
 """What is only measured rather than others: these need a size that may be unknown."""
