@@ -16,6 +16,7 @@ from pertxogai.judging.like_places import LENGTHS, like_places
 TRIANGLE = "segment A 0 0 40 1\nsegment B A.end 38 30\nsegment C B.end A.start\n"
 QUADRILATERAL = ("segment A 0 0 40 1\nsegment B A.end 42 30\nsegment C B.end 1 33\n"
                  "segment D C.end A.start\n")
+TOUCHED = QUADRILATERAL + "circle K 21 11 10\npoint P 20 1\non P A\non P K\ntangent A K\n"
 
 
 def free_of(text: str) -> Freedoms:
@@ -54,6 +55,8 @@ def circuits(text: str) -> list[list[int]]:
     (TRIANGLE + "equal B C\nangle B C 50deg\nangle A B 65deg\n", 1, "moved and turned"),
     # Four equal sides leave a side and an angle.
     (QUADRILATERAL + "equal A B C D\n", 2, "moved and turned"),
+    # A parallelogram has 3 dimensions; a circle that touches a side in a point lacks its size and place.
+    (TOUCHED + "parallel A C\nparallel B D\n", 5, "moved and turned"),
     # An arc has a centre, a radius and two directions; a tangent at its start leaves the end.
     ("segment S 0 0 20 0\narc A 20 5 S.end 25 5\ntangent S A\nlength S 20\n", 2, "moved and turned"),
 ])
@@ -79,6 +82,12 @@ def test_what_is_lacking(text: str, lacks: int, whole: str) -> None:
     ("segment S 0 0 40 0\npoint P 20 1\nmidpoint P S\non P S\n", [[1, 2]]),
     # B is on the x axis, so that its distance is its x, and its y has no part in it.
     ("point A 0 0\npoint B 40 0\ndistance A B 40\ncoincident A Origin\nx B 40\ny B 0\n", [[1, 2, 3]]),
+    # A circle touches a level edge in P, so P lies straight below the circle's centre.
+    (TOUCHED + "horizontal A\nx P 20\nx K 20\n", [[3, 4, 5, 6]]),
+    # Where a circle touches an edge, or another circle, is no matter of the parallelogram beside it.
+    (TOUCHED + "parallel A C\nparallel B D\nequal A C\n", [[4, 5, 6]]),
+    (TOUCHED + "circle J 20 -9 10\npoint R 21 1\non R K\non R J\ntangent K J\nparallel A C\nparallel B D\n"
+     "equal A C\n", [[7, 8, 9]]),
     # What has no shape says nothing twice: 98.19 along x, and 78.8 in all.
     ("point P 20 30\npoint Q 100 47\nx P Q +98.19\ndistance P Q 78.8\n", []),
 ])

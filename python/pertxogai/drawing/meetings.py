@@ -107,6 +107,15 @@ class Meetings:
                     return Pair(end, end)
         return None
 
+    def on_both(self, tangent: Tangent) -> Pair | None:
+        """The first point that the drawing's words put on both shapes of a tangent: there they
+        touch."""
+        for each in self._drawing.constraints:
+            if (isinstance(each, PointOn) and each.curve == tangent.first
+                    and (self.leader(each.point), tangent.second) in self._on):
+                return Pair(each.point, each.point)
+        return None
+
 
 JOINING_ALONE = Coincident, Concentric
 """What says that two points are one, and nothing else."""

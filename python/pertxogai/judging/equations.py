@@ -274,7 +274,9 @@ class Plane(Generic[N]):
         return cross(wanted, second) / (self.size(wanted) * self.size(second))
 
     def _tangent(self, tangent: Tangent) -> list[Jet[N]]:
-        contact = self.drawing.meetings.contact(tangent)
+        meetings = self.drawing.meetings
+        # Of a point on both, their distance would say nothing new, to the first order.
+        contact = meetings.contact(tangent) or meetings.on_both(tangent)
         first, second = tangent.first, tangent.second
         lines = self.is_line(first), self.is_line(second)
         if all(lines):
