@@ -509,6 +509,16 @@ def test_a_corner_on_the_other_side_is_warned_of(program):
     assert DepartureKind.OTHER_SIDE in [each.departure for each in found.warnings]
 
 
+@pytest.mark.parametrize("aside_nm, is_turned", [(1, False), (-1, False), (-999, False), (-2000, True)])
+def test_edges_in_one_line_turn_to_no_side(aside_nm, is_turned):
+    """Both go along 4/3, drawn bent to the left; rounding puts the end of B on either side of A's line."""
+    drawing = read_drawing("segment A 0 0 16 12\nsegment B A.end 32 24.5\ncollinear A B\n")
+    spots = {ref_of("A.start"): (0, 0), ref_of("A.end"): (16_000_000, 12_000_000),
+             ref_of("B.start"): (16_000_000, 12_000_000), ref_of("B.end"): (32_000_000, 24_000_000 + aside_nm)}
+    found = [each.departure for each in warnings(drawing, Solution(spots))]
+    assert found == [DepartureKind.OTHER_SIDE] * is_turned
+
+
 CAM = """arc Base 0 0 -20 0 20 0
 arc Nose 0 27 4 32 -4 32
 arc Right -21.538 0 Base.end Nose.start

@@ -104,8 +104,7 @@ class Comparison:
         """The corners that turn to the other side than they are drawn."""
         for first, second in self._corners:
             one, other = outline[first], outline[second]
-            before = cross(one.drawn.way, other.drawn.way)
-            if before * cross(one.placed.way, other.placed.way) < 0:
+            if one.turns(other):
                 yield Departure(DepartureKind.OTHER_SIDE, (one.name, other.name))
 
     def _crossings(self, outline: Sequence[Edge]) -> Iterator[Departure]:
