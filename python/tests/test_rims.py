@@ -220,6 +220,41 @@ def test_a_circle_that_goes_round_something_does_not_lie_in_it(program, text, x,
     assert [each.text() for each in found.warnings] == told
 
 
+LENS = Round((0, 0), 9 * MM), Round((4 * MM, 0), 10 * MM)
+"""Two circles that cross, since 4 is more than 1: each has the centre of the other."""
+EQUAL = Round((0, 0), 10 * MM), Round((4 * MM, 0), 10 * MM)
+WITHIN = Round((0, 0), 5 * MM), Round((4 * MM, 0), 10 * MM)
+"""The first lies in the second: 5 and 4 are less than 10."""
+APART = Round((0, 0), 9 * MM), Round((29 * MM, 0), 10 * MM)
+
+
+@pytest.mark.parametrize(("drawn", "placed", "leaves"), [
+    (LENS, EQUAL, []), (EQUAL, LENS, []), (LENS, LENS[::-1], []), (LENS, APART, [("A", "B")]),
+    (WITHIN, APART, [("A", "B")]), (WITHIN, WITHIN[::-1], [("A", "B"), ("B", "A")])])
+def test_circles_that_cross_drawn_and_placed_lie_on_no_side_of_each_other(drawn, placed, leaves):
+    rims = [Rim(name, *each) for name, *each in zip("AB", drawn, placed)]
+    assert [*Loops([None, None]).leavers(rims)] == leaves
+
+
+CUT = """circle Disc 0 0 {drawn}
+rectangle Key -20 -8 20 30
+coincident Disc Origin
+radius Disc {placed}
+length KeyBottom 28
+length KeyRight 38
+x KeyBottom.start -8
+y KeyBottom.start -8
+"""
+
+
+@pytest.mark.parametrize(("drawn", "placed"), [(9, 9), (9, 12), (12, 9), (12, 12), (12, 20)])
+def test_a_circle_that_crosses_an_outline_lies_on_no_side_of_it(program, drawn, placed):
+    """It crosses the lower edge, 8 below its centre, drawn and placed. The first corner is 21.5 from the
+    centre as it is drawn, and 11.3 where it is placed; the left edge is 20 from it, and then 8."""
+    found = judge(read_drawing(CUT.format(drawn=drawn, placed=placed)), program)
+    assert [each.text() for each in found.warnings] == ["KeyLeft and Disc cross, but are drawn apart"]
+
+
 def circle(chance: random.Random) -> Round:
     return Round((chance.randint(-9, 9) * MM, chance.randint(-9, 9) * MM), chance.randint(1, 9) * MM)
 
@@ -245,6 +280,7 @@ def test_what_leaves_an_outline_is_found_as_by_trying_each_two(seed):
              Loop("S0", tuple(edges[:3]), ()), Loop("T0", tuple(edges[3:]), ())]
     left = [(one.name, other.name) for one, other in permutations(loops, 2)
             if one.lies_within(other, False) is not one.lies_within(other, True)
-            and not any(one.is_unsure(other, each) for each in (False, True))]
+            and not any(one.is_unsure(other, each) for each in (False, True))
+            and not all(one.crosses(other, each) for each in (False, True))]
     found = Loops([*ends, *(None for _ in rims)]).leavers([*edges, *rims])
     assert sorted(found) == sorted(left)

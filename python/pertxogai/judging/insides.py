@@ -8,7 +8,7 @@ from typing import NamedTuple
 from pertxogai.classes import Classes
 from pertxogai.drawing import PointRef
 from pertxogai.exact import Vector, between, cross, dot, square
-from pertxogai.judging.edges import Edge, Ends
+from pertxogai.judging.edges import Chord, Edge, Ends
 from pertxogai.judging.rims import TOUCHING_NM, Rim, Round
 
 
@@ -34,6 +34,15 @@ class Loop(NamedTuple):
         if other.is_on(self.place(is_placed), is_placed):
             return True
         return other._circle(is_placed) is None and self.is_on(other._end(is_placed), is_placed)
+
+    def crosses(self, other: Loop, is_placed: bool) -> bool:
+        """Whether it crosses another, as both are drawn or placed, and doesn't only touch it."""
+        mine, its = self._chords(is_placed), other._chords(is_placed)
+        my_rims, its_rims = self._rims(is_placed), other._rims(is_placed)
+        return (any(one.crosses(each) for one in mine for each in its)
+                or any(rim.is_cut_by(each) for rim in its_rims for each in mine)
+                or any(rim.is_cut_by(each) for rim in my_rims for each in its)
+                or any(rim.crosses(each) for rim in my_rims for each in its_rims))
 
     def _goes_round(self, other: Loop, is_placed: bool) -> bool:
         """Whether it is a circle round another, whose centre so may lie within that."""
@@ -73,9 +82,11 @@ class Loop(NamedTuple):
     def _rims(self, is_placed: bool) -> list[Round]:
         return [each.placed if is_placed else each.drawn for each in self.rims]
 
+    def _chords(self, is_placed: bool) -> list[Chord]:
+        return [each.placed if is_placed else each.drawn for each in self.edges]
+
     def _ways(self, is_placed: bool) -> list[tuple[Vector, Vector]]:
-        chords = (each.placed if is_placed else each.drawn for each in self.edges)
-        return [(each.start, each.end) for each in chords]
+        return [(each.start, each.end) for each in self._chords(is_placed)]
 
 
 class Loops:
@@ -90,14 +101,16 @@ class Loops:
 
     def leavers(self, things: Sequence[Edge | Rim]) -> Iterator[tuple[str, str]]:
         """Each circle or closed outline that lies on the other side of another outline than it is
-        drawn, and the name of that one's first edge. What lies on that one is on no side of it.
-        things: the edges and rims in their order, as they are drawn and placed."""
+        drawn, and the name of that one's first edge. What lies on that one, or crosses it as it is
+        drawn and as it is placed, is on no side of it. things: the edges and rims in their order,
+        as they are drawn and placed."""
         loops = [_loop([things[place] for place in places]) for places in self._places]
         if self._drawn is None:
             self._drawn = frozenset(_within(loops, False))
         for one, other in sorted(self._drawn.symmetric_difference(_within(loops, True))):
             thing, loop = loops[one], loops[other]
-            if not any(thing.is_unsure(loop, each) for each in (False, True)):
+            if not (any(thing.is_unsure(loop, each) for each in (False, True))
+                    or all(thing.crosses(loop, each) for each in (False, True))):
                 yield thing.name, loop.name
 
 
