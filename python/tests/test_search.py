@@ -431,6 +431,28 @@ def test_a_point_that_lies_on_two_shapes_that_touch_is_where_they_do(other, lies
     assert all(abs(a - b) <= WITHIN_NM for a, b in zip(found.solution.spot(point("P")), told))
 
 
+DOOR = ("rectangle Door 0 0 880 2150\ncoincident DoorBottom.start Origin\nlength DoorBottom 900\n"
+        "length DoorRight 2100\ncircle Handle 70 1000 12\n")
+
+
+@pytest.mark.parametrize("text, name, lies", [
+    (DOOR + "distance Handle XAxis 1050\nx Handle 70\n", "Handle.centre", "70 1050"),
+    (DOOR + "tangent YAxis Handle\ny Handle 1050\nradius Handle 12\n", "Handle.centre", "12 1050"),
+    ("segment S 300000 600000 500000 700000\ndistance S.end YAxis 500001\n", "S.end", "500001 700000")])
+def test_what_an_axis_is_far_from_in_a_large_drawing(text, name, lies):
+    found = found_of(text)
+    assert not found.contradictions and worst_nm(found) <= WITHIN_NM
+    told = [um_of_mm(each) * 1000 for each in lies.split()]
+    assert all(abs(a - b) <= WITHIN_NM for a, b in zip(found.solution.spot(point(name)), told))
+
+
+def test_what_repeats_a_distance_from_an_axis_does_not_contradict_it_in_a_large_drawing():
+    found = found_of(DOOR + "distance Handle XAxis 1050\ny Handle 1050\n")
+    assert found.contradictions == ()
+    assert found.repeats == (("constraint 9 (y Handle.centre 1050)",
+                              "constraint 8 (distance Handle.centre XAxis 1050)"),)
+
+
 @pytest.mark.parametrize("name, group", [
     ("over-isosceles-by-its-angles", {"Width", "Angle", "Height"}),
     ("over-lengths-that-turn", {"First", "Second", "Equal"}),

@@ -18,6 +18,8 @@ from pertxogai.search.arrays import Array
 from pertxogai.search.combination import Combination
 
 NM_PER_UM = 1000.0
+AXIS_NM = 1e12
+"""How long the way along an axis is: as long as anything is, so that it counts beside all of it."""
 FloatPointNm = tuple[float, float]
 """x and y in nanometres."""
 
@@ -123,8 +125,8 @@ class Unknowns:
         """The start of a segment or an axis, and the way from there to its end."""
         shape = self.drawing.shape(ref.name)
         if isinstance(shape, Axis):
-            upwards = float(shape.upwards)
-            return Combination(), Combination({}, 1.0 - upwards, upwards)
+            way = (0.0, AXIS_NM) if shape.upwards else (AXIS_NM, 0.0)
+            return Combination(), Combination({}, *way)
         start, end = (self.point(PointRef(ref.name, each)) for each in (Which.START, Which.END))
         return start, end - start
 
