@@ -6,12 +6,13 @@ from pathlib import Path
 import pytest
 
 from pertxogai.drawing import (
-    ORIGIN, X_AXIS, Y_AXIS, AngleBetween, Arc, Circle, Degrees, Fixed, Length, Midpoint, Pair,
-    PointLineDistance, PointOn, PointRef, ShapeRef, Symmetric, Tangent, Which, XDistance)
+    ORIGIN, X_AXIS, Y_AXIS, AngleBetween, Arc, Circle, Coincident, Degrees, Equal, Fixed,
+    Horizontal, Length, Midpoint, Pair, PointLineDistance, PointOn, PointRef, ShapeRef, Symmetric,
+    Tangent, Vertical, Which, XDistance)
 from pertxogai.drawing.soundness import faults
-from pertxogai.files.contents import FileRefusal, FileSketch, NotDrivingCause
+from pertxogai.files.contents import Addition, FileRefusal, FileSketch, NotDrivingCause
 from pertxogai.files.solvespace import read_solvespace, write_solvespace
-from pertxogai.files.solvespace.writing import write_places
+from pertxogai.files.solvespace.writing import write_additions, write_places
 from pertxogai.judging.measure import Solution, Unit, greatest, measure
 
 FILES = Path(__file__).parent / "files"
@@ -87,6 +88,47 @@ def test_forms(name: str, constraint: object) -> None:
 
 def test_a_reference_dimension_stands_aside() -> None:
     assert [(each.number, each.why) for each in found("pinned").aside] == [(6, NotDrivingCause.REFERENCE)]
+
+
+def edited(tmp_path: Path, name: str, old: bytes, new: bytes) -> Path:
+    """A file of the stock of which a text of the sketch's group, or of what follows, is another."""
+    head, group, rest = (FILES / f"{name}.slvs").read_bytes().partition(b"Group.h.v=00000002")
+    assert old in rest
+    path = tmp_path / f"{name}.slvs"
+    path.write_bytes(head + group + rest.replace(old, new, 1))
+    return path
+
+
+def test_dimensions_of_a_group_that_takes_them_as_references_stand_aside(tmp_path: Path) -> None:
+    """SolveSpace: 'treat all dimensions as reference'. By its own list of what has a label, of the
+    plate these are two lengths, four distances to lines and a diameter."""
+    path = edited(tmp_path, "plate", b"allDimsReference=0", b"allDimsReference=1")
+    (one,) = read_solvespace(path)
+    assert {(each.name.split("-", 1)[1], each.why) for each in one.aside} == {
+        (word, NotDrivingCause.REFERENCE)
+        for word in ("pt-pt-distance", "pt-line-distance", "diameter")}
+    assert len(one.aside) == 7 and not one.left_out
+    assert [type(each) for each in one.drawing.constraints] == (
+        4 * [Coincident] + 2 * [Horizontal, Vertical] + [Coincident, Equal])
+
+
+def test_constraints_of_a_group_that_relaxes_them_stand_aside(tmp_path: Path) -> None:
+    """SolveSpace: 'relax constraints and dimensions' keeps coincident points alone."""
+    path = edited(tmp_path, "plate", b"relaxConstraints=0", b"relaxConstraints=1")
+    (one,) = read_solvespace(path)
+    assert [type(each) for each in one.drawing.constraints] == 5 * [Coincident]
+    assert {each.why for each in one.aside} == {NotDrivingCause.OFF}
+    assert len(one.aside) == len(found("plate").drawing.constraints) - 5
+
+
+@pytest.mark.parametrize("flag", [b"allDimsReference", b"relaxConstraints"])
+def test_nothing_is_added_where_it_would_not_hold(tmp_path: Path, flag: bytes) -> None:
+    path = edited(tmp_path, "loose", flag + b"=0", flag + b"=1")
+    (one,) = read_solvespace(path)
+    addition = Addition(one.drawing, (Length(ShapeRef("Line5"), Fraction(40000)),), stored(one))
+    with pytest.raises(FileRefusal, match="nothing that is added would hold"):
+        write_additions(path, tmp_path / "out.slvs", {"g002": addition})
+    assert not (tmp_path / "out.slvs").exists()
 
 
 def test_what_a_drawing_has_not_is_named() -> None:

@@ -55,6 +55,8 @@ _OTHERS = {
     210: "arc-arc-length-ratio", 211: "arc-line-length-ratio", 212: "arc-arc-len-difference",
     213: "arc-line-len-difference",
 }
+DIMENSIONS = frozenset({30, 31, 32, 33, 34, 51, 56, 90, 120, 210, 211, 212, 213})
+"""SolveSpace's numbers of the constraints that have a value."""
 X_PLANE, Y_PLANE = 0x00020000, 0x00030000
 X_NORMAL, Y_NORMAL = 0x00020020, 0x00030020
 

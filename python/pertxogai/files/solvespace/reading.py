@@ -10,7 +10,8 @@ from pertxogai.files.contents import (
     FileRefusal, FileSketch, NotDriving, NotDrivingCause, NotSayable)
 from pertxogai.files.limits import SKETCH_ENTRIES, Count, TooMuch
 from pertxogai.files.solvespace.adding import Handles
-from pertxogai.files.solvespace.constraints import COMMENT, Plane, Touch, name_of, say
+from pertxogai.files.solvespace.constraints import (
+    COMMENT, DIMENSIONS, Kind, Plane, Touch, name_of, say)
 from pertxogai.files.solvespace.records import Record, read_lines, records
 from pertxogai.files.solvespace.shapes import Drawn, drawn, shape
 from pertxogai.files.solvespace.touches import Entry, said, settled
@@ -145,6 +146,23 @@ def _is_level(group: Record) -> bool:
     return group.handle("predef.origin.v") == _GROUND and not any(turned)
 
 
+def holds_nothing_new(group: Record) -> bool:
+    """Whether SolveSpace holds no dimension of a group: it takes them all as references, or relaxes
+    all constraints."""
+    return group.whole("allDimsReference") == 1 or group.whole("relaxConstraints") == 1
+
+
+def _apart(record: Record, group: Record) -> NotDrivingCause | None:
+    """Why a constraint of a group doesn't drive its sketch; nothing where it does."""
+    kind = record.whole("type")
+    if record.whole("reference") == 1 or (
+            kind in DIMENSIONS and group.whole("allDimsReference") == 1):
+        return NotDrivingCause.REFERENCE
+    if kind != Kind.PTS_COINCIDENT and group.whole("relaxConstraints") == 1:
+        return NotDrivingCause.OFF
+    return None
+
+
 def _entries(group: Record, contents: Contents, plane: Plane, gathering: DrawingBuilder
              ) -> tuple[list[Entry], list[NotDriving]]:
     """What the constraints of a group say, and those that only measure."""
@@ -153,16 +171,16 @@ def _entries(group: Record, contents: Contents, plane: Plane, gathering: Drawing
     for record in contents.constraints.get(group.handle("h.v"), []):
         if record.whole("type") == COMMENT:
             continue
-        number, name = record.handle("h.v"), name_of(record)
+        number, name, why = record.handle("h.v"), name_of(record), _apart(record, group)
         try:
             told = say(record, plane, gathering.is_left)
         except NotSayable as unsaid:
             told = None
-            if record.whole("reference") == 0:
+            if why is None:
                 gathering.leave_out(name, str(unsaid), number)
-        if record.whole("reference") == 1:
+        if why is not None:
             kept = () if told is None or isinstance(told, Touch) else (told,)
-            aside.append(NotDriving(number, name, NotDrivingCause.REFERENCE, kept))
+            aside.append(NotDriving(number, name, why, kept))
         elif told is not None:
             entries.append(Entry(number, name, told))
     return entries, aside

@@ -17,7 +17,8 @@ from pertxogai.files.atomic import written_whole
 from pertxogai.files.contents import Addition, FileRefusal, NotSayable
 from pertxogai.files.solvespace.adding import Handles, addition_lines
 from pertxogai.files.solvespace.reading import (
-    Contents, contents_of, handles_of, name_of_group, read_solvespace, requests_of, sketch_groups)
+    Contents, contents_of, handles_of, holds_nothing_new, name_of_group, read_solvespace,
+    requests_of, sketch_groups)
 from pertxogai.files.solvespace.records import Record, read_lines, records
 from pertxogai.files.solvespace.shapes import Request, drawn
 from pertxogai.files.variants import Changed, changes
@@ -74,6 +75,10 @@ def _write(path: Path, out: Path, solutions: Mapping[str, Solution],
         if name in solutions:
             values.update(_values(requests_of(group, contents), upright(solutions[name])))
         if name in additions:
+            if holds_nothing_new(group):
+                raise FileRefusal(
+                    f"{path}: {name}: SolveSpace takes all its dimensions as references, or relaxes"
+                    " its constraints, so nothing that is added would hold: change that there")
             added += _new_records(path, additions[name], handles_of(group, contents), number)
             number += len(additions[name].added)
     end = _end_of_constraints(lines)
