@@ -121,6 +121,36 @@ def test_constraints_of_a_group_that_relaxes_them_stand_aside(tmp_path: Path) ->
     assert len(one.aside) == len(found("plate").drawing.constraints) - 5
 
 
+@pytest.mark.parametrize("old,new", [
+    (b"Group.subtype=6000", b"Group.subtype=6001"),
+    (b"Group.activeWorkplane.v=80020000", b"Group.activeWorkplane.v=00020000"),
+])
+def test_a_plane_by_lines_or_of_another_group_has_no_axes(tmp_path: Path, old: bytes, new: bytes
+                                                          ) -> None:
+    """A plane that two lines tell is turned as these are, whatever the group has of a turn; and the
+    group's own turn says nothing of another plane. So neither has the reference planes as axes."""
+    path = edited(tmp_path, "offsets", old, new)
+    if b"activeWorkplane" in old:
+        path.write_bytes(path.read_bytes().replace(
+            b"Request.workplane.v=80020000", b"Request.workplane.v=00020000").replace(
+            b"Constraint.workplane.v=80020000", b"Constraint.workplane.v=00020000"))
+    (one,) = read_solvespace(path)
+    assert [str(each) for each in one.left_out] == [
+        f"c00{number}: it refers to a plane that is no axis of this drawing" for number in (
+            "1-pt-plane-distance", "2-pt-plane-distance", "3-pt-in-plane")]
+
+
+def test_a_constraint_in_another_plane_is_left_out(tmp_path: Path) -> None:
+    """In the yz plane a distance of two points is that of their views there: here, of their y."""
+    second = b"Constraint.type=30\nConstraint.group.v=00000002\nConstraint.workplane.v="
+    path = edited(tmp_path, "plate", second + b"80020000", second + b"00020000")
+    (one,) = read_solvespace(path)
+    assert [str(each) for each in one.left_out] == [
+        "c00a-pt-pt-distance: it is told in another plane than that of its sketch"]
+    path = edited(tmp_path, "plate", second + b"80020000", second + b"00000000")
+    assert read_solvespace(path)[0].drawing == found("plate").drawing
+
+
 @pytest.mark.parametrize("flag", [b"allDimsReference", b"relaxConstraints"])
 def test_nothing_is_added_where_it_would_not_hold(tmp_path: Path, flag: bytes) -> None:
     path = edited(tmp_path, "loose", flag + b"=0", flag + b"=1")

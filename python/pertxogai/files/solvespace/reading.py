@@ -11,7 +11,7 @@ from pertxogai.files.contents import (
 from pertxogai.files.limits import SKETCH_ENTRIES, Count, TooMuch
 from pertxogai.files.solvespace.adding import Handles
 from pertxogai.files.solvespace.constraints import (
-    COMMENT, DIMENSIONS, Kind, Plane, Touch, name_of, say)
+    COMMENT, DIMENSIONS, Kind, Plane, Said, Touch, name_of, say)
 from pertxogai.files.solvespace.records import Record, read_lines, records
 from pertxogai.files.solvespace.shapes import Drawn, drawn, shape
 from pertxogai.files.solvespace.touches import Entry, said, settled
@@ -19,6 +19,10 @@ from pertxogai.files.solvespace.touches import Entry, said, settled
 _PLANE_GROUPS = (5000, 5001)
 _REFERENCES = 1
 _GROUND = 0x00010001
+_OWN_PLANE = 0x80000000
+"""What the handle of a group's own plane has above the group's number."""
+_BY_POINT = 6000
+"""The kind of a group's plane that is turned as `predef.q` says."""
 _COUNTED = {"Group": "groups", "Request": "shapes", "Constraint": "constraints"}
 
 
@@ -143,7 +147,9 @@ def _is_level(group: Record) -> bool:
         turned = [group.number(f"predef.q.v{axis}") for axis in "xyz"]
     except NotSayable:
         return False
-    return group.handle("predef.origin.v") == _GROUND and not any(turned)
+    own = _OWN_PLANE | group.handle("h.v") << 16
+    return (group.whole("subtype") == _BY_POINT and group.handle("activeWorkplane.v") == own
+            and group.handle("predef.origin.v") == _GROUND and not any(turned))
 
 
 def holds_nothing_new(group: Record) -> bool:
@@ -163,6 +169,13 @@ def _apart(record: Record, group: Record) -> NotDrivingCause | None:
     return None
 
 
+def _told(record: Record, group: Record, plane: Plane, gathering: DrawingBuilder) -> Said:
+    """What a constraint of a group says. Raises Unsaid."""
+    if record.handle("workplane.v") not in (0, group.handle("activeWorkplane.v")):
+        raise NotSayable("it is told in another plane than that of its sketch")
+    return say(record, plane, gathering.is_left)
+
+
 def _entries(group: Record, contents: Contents, plane: Plane, gathering: DrawingBuilder
              ) -> tuple[list[Entry], list[NotDriving]]:
     """What the constraints of a group say, and those that only measure."""
@@ -173,7 +186,7 @@ def _entries(group: Record, contents: Contents, plane: Plane, gathering: Drawing
             continue
         number, name, why = record.handle("h.v"), name_of(record), _apart(record, group)
         try:
-            told = say(record, plane, gathering.is_left)
+            told = _told(record, group, plane, gathering)
         except NotSayable as unsaid:
             told = None
             if why is None:
