@@ -128,6 +128,22 @@ def test_what_a_drawing_has_not_is_named(tmp_path: Path) -> None:
         "Text2: a drawing has no TEXT", "Ellipse3: a drawing has no ELLIPSE"]
 
 
+def test_what_rises_out_of_the_plane_is_left_out(tmp_path: Path) -> None:
+    """A line from (0, 0, 0) to (40, 0, 30) is 50 mm long, and one upright of a view from above has
+    no length; a polyline in the plane x = y has an edge that rises, and one that doesn't."""
+    def draw(space: Any) -> None:
+        space.add_line((0, 0, 7), (5, 5, 7))
+        space.add_line((0, 0, 0), (40, 0, 30))
+        space.add_line((9, 9, 0), (9, 9, 30))
+        space.add_lwpolyline([(0, 0), (40, 0), (40, 20)],
+                             dxfattribs={"extrusion": (1, -1, 0)})
+
+    sketch = outline(tmp_path, draw).sketch
+    assert [shape.name for shape in sketch.drawing.geometry] == ["Line1", "Line4"]
+    assert [(each.what, each.why) for each in sketch.left_out] == [
+        (name, "it is tilted out of the plane") for name in ("Line2", "Line3", "Line5")]
+
+
 def refused(path: Path) -> str:
     """The one line with which a file is refused."""
     with pytest.raises(FileRefusal) as refusal:

@@ -19,6 +19,9 @@ from pertxogai.files.limits import (
     BINARY_DXF_BYTES, DXF_BYTES, DXF_TAGS, SKETCH_ENTRIES, Count, TooMuch, read_bytes)
 
 _DIGITS = 9
+_FLAT = 1e-9
+"""What is off the plane by no more lies in it: the height of a line's end above its other end, and
+a part of a direction."""
 _MM_OF_UNIT = {0: Fraction(1), 1: Fraction(254, 10), 2: Fraction(3048, 10), 4: Fraction(1),
                5: Fraction(10), 6: Fraction(1000), 13: Fraction(1, 1000), 14: Fraction(100)}
 _NO_DXF = "it is no DXF file: save it as DXF"
@@ -121,7 +124,7 @@ class _Reader:
     def _shape(self, kind: str, name: str, entity: Any) -> Shape:
         match kind:
             case "LINE":
-                return Segment(name, self._place(entity.dxf.start), self._place(entity.dxf.end))
+                return self._segment(name, entity.dxf.start, entity.dxf.end)
             case "POINT":
                 return Point(name, self._place(entity.dxf.location))
             case "CIRCLE":
@@ -133,10 +136,16 @@ class _Reader:
                 return Arc(name, self._centre(entity), ends[0], ends[1])
         raise NotSayable(f"a drawing has no {kind}")
 
+    def _segment(self, name: str, start: Any, end: Any) -> Segment:
+        """A line, which may lie above or below the plane."""
+        if not abs(end.z - start.z) <= _FLAT:
+            raise NotSayable("it is tilted out of the plane")
+        return Segment(name, self._place(start), self._place(end))
+
     def _centre(self, entity: Any) -> Place:
         """The centre of a circle or an arc, which may be seen from behind."""
         turned = entity.dxf.extrusion
-        if abs(turned.x) > 1e-9 or abs(turned.y) > 1e-9:
+        if abs(turned.x) > _FLAT or abs(turned.y) > _FLAT:
             raise NotSayable("it is tilted out of the plane")
         return self._place(entity.ocs().to_wcs(entity.dxf.center))
 
