@@ -161,6 +161,11 @@ def arc(normal: int, turn: float) -> str:
             'StartAngle="0.3" EndAngle="1.0"/></Geometry>')
 
 
+CIRCLE = ('<Geometry type="Part::GeomCircle"><Circle CenterX="15" CenterY="9" CenterZ="0" '
+          'NormalX="0" NormalY="0" NormalZ="1" AngleXU="0" Radius="9"/></Geometry>')
+POINT = '<Geometry type="Part::GeomPoint"><GeomPoint X="15" Y="0" Z="0"/></Geometry>'
+
+
 def constraints(*entries: str) -> str:
     """A list of constraints."""
     return ('<Property name="Constraints" type="Sketcher::PropertyConstraintList">'
@@ -215,6 +220,61 @@ def test_numbers_are_read_as_they_were_typed(tmp_path: Path) -> None:
     length, turn = read_freecad(path)[0].drawing.constraints
     assert getattr(length, "value_um") == 60000 and length.name == "far 1"
     assert getattr(turn, "value") == Degrees(Fraction(30))
+
+
+def tied(kind: int, first: str, second: str, third: str = "-2000 0") -> str:
+    """A constraint as FreeCAD writes it: of shapes by number, with the numbers of their places."""
+    places = zip(("First", "Second", "Third"), (first, second, third))
+    named = " ".join('{0}="{1}" {0}Pos="{2}"'.format(word, *each.split())
+                     for word, each in places)
+    return f'<Constrain Name="" Type="{kind}" Value="0" {named}/>'
+
+
+COINCIDENT, TANGENT, PERPENDICULAR, POINT_ON, SYMMETRIC = 1, 5, 10, 13, 14
+ON_BOTH = tied(POINT_ON, "3 1", "0 0") + tied(POINT_ON, "3 1", "2 0")
+
+
+@pytest.mark.parametrize("ties,said", [
+    # Through a point FreeCAD asks for the directions there alone: two lines are parallel.
+    (tied(TANGENT, "0 0", "1 0", "3 1"), "parallel Line1 Line2"),
+    (tied(PERPENDICULAR, "0 0", "1 0", "3 1"), "perpendicular Line1 Line2"),
+    # A line along a circle's direction at a point touches the circle where the point is on both.
+    (tied(TANGENT, "0 0", "2 0", "3 1") + ON_BOTH, "tangent Line1 Circle3"),
+    (ON_BOTH + tied(PERPENDICULAR, "2 0", "0 0", "3 1"), "on Circle3.centre Line1"),
+    (tied(TANGENT, "0 0", "2 0", "3 1") + tied(POINT_ON, "3 1", "2 0"), None),
+    (tied(TANGENT, "0 0", "2 0", "3 1") + tied(POINT_ON, "3 1", "0 0"), None),
+    (tied(PERPENDICULAR, "2 0", "0 0", "3 1") + tied(POINT_ON, "3 1", "0 0"), None),
+    (tied(TANGENT, "0 0", "2 0", "3 1"), None),
+    # An end of the line is on it; so is what is one with that. A middle isn't looked for.
+    (tied(TANGENT, "0 0", "2 0", "0 2") + tied(POINT_ON, "0 2", "2 0"), "tangent Line1 Circle3"),
+    (tied(COINCIDENT, "3 1", "0 1") + tied(POINT_ON, "3 1", "2 0")
+     + tied(TANGENT, "2 0", "0 0", "3 1"), "tangent Circle3 Line1"),
+    (tied(SYMMETRIC, "0 2", "0 1", "3 1") + tied(POINT_ON, "3 1", "2 0")
+     + tied(TANGENT, "2 0", "0 0", "3 1"), None),
+    # The x axis has the origin, and lines that are one line have each other's ends.
+    (tied(COINCIDENT, "3 1", "-1 1") + tied(POINT_ON, "3 1", "2 0")
+     + tied(TANGENT, "-1 0", "2 0", "3 1"), "tangent XAxis Circle3"),
+    (tied(TANGENT, "0 0", "1 0") + tied(POINT_ON, "1 2", "2 0")
+     + tied(TANGENT, "0 0", "2 0", "1 2"), "tangent Line1 Circle3"),
+])
+def test_a_direction_through_a_point(tmp_path: Path, ties: str, said: str | None) -> None:
+    """FreeCAD 0.20.2 was asked: of a circle of radius 20 about the origin, with the point (12, 16)
+    on it alone, and a line tangent through that, it puts this through (-10, 30) and (30, 0): 18 from
+    the centre, so no tangent."""
+    shapes = geometry(segment(0, 0, 30, 0), segment(40, 1, 70, 1), CIRCLE, POINT)
+    (one,) = read_freecad(written(tmp_path / "a.FCStd", document(shapes + constraints(ties))))
+    lines = [line_of(each).partition(": ")[2] for each in one.drawing.constraints]
+    assert said is None or said in lines
+    assert [each.why for each in one.left_out] == (
+        [] if said else ["no other constraint puts its point on both of its shapes"])
+
+
+def test_a_constraint_that_is_off_puts_no_point_on_a_shape(tmp_path: Path) -> None:
+    off = ON_BOTH.replace("/>", ' IsActive="0"/>', 1)
+    shapes = geometry(segment(0, 0, 30, 0), segment(40, 1, 70, 1), CIRCLE, POINT)
+    ties = constraints(off, tied(TANGENT, "0 0", "2 0", "3 1"))
+    (one,) = read_freecad(written(tmp_path / "a.FCStd", document(shapes + ties)))
+    assert [each.what for each in one.left_out] == ["Constraint3"]
 
 
 @pytest.mark.parametrize("properties,what", [

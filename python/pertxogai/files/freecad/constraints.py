@@ -17,6 +17,7 @@ from pertxogai.drawing import (
     Perpendicular, Point, PointLineDistance, PointOn, PointRef, Radius, Segment, Sense, ShapeRef,
     Symmetric, Tangent, Vertical, Which, XDistance, YDistance)
 from pertxogai.files.contents import NotSayable
+from pertxogai.files.freecad.lying import Lying
 from pertxogai.files.freecad.markup import Node
 from pertxogai.files.freecad.numbers import degrees, length_um, number, whole
 from pertxogai.files.freecad.shapes import Numbered
@@ -131,11 +132,12 @@ def _end(node: Node, word: str) -> End:
 
 
 class Shapes:
-    """The shapes of a sketch by FreeCAD's numbers. Every method raises Unsaid where the place
-    isn't what is asked for."""
+    """The shapes of a sketch by FreeCAD's numbers, and which points its constraints put on them.
+    Every method raises Unsaid where the place isn't what is asked for."""
 
-    def __init__(self, shapes: list[Numbered]) -> None:
+    def __init__(self, shapes: list[Numbered], lying: Lying = Lying()) -> None:
         self._shapes = {one.number: one for one in shapes}
+        self._lying = lying
 
     def point(self, end: End) -> PointRef:
         """The point of a place."""
@@ -171,6 +173,12 @@ class Shapes:
         """The shape of a place, a point as its one point."""
         shape = self._shape(end)
         return PointRef(shape.name) if isinstance(shape, Point) else ShapeRef(shape.name)
+
+    def check_on(self, end: End, *curves: ShapeRef) -> None:
+        """Raises Unsaid where the constraints don't put the point of a place on all these."""
+        point = self.point(end)
+        if not all(self._lying.is_on(point, curve) for curve in curves):
+            raise NotSayable("no other constraint puts its point on both of its shapes")
 
     def is_rim(self, end: End) -> bool:
         """Whether a place names a circle or an arc."""
@@ -327,12 +335,18 @@ def _turn(first: ShapeRef, second: ShapeRef, value: Fraction, name: str) -> Cons
 
 def _tangent(entry: Entry, shapes: Shapes) -> list[Constraint]:
     """Along each other anywhere, where an end of the first lies on the second, where two ends
-    meet, or through a third point that other constraints put on both."""
+    meet, or through a third point. For that FreeCAD asks for the directions alone: of two lines
+    that they are parallel, and of rims that they touch only if the point is put on both."""
     first, second = shapes.curve(entry.first), shapes.curve(entry.second)
     rims, name = shapes.is_rim(entry.first) or shapes.is_rim(entry.second), entry.name
     touch: Constraint = Tangent(first, second, None, name) if rims else Collinear(first, second,
                                                                                   name)
-    if entry.third.there or not entry.first.is_point:
+    if entry.third.there:
+        if rims:
+            shapes.check_on(entry.third, first, second)
+            return [touch]
+        return [Parallel(first, second, name)]
+    if not entry.first.is_point:
         return [touch]
     point = shapes.point(entry.first)
     if not entry.second.is_point:
@@ -347,6 +361,8 @@ def _perpendicular(entry: Entry, shapes: Shapes) -> list[Constraint]:
     """At a right angle, in the same four forms. A line across a rim goes through its centre."""
     first, second, name = shapes.curve(entry.first), shapes.curve(entry.second), entry.name
     across = _across(entry, shapes, first, second)
+    if entry.third.there and not isinstance(across, Perpendicular):
+        shapes.check_on(entry.third, first, second)
     if entry.third.there or not entry.first.is_point:
         return [across]
     point = shapes.point(entry.first)

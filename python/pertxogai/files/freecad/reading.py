@@ -2,6 +2,7 @@
 
 from __future__ import annotations
 
+from collections.abc import Iterator
 from dataclasses import replace
 from pathlib import Path
 
@@ -12,6 +13,7 @@ from pertxogai.files.contents import (
 from pertxogai.files.freecad.archive import DOCUMENT, open_archive, read_member, read_pieces
 from pertxogai.files.freecad.constraints import Shapes, name_of, part_of_a_curve, read_entry, say
 from pertxogai.files.freecad.expressions import Bound
+from pertxogai.files.freecad.lying import Lying
 from pertxogai.files.freecad.markup import BadMarkup, Kept, Node, read_markup
 from pertxogai.files.freecad.outer import Shelf, outer_shapes
 from pertxogai.files.freecad.shapes import Numbered, read_outer, read_shapes
@@ -57,12 +59,13 @@ def _sketch(kept: Kept, shelf: Shelf) -> FileSketch:
     """One sketch."""
     bound = Bound.of(kept, _label(kept))
     gathering = DrawingBuilder(bound.values)
-    shapes = Shapes(_shapes(kept, shelf, gathering))
+    nodes, drawn = kept.list_of("Constraints"), _shapes(kept, shelf, gathering)
+    shapes = Shapes(drawn, Lying(_put(nodes, Shapes(drawn))))
     aside = []
-    for count, node in enumerate(kept.list_of("Constraints"), 1):
+    for count, node in enumerate(nodes, 1):
         why, name = _apart(node), name_of(node, count)
         if why is not None:
-            aside.append(NotDriving(count, name, why, _said_aside(node, count, shapes)))
+            aside.append(NotDriving(count, name, why, _said_alone(node, count, shapes)))
             continue
         try:
             said = [bound.attached(count, each) for each in say(read_entry(node, count), shapes)]
@@ -93,8 +96,15 @@ def _add(one: Numbered, is_part: bool, gathering: DrawingBuilder) -> Numbered:
     return replace(one, shape=None)
 
 
-def _said_aside(node: Node, count: int, shapes: Shapes) -> tuple[Constraint, ...]:
-    """What an entry that doesn't drive would ask for; nothing where it can't be said."""
+def _put(nodes: list[Node], shapes: Shapes) -> Iterator[Constraint]:
+    """What the entries that drive the sketch say without knowing of each other."""
+    for count, node in enumerate(nodes, 1):
+        if _apart(node) is None:
+            yield from _said_alone(node, count, shapes)
+
+
+def _said_alone(node: Node, count: int, shapes: Shapes) -> tuple[Constraint, ...]:
+    """What an entry asks for; nothing where it can't be said."""
     try:
         return tuple(say(read_entry(node, count), shapes))
     except NotSayable:
