@@ -11,7 +11,7 @@ from tempfile import TemporaryDirectory
 from pertxogai.drawing import Drawing, Shape
 from pertxogai.files.contents import FileSketch
 from pertxogai.files.freecad import read_freecad
-from pertxogai.files.freecad.reading import SKETCH
+from pertxogai.files.freecad.reading import SKETCHES
 from pertxogai.files.freecad.shapes import number_of
 from pertxogai_freecad.freecad_types import OwnDocument, OwnSketch
 from pertxogai_freecad.translating import QT_TRANSLATE_NOOP
@@ -97,7 +97,7 @@ def read_sketch(sketch: OwnSketch) -> ReadSketch:
 
 def read_sketches(document: OwnDocument) -> tuple[ReadSketch, ...]:
     """Every sketch of a document, in its order. Raises Trouble where it has none."""
-    sketches = {each.Name: each for each in document.Objects if each.TypeId == SKETCH}
+    sketches = {each.Name: each for each in document.Objects if each.TypeId in SKETCHES}
     if not sketches:
         raise Trouble(f"{document.Label} has no sketch: draw one in the Sketcher")
     with TemporaryDirectory(prefix="pertxogai-") as room, troubles():

@@ -16,6 +16,7 @@ from pertxogai.files.contents import FileRefusal, FileSketch, NotDrivingCause
 from pertxogai.files.freecad import read_freecad
 from pertxogai.files.freecad.expressions import Bound
 from pertxogai.files.freecad.markup import Kept, Node
+from pertxogai.files.freecad.writing import write_places
 from pertxogai.files.kinds import read_inputs
 from pertxogai.judging.measure import Solution, Unit, greatest, measure
 
@@ -300,6 +301,20 @@ def refused(path: Path) -> str:
     line = str(refusal.value)
     assert "\n" not in line and str(path) in line
     return line
+
+
+def test_a_sketch_that_a_script_made_is_one(tmp_path: Path) -> None:
+    """FreeCAD calls a sketch with a script of its own by another type; the lists are the same."""
+    text = document(geometry(segment(0, 0, 30, 0)))
+    path = written(tmp_path / "a.FCStd", text.replace("Sketcher::SketchObject\"",
+                                                      "Sketcher::SketchObjectPython\""))
+    (one,) = read_freecad(path)
+    assert one.name == "S" and len(one.drawing.geometry) == 1
+    solution = Solution({PointRef("Line1", Which.START): (0, 0),
+                         PointRef("Line1", Which.END): (31_000_000, 0)}, {})
+    write_places(path, tmp_path / "b.FCStd", {"S": solution})
+    (one,) = read_freecad(tmp_path / "b.FCStd")
+    assert one.drawing.drawn(PointRef("Line1", Which.END)).x_um == 31000
 
 
 def test_a_document_type_is_refused(tmp_path: Path) -> None:

@@ -9,7 +9,7 @@ import FreeCADGui
 from pertxogai_freecad.freecad_types import OwnSketch
 from pertxogai_freecad.trouble import Trouble
 
-SKETCH = "Sketcher::SketchObject"
+SKETCHES = frozenset({"Sketcher::SketchObject", "Sketcher::SketchObjectPython"})
 CONSTRAINT = re.compile(r"Constraint(\d+)")
 
 
@@ -18,7 +18,7 @@ def edited_sketch() -> OwnSketch | None:
     document = FreeCADGui.ActiveDocument
     edited = document.getInEdit() if document else None
     found: OwnSketch | None = edited.Object if edited else None
-    return found if found is not None and found.TypeId == SKETCH else None
+    return found if found is not None and found.TypeId in SKETCHES else None
 
 
 def chosen_sketch() -> OwnSketch | None:
@@ -26,10 +26,10 @@ def chosen_sketch() -> OwnSketch | None:
     edited = edited_sketch()
     if edited is not None:
         return edited
-    selected = [each for each in FreeCADGui.Selection.getSelection() if each.TypeId == SKETCH]
+    selected = [each for each in FreeCADGui.Selection.getSelection() if each.TypeId in SKETCHES]
     document = FreeCADGui.ActiveDocument
     if not selected and document is not None:
-        all_of_it = [each for each in document.Document.Objects if each.TypeId == SKETCH]
+        all_of_it = [each for each in document.Document.Objects if each.TypeId in SKETCHES]
         selected = all_of_it if len(all_of_it) == 1 else []
     return selected[0] if selected else None
 

@@ -19,8 +19,8 @@ from pertxogai.files.freecad.outer import Shelf, outer_shapes
 from pertxogai.files.freecad.shapes import Numbered, read_outer, read_shapes
 from pertxogai.files.limits import SKETCH_ENTRIES
 
-SKETCH = "Sketcher::SketchObject"
-"""FreeCAD's word for the kind of object that a sketch is."""
+SKETCHES = frozenset({"Sketcher::SketchObject", "Sketcher::SketchObjectPython"})
+"""FreeCAD's words for the kinds of object that a sketch is: drawn, or made by a script."""
 
 
 def read_freecad(path: Path) -> tuple[FileSketch, ...]:
@@ -31,7 +31,7 @@ def read_freecad(path: Path) -> tuple[FileSketch, ...]:
         _check_size(path, objects)
         shelf = Shelf({kept.name: kept for kept in objects},
                       lambda member: read_pieces(path, archive, member))
-        found = tuple(_sketch(kept, shelf) for kept in objects if kept.kind == SKETCH)
+        found = tuple(_sketch(kept, shelf) for kept in objects if kept.kind in SKETCHES)
     if not found:
         raise FileRefusal(f"{path}: no sketch in it: draw one by FreeCAD's Sketcher, and save")
     return found

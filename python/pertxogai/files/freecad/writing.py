@@ -26,7 +26,7 @@ from pertxogai.files.freecad.adding import addition_tag
 from pertxogai.files.freecad.archive import DOCUMENT, open_archive, pieces_of, read_member
 from pertxogai.files.freecad.expressions import bound_places
 from pertxogai.files.freecad.markup import Kept, Node
-from pertxogai.files.freecad.reading import SKETCH, objects_of, read_freecad
+from pertxogai.files.freecad.reading import SKETCHES, objects_of, read_freecad
 from pertxogai.files.freecad.shapes import body_of, params_of, read_shapes
 from pertxogai.files.variants import Changed, changes
 from pertxogai.judging.good import GoodJudgement
@@ -96,10 +96,10 @@ def _with_changes(path: Path, document: bytes, solutions: Mapping[str, Solution]
     edits: dict[int, Written] = {}
     lists: dict[int, bytes] = {}
     for kept in objects_of(path, document):
-        if kept.kind == SKETCH and kept.name in solutions:
+        if kept.kind in SKETCHES and kept.name in solutions:
             edits.update(_edits(kept, upright(solutions[kept.name])))
             edits.update(_dimensions(path, kept, changed.get(kept.name, ())))
-        if kept.kind == SKETCH and kept.name in additions:
+        if kept.kind in SKETCHES and kept.name in additions:
             begin, count = _list_of_constraints(path, kept)
             addition = additions[kept.name]
             edits[begin] = {"count": str(count + len(addition.added))}
