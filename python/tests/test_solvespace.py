@@ -56,8 +56,10 @@ def test_a_plate_with_two_holes() -> None:
 
 
 def test_a_touch_says_the_joint_too() -> None:
-    """Four joints and four touches are four tangents at ends."""
+    """Four joints and four touches are four tangents at ends, each called by both names."""
     told = found("slot").drawing.constraints
+    assert [each.name for each in told if isinstance(each, Tangent)] == [
+        f"c00{4 + count}-arc-line-tangent and c00{count}-pts-coincident" for count in (1, 2, 3, 4)]
     assert [each.at for each in told if isinstance(each, Tangent)] == [
         Pair(PointRef("Arc4", Which.END), PointRef("Line6", Which.START)),
         Pair(PointRef("Arc4", Which.START), PointRef("Line7", Which.START)),

@@ -2,7 +2,8 @@
 
 SolveSpace says that two ends are one point, and beside it that their curves touch there. In a
 drawing a touch at two ends says both, so one of the joints that lead from the one end to the
-other is taken away: there are as many constraints as before, and they say the same.
+other is taken away: together they say the same as before. The touch is called by both names:
+what is said of it, such as what the rest is without it, is said of both.
 """
 
 from __future__ import annotations
@@ -38,6 +39,7 @@ def settled(entries: list[Entry]) -> tuple[list[Entry], dict[int, str]]:
                 continue
             dropped.add(joint.number)
             joints.drop(joint)
+            entry.name = f"{entry.name} and {joint.name}"
             entry.said = Tangent(ShapeRef(at.first.shape), ShapeRef(at.second.shape), at)
             joints.add(entry, at)
     gone = dropped | set(refused)
