@@ -329,6 +329,12 @@ def test_why_nothing_is_proposed(text, why, program):
     assert isinstance(found, NoProposal) and found.why is why
 
 
+@pytest.mark.parametrize("why", [
+    WhyNot.NO_PLACES, WhyNot.VANISHED, WhyNot.TOO_MUCH, WhyNot.RIGID], ids=lambda why: why.name)
+def test_a_reason_that_the_search_finds_says_so(why):
+    assert "(by numbers)" in why.value
+
+
 def test_of_an_empty_drawing_nothing_is_missing(program):
     found = complete(Drawing(), program)
     assert isinstance(found, NoProposal) and found.why is WhyNot.NOTHING

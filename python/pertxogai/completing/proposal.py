@@ -70,9 +70,10 @@ class WhyNot(Enum):
 
     NOTHING = "nothing is missing"
     OVER = f"it is over-constrained: first remove a dimension that {COMMAND} judge lists"
-    NO_PLACES = "no positions were found that meet all of it"
-    VANISHED = "positions that meet all of it were only found with an edge or a circle of no size"
-    TOO_MUCH = "too much of it is free: dimension a part of it first"
+    NO_PLACES = "no positions were found that meet all of it (by numbers)"
+    VANISHED = ("positions that meet all of it were only found with an edge or a circle of no size "
+                "(by numbers)")
+    TOO_MUCH = "too much of it is free (by numbers): dimension a part of it first"
     RIGID = "nothing of it can move (by numbers), though the program doesn't find it rigid"
     STUCK = "no dimensions were found with which it is well, placed and good"
 

@@ -244,7 +244,7 @@ def _nearly_lines(judged: JudgedDrawing) -> Iterator[str]:
     """The relations that it nearly has."""
     for each in judged.nearly:
         why = "no constraint says so" if each.is_free else "the constraints say otherwise"
-        yield f"  nearly: {each.line}, off by {each.off:.3g} {each.unit}; {why}"
+        yield f"  nearly (by numbers): {each.line}, off by {each.off:.3g} {each.unit}; {why}"
 
 
 def _unmet_lines(judged: CountedDrawing) -> Iterator[str]:
