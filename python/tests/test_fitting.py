@@ -179,6 +179,19 @@ def test_an_angle_doesnt_leap_at_half_a_turn(program) -> None:
     assert (mm(turn.worst.least), mm(turn.worst.greatest)) == (-1, 3)
 
 
+def test_where_a_check_turns_round_only_with_others_off_it_is_worst_between(program) -> None:
+    # The end stands 60 sin a + B sin(a + 40) high. With B = 60 it is highest at a = 70 degrees, 0.2
+    # beyond the tolerance, so by itself the angle turns nothing round. With B = 66 it is highest at
+    # 69.01 degrees, by the root of 60^2 + 66^2 + 2 60 66 cos 40: 0.0113 more than at the corner.
+    found = checked("check Height y B.end .. 118.415\nsegment A 0 0 25 55\n"
+                    "segment B A.end 8 112\ncoincident A.start Origin\nlength A 60\n"
+                    "length B 60 +-6\nangle A +65.8deg +-4deg\nangle A B +40deg\n", program)
+    (height,) = found.known
+    highest = sqrt(60 ** 2 + 66 ** 2 + 2 * 60 * 66 * cos(radians(40)))
+    assert abs(height.worst.greatest / 1_000_000 - highest) < 0.0001
+    assert height.answer is Answer.BEYOND and height.turning_numbers == (4,)
+
+
 def test_of_what_turns_round_no_squares_are_told(program) -> None:
     # They would be taken to both sides of a middle, and a crank at its top has none.
     crank = ("check Height y C.end 99 .. 100\nsegment C 0 0 0 100\ncoincident C.start Origin\n"

@@ -116,8 +116,9 @@ class Corners:
     def _unsure(self, starts: Mapping[int, Offs]) -> list[int]:
         """The dimensions whose effect may have another sign at a corner than at the base: all in
         which the check turns, and those that move it less than a few times as much as corners are
-        off the sums of the effects. Those that move it most come first. starts: the corner that is
-        worst by the effects, by its side."""
+        off the sums of the effects, or would if it changed all the way as at that end where it
+        changes least. Those that move it most come first. starts: the corner that is worst by the
+        effects, by its side."""
         bend = self._bend([*starts.values(), *_at_random(self._effects, SAMPLES)])
         gives = {place: each.gives() for place, each in enumerate(self._effects)
                  if len(each.readings) > 1}
@@ -126,8 +127,9 @@ class Corners:
             still = [place for place in gives
                      if gives[place] <= self._noise and place not in unsure]
             unsure += self._moving(starts, still)
-            little = [place for place in gives
-                      if self._noise < gives[place] <= TIMES * bend and place not in unsure]
+            little = [place for place in gives if self._noise < gives[place]
+                      and self._effects[place].least_gives() <= TIMES * bend
+                      and place not in unsure]
             unsure += little if len(gives) <= MANY else self._doubtful(starts, little)
         return sorted(unsure, key=lambda place: -gives[place])
 

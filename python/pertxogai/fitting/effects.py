@@ -101,6 +101,16 @@ class Effect:
         return most if not low - self.noise <= most.value <= high + self.noise else None
 
     @cached_on
+    def least_gives(self) -> int:
+        """How much of it the dimension would give if the check changed all the way as it does at
+        that end where it changes least, by the parabola through the three readings there."""
+        known = sorted({each.off: each.value for each in self.readings}.items())
+        if len(known) < 3:
+            return self.gives()
+        flattest = min(abs(_parabola(end)[0]) for end in (known[:3], known[:-4:-1]))
+        return min(self.gives(), round(flattest * self.dimension.width() / 2))
+
+    @cached_on
     def states(self) -> tuple[Reading, ...]:
         """Where the check may be worst: both ends, and where it turns."""
         turn = self.turn()
@@ -194,12 +204,19 @@ def turning_at(readings: Iterable[tuple[Fraction, int]], noise: int) -> Fraction
 def _turn(three: Sequence[tuple[Fraction, int]]) -> tuple[Fraction, Fraction] | None:
     """By how much a parabola through three readings goes beyond the nearest of them where it turns
     round, and where that is; None where it goes one way."""
-    (low, at_low), (inner, within), (high, at_high) = three
-    begin = Fraction(within - at_low) / (inner - low)
-    end = Fraction(at_high - within) / (high - inner)
-    bend = (end - begin) / (high - low)
-    first, last = begin - bend * (inner - low), end + bend * (high - inner)
+    (low, _), (inner, _), (high, _) = three
+    first, last, bend = _parabola(three)
     if first * last >= 0 or not bend:
         return None
     where = Fraction(round((low - first / (2 * bend)) * 1000), 1000)
     return abs(bend) * min(abs(where - off) for off in (low, inner, high)) ** 2, where
+
+
+def _parabola(three: Sequence[tuple[Fraction, int]]) -> tuple[Fraction, Fraction, Fraction]:
+    """Of the parabola through three readings the slopes at the first and the last, and half of how
+    its slope changes."""
+    (first, at_first), (inner, within), (last, at_last) = three
+    begin = Fraction(within - at_first) / (inner - first)
+    end = Fraction(at_last - within) / (last - inner)
+    bend = (end - begin) / (last - first)
+    return begin - bend * (inner - first), end + bend * (last - inner), bend
