@@ -139,6 +139,12 @@ def test_rectangle_is_segments(corners):
         "horizontal PlateBottom\nvertical PlateRight\nhorizontal PlateTop\nvertical PlateLeft")
 
 
+def test_an_outer_rectangle_is_four_outer_segments_of_which_nothing_is_asked():
+    assert read_drawing("outer rectangle Wall 0 0 100 50") == read_drawing(
+        "outer segment WallBottom 0 0 100 0\nouter segment WallRight WallBottom.end 100 50\n"
+        "outer segment WallTop WallRight.end 0 50\nouter segment WallLeft WallTop.end WallBottom.start")
+
+
 def test_rectangle_from_a_corner_that_stands():
     drawing = read_drawing("point A 40 30\nrectangle Plate 0 0 A")
     assert drawing.shape("PlateRight").end == A

@@ -43,7 +43,8 @@ def read_shape(word: ShapeWord, flags: frozenset[Flag], words: Cursor) -> Expans
     for shape in shapes:
         check_shape(words.scene, shape)
         words.scene.add(shape)
-    return replace(said, shapes=shapes)
+    # What is given from outside lies as it is drawn: nothing has to ask that of it.
+    return Expansion(shapes, () if Flag.OUTER in flags else said.constraints)
 
 
 def _check_blank(word: ShapeWord, name: str, words: Cursor) -> None:
