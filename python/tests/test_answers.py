@@ -139,18 +139,31 @@ def test_a_point_that_is_level_with_another_is_tied_by_two_dimensions(program):
     assert ties == {("West.centre",): Tie.LONE, ("East.centre",): Tie.SLIDE}
 
 
+BRACED_PLACES = "0 0", "40 0", "40 30", "0 30", "10 60", "50 70", "44 100", "8 92"
+BRACED_BARS = [(0, 1, 40), (1, 2, 30), (2, 3, 40), (3, 0, 30), (0, 2, 50), (4, 5, 41), (5, 6, 31),
+               (6, 7, 37), (7, 4, 32), (4, 6, 52), (0, 4, 61), (1, 5, 71), (2, 6, 70), (3, 7, 63)]
+BRACED = "".join([
+    *(f"point P{number} {place}\n" for number, place in enumerate(BRACED_PLACES)),
+    *(f"distance P{one} P{other} {long}\n" for one, other, long in BRACED_BARS)])
+"""Two braced quadrilaterals, and four bars between them, of which three would be enough: merging doesn't
+join them, since no two of the bars meet. Each bar is as long as drawn, to a whole millimetre."""
+
+
 def test_what_is_too_many_though_the_pieces_are_not_found_rigid_is_told_by_rank(program):
-    """Two braced quadrilaterals, and four bars between them, of which three would be enough: merging
-    doesn't join them, since no two of the bars meet."""
-    places = ("0 0", "40 0", "40 30", "0 30", "10 60", "50 70", "44 100", "8 92")
-    points = [f"point P{number} {place}" for number, place in enumerate(places)]
-    bars = [(0, 1, 40), (1, 2, 30), (2, 3, 40), (3, 0, 30), (0, 2, 50), (4, 5, 41), (5, 6, 31),
-            (6, 7, 37), (7, 4, 32), (4, 6, 52), (0, 4, 61), (1, 5, 71), (2, 6, 70), (3, 7, 63)]
-    said = [f"distance P{one} P{other} {long}" for one, other, long in bars]
-    found = judge(read_drawing("\n".join([*points, *said])), program)
+    found = judge(read_drawing(BRACED), program)
     assert found.verdict is Verdict.OPEN and found.missing.count == 0
     among, = found.too_many
-    assert len(among) == len(bars)
+    assert len(among) == len(BRACED_BARS)
+
+
+def test_what_conflicts_in_an_open_drawing_is_not_said_to_be_redundant(program):
+    """By rank one of the bars is too many; their rounded lengths don't fit together."""
+    drawing = read_drawing(BRACED)
+    judgement = judge(drawing, program)
+    found = search_judged(drawing, judgement, program)
+    lines = drawing_lines(CountedDrawing("open", drawing, judgement, finding=found))
+    told = [line.partition(":")[0] for line in lines if "distance P3 P7 63" in line]
+    assert told == ["  can't all be met (by numbers)", "  one of these is redundant or conflicting (by rank)"]
 
 
 def test_a_dimension_told_twice_repeats(program):
@@ -920,7 +933,7 @@ def test_what_is_well_and_says_too_much_by_rank_says_among_what(program):
     assert (found.held, found.repeats, found.left_out) == (("Mine",), (), ())
     judged = JudgedDrawing("it", read_drawing(BY_A_MIDDLE), found)
     assert drawing_json(judged)["by_rank"]["excess"] == [list(group)]
-    assert ("  one of these is redundant all the same (by rank): 'Yours', 'Right', 'Up', 'Long', 'Far', 'End'"
+    assert ("  one of these is redundant or conflicting (by rank): 'Yours', 'Right', 'Up', 'Long', 'Far', 'End'"
             in drawing_lines(judged))
     fewer = judge(read_drawing(BY_A_MIDDLE.replace("End: x S.end +30\n", "")), program)
     assert fewer.verdict is Verdict.WELL and fewer.too_many == ()

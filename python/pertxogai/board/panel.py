@@ -180,7 +180,7 @@ def _constructed(finding: Finding) -> Iterator[Line]:
 
 def _too_many(judgement: Judgement) -> Iterator[Line]:
     """What is too many all the same of what isn't over."""
-    yield from (Line(f"One of these is redundant all the same, by rank: {listed(each)}.")
+    yield from (Line(f"One of these is redundant or conflicting, by rank: {listed(each)}.")
                 for each in judgement.too_many)
 
 

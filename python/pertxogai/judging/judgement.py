@@ -237,7 +237,7 @@ class Judgement:
     @cached_property
     def too_many(self) -> tuple[tuple[str, ...], ...]:
         """If it isn't over-constrained: each group of which, by rank, one constraint is redundant
-        all the same, beside those that are reported as redundant. None of which each says more
+        or conflicting, beside those that are reported as redundant. None of which each says more
         besides, as that a point is the middle of an arc's ends, and its centre."""
         free = self.free
         if self.verdict is Verdict.OVER or free is None:

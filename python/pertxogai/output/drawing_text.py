@@ -120,7 +120,7 @@ def _open_lines(judged: CountedDrawing) -> Iterator[str]:
     judgement = judged.judgement
     yield from _lacks_lines(judgement)
     yield from _whole_lines(judgement)
-    yield from (f"  one of these is redundant all the same (by rank): {listed(each)}"
+    yield from (f"  one of these is redundant or conflicting (by rank): {listed(each)}"
                 for each in judgement.too_many)
     yield from _missing_lines(judged)
     yield from _proposed_lines(judged)

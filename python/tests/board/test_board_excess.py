@@ -514,8 +514,8 @@ def test_what_is_open_and_says_too_much_says_so(program) -> None:
             (6, 7, 37), (7, 4, 32), (4, 6, 52), (0, 4, 61), (1, 5, 71), (2, 6, 70), (3, 7, 63)]
     text = "".join([*(f"point P{number} {place}\n" for number, place in enumerate(places)),
                     *(f"B{one}{other}: distance P{one} P{other} {long}\n" for one, other, long in bars)])
-    (line,) = [each for each in told(text, "judge", program) if str(each).startswith("One of these is redundant all")]
-    assert line.startswith("One of these is redundant all the same, by rank: 'B01', 'B12', ")
+    (line,) = [each for each in told(text, "judge", program) if str(each).startswith("One of these is redundant")]
+    assert line.startswith("One of these is redundant or conflicting, by rank: 'B01', 'B12', ")
 
 
 def test_what_is_open_and_has_no_shape_says_so_once_it_is_weighed(program) -> None:
@@ -533,7 +533,7 @@ def test_what_is_well_and_says_too_much_does_not_say_that_it_is_just_enough(prog
     text = ("segment S -18 26.2 30 39\npoint P 6.2 33\npoint Q 5.8 33.3\nmidpoint P S\n"
             "Yours: midpoint Q S\nRight: x Q 6\nUp: y Q 33\nLong: length S 50\n"
             "Far: distance S.end Origin 50\n")
-    more = "One of these is redundant all the same, by rank: 'Yours', 'Right', 'Up', 'Long', 'Far', 'End'."
+    more = "One of these is redundant or conflicting, by rank: 'Yours', 'Right', 'Up', 'Long', 'Far', 'End'."
     lines = told(text, "judge", program)
     assert more not in lines
     assert any(str(each).startswith("Fully constrained. ") for each in lines)
