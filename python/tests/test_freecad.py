@@ -556,6 +556,15 @@ def test_expressions_over_own_constraints_are_read_and_no_others(path, text, pla
     assert [each.line() for each in bound.values] == values
 
 
+@pytest.mark.parametrize("flag", ["IsActive", "IsDriving"])
+def test_what_does_not_drive_the_sketch_is_no_value(flag: str) -> None:
+    """A copy with another value would keep the number of a constraint that is switched off, and
+    FreeCAD would take what follows from it back."""
+    sketch = engine(("Constraints.deep", "Constraints.long / 2"))
+    sketch.list_of("Constraints")[0].attributes[flag] = "0"
+    assert Bound.of(sketch, "Plate") == Bound()
+
+
 def test_values_that_are_defined_by_themselves_are_none() -> None:
     bound = Bound.of(engine(("Constraints.long", "2 * Constraints.deep"),
                             ("Constraints.deep", "Constraints.long / 2")), "Plate")

@@ -2,8 +2,8 @@
 drawing.
 
 A named constraint that an expression uses becomes a value. An expression that uses anything else (a
-spreadsheet, another object, another function) isn't read: its constraint has the number that is
-stored.
+spreadsheet, another object, another function, a constraint that is switched off) isn't read: its
+constraint has the number that is stored.
 """
 
 from __future__ import annotations
@@ -148,11 +148,15 @@ class _Sketch:
             return None
 
     def _value(self, found: re.Match[str]) -> str:
-        """The name of the value that stands for a constraint. Raises KeyError."""
+        """The name of the value that stands for a constraint, which drives the sketch: no copy has
+        another value of one that doesn't. Raises KeyError."""
         name = found[2]
         if found[1] is not None and found[1] not in self._own or name not in self._places:
             raise KeyError(name)
-        _stored(self._nodes[self._places[name] - 1])
+        node = self._nodes[self._places[name] - 1]
+        if "0" in (node.get("IsActive", "1"), node.get("IsDriving", "1")):
+            raise KeyError(name)
+        _stored(node)
         return name
 
 
