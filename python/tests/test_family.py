@@ -153,6 +153,22 @@ def test_a_name_of_two_things_is_no_column(tmp_path, capsys):
     assert "the column 'Width' names a value and a dimension" in capsys.readouterr().err
 
 
+def test_an_angle_told_by_its_own_value_less_half_a_turn_is_that_value(tmp_path, capsys):
+    """As FreeCAD's angles are read that count from a line's end. Upright at 100 degrees, the free
+    end lies at 20 cos 100 = -3.47 mm."""
+    drawing, table = tmp_path / "bar.drawing", tmp_path / "sizes.csv"
+    drawing.write_text("value turn 90deg\nsegment S 0 0 40 0\nsegment T 0 20 S.start\n"
+                       "coincident S.start Origin\nhorizontal S\nlength S 40\nlength T 20\n"
+                       "turn: angle S T +(turn - 180deg)\n")
+    table.write_text("turn\n100deg\n")
+    out = tmp_path / "out"
+    assert main(["family", str(drawing), str(table), "-o", str(out), "--copy", "--jobs", "1"]) == 0
+    capsys.readouterr()
+    assert main(["judge", "--json", str(out / "1.drawing")]) == 0
+    judged = json.loads(capsys.readouterr().out)
+    assert judged["sketches"][0]["places"]["T"]["start"]["x_nm"] == pytest.approx(-3472964, abs=2)
+
+
 def test_what_a_file_has_and_the_drawing_can_not_say_makes_none_good(tmp_path, capsys):
     path, table = TOP / "python" / "tests" / "files" / "ellipse.FCStd", tmp_path / "sizes.csv"
     out = tmp_path / "out"

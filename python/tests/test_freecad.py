@@ -556,6 +556,33 @@ def test_expressions_over_own_constraints_are_read_and_no_others(path, text, pla
     assert [each.line() for each in bound.values] == values
 
 
+def test_an_angle_that_freecad_counts_from_an_end_keeps_its_expression(tmp_path: Path) -> None:
+    """From the x axis, as FreeCAD counts: a line to (20, 20) at 45 degrees from its end, one to
+    (0, 30) at 90, and one to (-20, -20) at 225. The drawing counts from start to end, and to 180."""
+    def angle(first: str, second: str, degrees: int, name: str) -> str:
+        ((one, place), (other, end)) = first.split(), second.split()
+        return (f'<Constrain Name="{name}" Type="9" Value="{math.radians(degrees)!r}" '
+                f'First="{one}" FirstPos="{place}" Second="{other}" SecondPos="{end}"/>')
+
+    lines = geometry(segment(0, 0, 30, 0), segment(20, 20, 0, 0), segment(0, 30, 0, 0),
+                     segment(0, 0, -20, -20))
+    bound = ('<Property name="ExpressionEngine"><ExpressionEngine count="2">'
+             '<Expression path="Constraints.twice" expression="Constraints.slope * 2"/>'
+             '<Expression path="Constraints[2]" expression="Constraints.slope * 5"/>'
+             '</ExpressionEngine></Property>')
+    ties = constraints(angle("0 1", "1 2", 45, "slope"), angle("0 1", "2 2", 90, "twice"),
+                       angle("0 1", "3 1", 225, ""))
+    (one,) = read_freecad(written(tmp_path / "a.FCStd", document(lines + ties + bound)))
+    assert [line_of(each) for each in one.drawing.constraints] == [
+        "slope: angle Line1 Line2 +(slope - 180deg)",
+        "twice: angle Line1 Line3 +(slope * 2 - 180deg)",
+        "Constraint3: angle Line1 Line4 +(slope * 5 - 360deg)"]
+    assert read_drawing(write_drawing(one.drawing)) == one.drawing
+    steeper = with_values(one.drawing, {"slope": read_expression("50deg")})
+    assert [getattr(each, "value") for each in steeper.constraints] == [
+        Degrees(Fraction(turned)) for turned in (-130, -80, -110)]
+
+
 @pytest.mark.parametrize("flag", ["IsActive", "IsDriving"])
 def test_what_does_not_drive_the_sketch_is_no_value(flag: str) -> None:
     """A copy with another value would keep the number of a constraint that is switched off, and

@@ -7,8 +7,8 @@ from collections.abc import Iterable, Iterator, Mapping, Sequence
 from dataclasses import dataclass, replace
 
 from pertxogai.drawing import (
-    VALUED, AngleBetween, Constraint, Drawing, DrawingUnsound, Value, WordFault, XDistance,
-    YDistance, read_expression)
+    VALUED, AngleBetween, Constraint, Drawing, DrawingUnsound, Expression, Value, WordFault,
+    XDistance, YDistance, read_expression)
 from pertxogai.drawing.constraint_checks import check_constraint
 from pertxogai.drawing.numbers import read_length, read_written_angle
 from pertxogai.drawing.values.reckoning import reckoned
@@ -114,7 +114,14 @@ def _named(drawing: Drawing) -> dict[str, int]:
     value of their own name, as FreeCAD's named constraints are."""
     return {each.name: place for place, each in enumerate(drawing.constraints)
             if each.name is not None and isinstance(each, VALUED)
-            and (each.expression is None or each.expression.text.lstrip("+") != each.name)}
+            and (each.expression is None or not _is_own(each.expression, each.name))}
+
+
+def _is_own(expression: Expression, name: str) -> bool:
+    """Whether an expression is the value of a name, or that of an angle by half turns more or
+    less."""
+    told = rf"\+?{re.escape(name)}|\+?\({re.escape(name)} [-+] (?:180|360)deg\)"
+    return re.fullmatch(told, expression.text) is not None
 
 
 def drawing_of(drawing: Drawing, columns: Sequence[str], variant: Variant) -> Drawing:

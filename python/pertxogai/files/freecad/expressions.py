@@ -82,16 +82,19 @@ def _with_length(constraint: Sized | XDistance | YDistance, text: str,
     return replace(constraint, value_um=value_um, expression=expression)
 
 
-def _with_angle(constraint: AngleBetween, text: str, values: Values) -> Constraint:
-    expression = _signed(constraint, text)
-    try:
-        angle = degrees_of(expression, values)
-    except WordFault:
-        return constraint
+def _with_angle(constraint: AngleBetween, text: str, values: Values) -> AngleBetween:
+    """An angle with its expression. FreeCAD may count it from a line's end, or over 180 degrees:
+    then the drawing has it by half turns more or less."""
     stored = constraint.value
-    if not isinstance(stored, Degrees) or abs(angle - stored.value) > NEAR:
-        return constraint
-    return replace(constraint, value=Degrees(angle), expression=expression)
+    for half_turns in ("", " - 180deg", " + 180deg", " - 360deg", " + 360deg"):
+        expression = _signed(constraint, text + half_turns)
+        try:
+            angle = degrees_of(expression, values)
+        except WordFault:
+            continue
+        if isinstance(stored, Degrees) and abs(angle - stored.value) <= NEAR:
+            return replace(constraint, value=Degrees(angle), expression=expression)
+    return constraint
 
 
 def _signed(constraint: Valued, text: str) -> Expression:
