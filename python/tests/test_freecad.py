@@ -14,7 +14,7 @@ from pertxogai.drawing import (
 from pertxogai.drawing.soundness import faults
 from pertxogai.files.contents import FileRefusal, FileSketch, NotDrivingCause
 from pertxogai.files.freecad import read_freecad
-from pertxogai.files.freecad.expressions import Bound
+from pertxogai.files.freecad.expressions import Bound, unread_uses
 from pertxogai.files.freecad.markup import Kept, Node
 from pertxogai.files.freecad.writing import write_places
 from pertxogai.files.kinds import read_inputs
@@ -581,6 +581,29 @@ def test_an_angle_that_freecad_counts_from_an_end_keeps_its_expression(tmp_path:
     steeper = with_values(one.drawing, {"slope": read_expression("50deg")})
     assert [getattr(each, "value") for each in steeper.constraints] == [
         Degrees(Fraction(turned)) for turned in (-130, -80, -110)]
+
+
+@pytest.mark.parametrize("path,text,uses", [
+    ("Constraints.deep", "Constraints.long / 2", {}),
+    ("Constraints.deep", "sin(Constraints.slope) * 40 mm", {"slope": "deep"}),
+    ("Constraints[3]", "Spreadsheet.Width - <<Plate>>.Constraints.long", {"long": "Constraint4"}),
+    ("Constraints[3]", "sin(Other.Constraints.slope) * 40 mm", {}),
+    ("Placement.Base.x", "sin(Constraints.slope) * 40 mm", {}),
+    ("Constraints[9]", "sin(Constraints.slope) * 40 mm", {"slope": "Constraint10"}),
+])
+def test_which_names_are_used_by_what_is_not_read(path: str, text: str,
+                                                  uses: dict[str, str]) -> None:
+    assert unread_uses(engine((path, text)), "Plate") == uses
+
+
+def test_a_dimension_of_nothing_is_no_value_and_follows_from_none() -> None:
+    """A distance of 0 is read as vertical, without a number. So FreeCAD alone would move it."""
+    sketch = engine(("Constraints.deep", "Constraints.long - 40 mm"))
+    sketch.list_of("Constraints")[1].attributes["Value"] = "0"
+    assert unread_uses(sketch, "Plate") == {"long": "deep"}
+    sketch = engine(("Constraints[3]", "Constraints.deep + 10 mm"))
+    sketch.list_of("Constraints")[1].attributes["Value"] = "0"
+    assert Bound.of(sketch, "Plate") == Bound()
 
 
 @pytest.mark.parametrize("flag", ["IsActive", "IsDriving"])

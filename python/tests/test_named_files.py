@@ -129,6 +129,20 @@ def test_a_dimension_that_a_spreadsheet_sets_has_no_other_value_in_a_copy(tmp_pa
     assert not out.exists()
 
 
+def test_what_an_expression_uses_that_is_not_read_has_no_other_value_in_a_copy(
+        tmp_path: Path) -> None:
+    """FreeCAD would give the height another value than the drawing has, which keeps the stored."""
+    given, out = tmp_path / "bound.FCStd", tmp_path / "out.FCStd"
+    with ZipFile(FILES / "named.FCStd") as old, ZipFile(given, "w") as new:
+        for name in old.namelist():
+            new.writestr(name, old.read(name).replace(b".Constraints.width * 3 / 8",
+                                                      b"cos(60) * .Constraints.width"))
+    (before,) = read_freecad(given)
+    with pytest.raises(FileRefusal, match="FreeCAD sets height by an expression that uses width"):
+        write_freecad_variants(given, out, {before.name: variant(given, ("width",), ("64",))})
+    write_freecad_variants(given, out, {before.name: variant(given, ("hole x",), ("30",))})
+
+
 def test_a_variant_of_a_solvespace_file_has_its_values(tmp_path: Path) -> None:
     path, out = tmp_path / "plate.slvs", tmp_path / "out.slvs"
     commented(path, {b"0000000a": b"Width", b"0000000e": b"Place"})

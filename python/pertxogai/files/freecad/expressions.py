@@ -20,7 +20,7 @@ from pertxogai.drawing.numbers import decimal_text, degrees_of, um_of
 from pertxogai.drawing.values.table import Values, check_value_name
 from pertxogai.drawing.wording import Sized
 from pertxogai.files.contents import NotSayable
-from pertxogai.files.freecad.constraints import Kind
+from pertxogai.files.freecad.constraints import Kind, name_of
 from pertxogai.files.freecad.markup import Kept, Node
 from pertxogai.files.freecad.numbers import degrees, length_um, number, whole
 
@@ -30,6 +30,7 @@ it: that has sixteen digits."""
 _PLACE = re.compile(r"\.?Constraints\[([0-9]{1,9})\]\Z")
 _NAMED = re.compile(r"\.?Constraints\.(\w+)\Z")
 _USED = re.compile(r"(?<![\w.>])(?:(\w+|<<[^<>]*>>))?\.?Constraints\.(\w+)")
+_LENGTHS = (Kind.DISTANCE, Kind.DISTANCE_X, Kind.DISTANCE_Y, Kind.RADIUS, Kind.DIAMETER)
 _SHAPE = re.compile(r"(?:Line|Circle|Arc|Point|Outer|Shape)[0-9]+\Z")
 """How the reader calls shapes, so that no value is called so."""
 
@@ -68,6 +69,12 @@ class Bound:
 def bound_places(kept: Kept) -> frozenset[int]:
     """The places, from 1, of the constraints that have an expression, whatever that says."""
     return frozenset(_Sketch(kept, "").bound)
+
+
+def unread_uses(kept: Kept, label: str) -> Mapping[str, str]:
+    """The names of a sketch's constraints that expressions use which aren't read, each with what
+    FreeCAD calls the constraint that one of these sets."""
+    return dict(_Sketch(kept, label).unread_uses())
 
 
 def _with_length(constraint: Sized | XDistance | YDistance, text: str,
@@ -113,7 +120,8 @@ class _Sketch:
         self._nodes = kept.list_of("Constraints")
         self._places = {node.get("Name", ""): place for place, node in enumerate(self._nodes, 1)
                         if _is_name(node.get("Name", ""))}
-        self.bound = dict(self._bound(kept.list_of("ExpressionEngine")))
+        self._engine = kept.list_of("ExpressionEngine")
+        self.bound = dict(self._bound(self._engine))
         self._texts = {place: text for place, text in self.bound.items() if text is not None}
         self._used = {name for text in self._texts.values()
                       for name in read_expression(text).names}
@@ -129,6 +137,17 @@ class _Sketch:
         """The expression of each constraint that is bound to one, or is a value."""
         named = {place: name for name, place in self._places.items() if name in self._used}
         return {**self._texts, **named}
+
+    def unread_uses(self) -> Iterator[tuple[str, str]]:
+        """Each name that an expression uses which isn't read, with the constraint that it sets."""
+        for node in self._engine:
+            place, text = self._place(node.get("path", "")), node.get("expression", "")
+            if place is not None and not (self.bound[place] and _is_dimension(self._node(place))):
+                yield from ((found[2], name_of(self._node(place), place))
+                            for found in _USED.finditer(text) if self._is_own(found))
+
+    def _node(self, place: int) -> Node:
+        return self._nodes[place - 1] if place <= len(self._nodes) else Node("", {}, 0)
 
     def _bound(self, nodes: list[Node]) -> Iterator[tuple[int, str | None]]:
         for node in nodes:
@@ -150,11 +169,15 @@ class _Sketch:
         except (WordFault, KeyError):
             return None
 
+    def _is_own(self, found: re.Match[str]) -> bool:
+        """Whether what an expression uses is of this sketch."""
+        return found[1] is None or found[1] in self._own
+
     def _value(self, found: re.Match[str]) -> str:
         """The name of the value that stands for a constraint, which drives the sketch: no copy has
         another value of one that doesn't. Raises KeyError."""
         name = found[2]
-        if found[1] is not None and found[1] not in self._own or name not in self._places:
+        if not self._is_own(found) or name not in self._places:
             raise KeyError(name)
         node = self._nodes[self._places[name] - 1]
         if "0" in (node.get("IsActive", "1"), node.get("IsDriving", "1")):
@@ -173,14 +196,22 @@ def _is_name(name: str) -> bool:
 
 
 def _stored(node: Node) -> str:
-    """The number of a dimension as it is stored, with its unit. Raises KeyError where it is
-    none."""
+    """The number of a dimension as it is stored, with its unit. Raises KeyError where it is none: a
+    distance of nothing and an angle of half turns are read as what they mean, without a number."""
     try:
         kind, value = whole(node, "Type", "0"), number(node, "Value", "0")
-        if kind == Kind.ANGLE:
+        if kind == Kind.ANGLE and degrees(value) % 180:
             return f"{decimal_text(degrees(value))}deg"
-        if kind in (Kind.DISTANCE, Kind.DISTANCE_X, Kind.DISTANCE_Y, Kind.RADIUS, Kind.DIAMETER):
+        if kind in _LENGTHS and length_um(value):
             return f"{decimal_text(length_um(value) / 1000)}mm"
     except NotSayable:
         pass
     raise KeyError(node.get("Name", ""))
+
+
+def _is_dimension(node: Node) -> bool:
+    """Whether a constraint is read as one with a number."""
+    try:
+        return bool(_stored(node))
+    except KeyError:
+        return False

@@ -43,8 +43,8 @@ def _check_size(path: Path, objects: list[Kept]) -> None:
         for word in ("Geometry", "Constraints", "ExternalGeometry", "ExternalGeo",
                      "ExpressionEngine"):
             if len(kept.list_of(word)) > SKETCH_ENTRIES:
-                raise FileRefusal(f"{path}: {_label(kept)} has more than {SKETCH_ENTRIES} entries "
-                                  f"in its list {word}: take a part of it")
+                raise FileRefusal(f"{path}: {label_of(kept)} has more than {SKETCH_ENTRIES} entries"
+                                  f" in its list {word}: take a part of it")
 
 
 def objects_of(path: Path, data: bytes) -> list[Kept]:
@@ -57,7 +57,7 @@ def objects_of(path: Path, data: bytes) -> list[Kept]:
 
 def _sketch(kept: Kept, shelf: Shelf) -> FileSketch:
     """One sketch."""
-    bound = Bound.of(kept, _label(kept))
+    bound = Bound.of(kept, label_of(kept))
     gathering = DrawingBuilder(bound.values)
     nodes, drawn = kept.list_of("Constraints"), _shapes(kept, shelf, gathering)
     shapes = Shapes(drawn, Lying(_put(nodes, Shapes(drawn))))
@@ -72,7 +72,7 @@ def _sketch(kept: Kept, shelf: Shelf) -> FileSketch:
             gathering.add_constraints(said, name, count)
         except NotSayable as unsaid:
             gathering.leave_out(name, str(unsaid), count)
-    return gathering.found(kept.name, _label(kept), aside)
+    return gathering.found(kept.name, label_of(kept), aside)
 
 
 def _shapes(kept: Kept, shelf: Shelf, gathering: DrawingBuilder) -> list[Numbered]:
@@ -111,7 +111,7 @@ def _said_alone(node: Node, count: int, shapes: Shapes) -> tuple[Constraint, ...
         return ()
 
 
-def _label(kept: Kept) -> str:
+def label_of(kept: Kept) -> str:
     """What its designer calls a sketch."""
     held = kept.properties.get("Label")
     text = held.child("String") if held is not None else None

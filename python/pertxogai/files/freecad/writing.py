@@ -24,9 +24,9 @@ from pertxogai.files.atomic import written_whole
 from pertxogai.files.contents import Addition, FileRefusal
 from pertxogai.files.freecad.adding import addition_tag
 from pertxogai.files.freecad.archive import DOCUMENT, open_archive, pieces_of, read_member
-from pertxogai.files.freecad.expressions import bound_places
+from pertxogai.files.freecad.expressions import bound_places, unread_uses
 from pertxogai.files.freecad.markup import Kept, Node
-from pertxogai.files.freecad.reading import SKETCHES, objects_of, read_freecad
+from pertxogai.files.freecad.reading import SKETCHES, label_of, objects_of, read_freecad
 from pertxogai.files.freecad.shapes import body_of, params_of, read_shapes
 from pertxogai.files.variants import Changed, changes
 from pertxogai.judging.good import GoodJudgement
@@ -156,14 +156,20 @@ def _edits(kept: Kept, solution: Solution) -> dict[int, Written]:
 def _dimensions(path: Path, kept: Kept,
                 changed: Sequence[Changed]) -> Iterator[tuple[int, Written]]:
     """For each dimension with another value, the byte where its tag begins, and that value. Raises
-    FileRefusal where an expression that the drawing hasn't would set it back."""
+    FileRefusal where an expression that the drawing hasn't would set it back, or would give another
+    dimension another value too."""
     nodes, bound = kept.list_of("Constraints"), bound_places(kept) if changed else frozenset()
+    behind = unread_uses(kept, label_of(kept)) if changed else {}
     for each in changed:
         node, more = nodes[each.number - 1], float(each.new - each.old)
         if each.number in bound and not each.follows:
             name = node.get("Name", "") or f"constraint {each.number}"
             raise FileRefusal(f"{path}: FreeCAD sets {name} by an expression that isn't read, so "
                               "no copy has another value: change it there")
+        if (named := node.get("Name", "")) in behind:
+            raise FileRefusal(f"{path}: FreeCAD sets {behind[named]} by an expression that uses "
+                              f"{named} and isn't read, so no copy has another value: change it "
+                              "there")
         value = float(node.get("Value", "0")) + (math.radians(more) if each.is_angle else more)
         yield node.begin, {"Value": f"{value:.{_DIGITS}f}"}
 
