@@ -361,6 +361,13 @@ def test_what_each_line_fixes(program):
         ("length PlateRight 50", ("PlateRight.end", "PlateTop.end"))]
 
 
+def test_equal_radii_fix_no_position(program):
+    found = complete(read_drawing("circle A 0 0 10\ncircle B 40 0 10.05\n"), program)
+    assert [(each.line(), each.fixes) for each in found.proposals][:2] == [
+        ("equal A B", ("the sizes of A and B relative to each other",)),
+        ("diameter A 20", ("the size of A", "the size of B"))]
+
+
 def test_the_lines_alone_are_told_without_what_each_fixes(program, monkeypatch):
     # That is ranked once for each line, which takes seconds where hundreds are missing.
     monkeypatch.setattr(Fixing, "loose", None)

@@ -9,7 +9,7 @@ import numpy as np
 
 from pertxogai.completing.proposal import Completion, Proposal
 from pertxogai.drawing import (
-    ORIGIN, AngleBetween, Constraint, Distance, Drawing, Horizontal, Length, Parallel,
+    ORIGIN, AngleBetween, Constraint, Distance, Drawing, Equal, Horizontal, Length, Parallel,
     Perpendicular, PointOn, PointRef, Vertical, Which, XDistance, YDistance)
 from pertxogai.drawing.meetings import joins_points
 from pertxogai.drawing.mentions import refs_of
@@ -169,6 +169,8 @@ def _against(constraint: Constraint) -> Iterator[str]:
         yield f"the length of {named[0]}"
     elif isinstance(constraint, _DIRECTIONS):
         yield f"the direction of {named[-1]}"
+    elif isinstance(constraint, Equal):
+        yield f"the sizes of {' and '.join(named)} relative to each other"
     elif len(named) > 1:
         yield f"the position of {' and '.join(named)} relative to each other"
     else:
