@@ -26,9 +26,10 @@ from pertxogai.completing.written import as_drawn
 from pertxogai.drawing import (
     AngleBetween, Coincident, Concentric, Diameter, Distance, Drawing, Length, PointLineDistance,
     Radius, XDistance, YDistance, line_of, read_drawing, words_of)
-from pertxogai.judging import DrawingRefused, Question, first_good
+from pertxogai.judging import DrawingRefused, Question, first_good, judge
 from pertxogai.judging.measure import Limit
 from pertxogai.program import Answer, Solver
+from pertxogai.program.reports import Verdict
 from pertxogai.search.searched import Searched
 from shared_drawings import SHRUNKEN_TRIANGLE
 
@@ -366,6 +367,31 @@ def test_equal_radii_fix_no_position(program):
     assert [(each.line(), each.fixes) for each in found.proposals][:2] == [
         ("equal A B", ("the sizes of A and B relative to each other",)),
         ("diameter A 20", ("the size of A", "the size of B"))]
+
+
+@pytest.mark.parametrize("text, own, datum", [
+    # Three freedoms besides those of the whole: two sizes, and how far apart. x says that only of
+    # two circles that are kept level.
+    ("circle A 0 0 10\ncircle B 40 0 12\n",
+     ["diameter A 20", "diameter B 24", "x A.centre B.centre 40", "horizontal A.centre B.centre"],
+     ["coincident A.centre Origin"]),
+    # Three sizes and three sides, of which the first is told by its x.
+    ("circle A 0 0 10\ncircle B 40 0 12\ncircle C 80 30 4\n",
+     ["diameter A 20", "diameter B 24", "diameter C 8", "x A.centre B.centre 40",
+      "distance B.centre C.centre 50", "distance A.centre C.centre 85.44",
+      "y A.centre C.centre 30"], ["coincident A.centre Origin"]),
+    # Its first side slants, so that three distances are the shape, and y only turns it.
+    ("circle A 0 0 10\ncircle B 40 1 12\ncircle C 80 30 4\n",
+     ["diameter A 20", "diameter B 24", "diameter C 8", "distance A.centre B.centre 40.01",
+      "distance B.centre C.centre 49.41", "distance A.centre C.centre 85.44"],
+     ["coincident A.centre Origin", "y A.centre C.centre 30"])])
+def test_nothing_is_missing_without_what_ties_the_whole(text, own, datum, program):
+    drawing = read_drawing(text)
+    found = complete(drawing, program)
+    assert [each.line() for each in found.proposals] == own
+    assert [each.line() for each in found.datum] == datum
+    alone = judge(with_more(drawing, [each.constraint for each in found.proposals]), program)
+    assert alone.verdict is Verdict.WELL and alone.free.lacks == 0
 
 
 def test_the_lines_alone_are_told_without_what_each_fixes(program, monkeypatch):

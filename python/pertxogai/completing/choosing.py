@@ -17,7 +17,8 @@ from pertxogai.completing.relations import NEAR_DEGREES, Relation, levels, relat
 from pertxogai.completing.slack import Demand, Slack, Remaining
 from pertxogai.completing.turns import Asked, Turns
 from pertxogai.drawing import (
-    ORIGIN, Constraint, Drawing, Horizontal, PointRef, ShapeRef, Vertical)
+    ORIGIN, AngleBetween, Constraint, Drawing, Horizontal, Pair, PointRef, ShapeRef, Vertical,
+    XDistance, YDistance)
 from pertxogai.drawing.mentions import refs_of
 from pertxogai.search.rank import Free
 from pertxogai.search.values import told_best
@@ -282,3 +283,20 @@ def _next_relations(slack: Slack, taste: Taste,
 def is_level(constraint: Constraint) -> bool:
     """Whether it says that an edge runs along an axis, which ties the whole too."""
     return isinstance(constraint, (Horizontal, Vertical)) and isinstance(constraint.of, ShapeRef)
+
+
+def is_along_axes(constraint: Constraint) -> bool:
+    """Whether it says how two points lie to each other along an axis."""
+    match constraint:
+        case XDistance(first, second) | YDistance(first, second):
+            return ORIGIN not in (first, second)
+        case Horizontal(of) | Vertical(of):
+            return isinstance(of, Pair)
+    return False
+
+
+def is_direction(constraint: Constraint) -> bool:
+    """Whether it is what may keep the whole from turning: how an edge or two points lie to the
+    axes."""
+    return (isinstance(constraint, (AngleBetween, Horizontal, Vertical))
+            or is_along_axes(constraint))

@@ -8,8 +8,8 @@ from functools import cached_property
 
 from pertxogai.completing.trials import Trials, State
 from pertxogai.completing.choosing import (
-    SECONDS, TASTES, Choice, Left, Relate, Taste, candidates, choose, choose_places, tied,
-    with_more, with_relations)
+    SECONDS, TASTES, Choice, Left, Relate, Taste, candidates, choose, choose_places, is_along_axes,
+    is_direction, tied, with_more, with_relations)
 from pertxogai.completing.figure import Figure, Sketched
 from pertxogai.completing.proposal import Completion, NoProposal, Proposal, WhyNot
 from pertxogai.completing.slack import Slack, Remaining
@@ -18,6 +18,7 @@ from pertxogai.completing.written import (
     as_drawn, as_written, is_near, room_of, with_drawn_values)
 from pertxogai.drawing import Constraint, Drawing
 from pertxogai.judging import Question, first_good, reasons_against
+from pertxogai.judging.freedoms import freedoms
 from pertxogai.judging.limits import check_fits
 from pertxogai.judging.measure import Limit
 from pertxogai.program import Solver
@@ -69,8 +70,21 @@ class OpenDrawing:
     def completion(self, choice: Choice) -> Completion | None:
         """The completion by a choice; None where it isn't good. Raises ProgramError."""
         if choice not in self._completed:
-            self._completed[choice] = self._complete(choice)
+            self._completed[choice] = self._complete(self._told_apart(choice))
         return self._completed[choice]
+
+    def _told_apart(self, choice: Choice) -> Choice:
+        """A choice of which nothing is missing without what ties the whole, by rank. Of two points
+        that are level, x says how far they are apart only with what keeps them level: the search
+        sees none of that, as it looks at small motions there."""
+        turning = tuple(filter(is_direction, choice.datum))
+        if not turning or not any(map(is_along_axes, choice.own)):
+            return choice
+        free = freedoms(with_more(self.drawing, choice.own))
+        if free is None or not free.lacks:
+            return choice
+        rest = tuple(each for each in choice.datum if each not in turning)
+        return Choice((*choice.own, *turning), rest)
 
     def _complete(self, choice: Choice) -> Completion | None:
         """The completion by a choice, without what ties the whole where that isn't placed."""
