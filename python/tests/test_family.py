@@ -144,6 +144,20 @@ def test_a_cell_stands_for_what_its_line_says(tmp_path, capsys):
     assert [round(each, 6) for each in at] == [8, -8, 4]
 
 
+def test_a_tolerance_in_a_cell_is_no_sum(tmp_path, capsys):
+    # Judged as 50.2 mm, and copied as 50 mm with a tolerance, it would be two bars.
+    drawing, table = tmp_path / "bar.drawing", tmp_path / "sizes.csv"
+    drawing.write_text("value Wide 30\nsegment Bar 0 0 40 0\ncoincident Bar.start Origin\n"
+                       "horizontal Bar\nLong: length Bar 40 +-0.1\npoint P 30 5\nx P Wide\n"
+                       "y P 5\n")
+    table.write_text("Long,Wide\n50 +0.2-0,\n,30 +-0.1\n50,30 + 0.2\n")
+    assert main(["family", str(drawing), str(table), "--jobs", "1"]) == 2
+    rows = rows_of(capsys.readouterr().out)
+    assert [row[3] for row in rows[1:]] == ["refused", "refused", "well"]
+    assert [row[5].partition(" is a tolerance")[0] for row in rows[1:]] == [
+        "variant 1: '+0.2-0'", "variant 2: '+-0.1'", ""]
+
+
 def test_a_name_of_two_things_is_no_column(tmp_path, capsys):
     drawing, table = tmp_path / "bar.drawing", tmp_path / "sizes.csv"
     drawing.write_text("value Width 120\nsegment S 0 0 40 0\ncoincident S.start Origin\n"

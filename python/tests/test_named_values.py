@@ -268,6 +268,16 @@ def test_a_value_is_refused_by_its_line_and_name(text, told):
     assert refusal(text + SHAPES) == told
 
 
+@pytest.mark.parametrize(("number", "tolerance"), [
+    ("50 +-0.1", "+-0.1"), ("50 +0.2-0", "+0.2-0"), ("50mm -0.1-0.2", "-0.1-0.2"),
+    ("2*Wall ±0.1", "±0.1")])
+def test_a_tolerance_behind_a_value_is_no_sum(number, tolerance):
+    # As a sum 50 +-0.1 is 49.9; behind a dimension it is 50 with a tolerance.
+    said = refusal(f"value Wall 25\nvalue Width {number}\n")
+    assert said.startswith(f"line 2: '{tolerance}' is a tolerance, which only the line of a ")
+    assert asked("length S Width", "value Width 50 + 0.2 - 0").value_um == 50_200
+
+
 @pytest.mark.parametrize(("values", "line", "told"), [
     ("value A 3", "length S A-3", "'A-3' comes to 0 mm, and that is no length, which is above 0: "
      "change a value in it"),

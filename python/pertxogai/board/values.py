@@ -3,8 +3,9 @@ from __future__ import annotations
 
 from dataclasses import dataclass, replace
 
-from pertxogai.drawing import VALUED, Drawing, Note, Value, WordFault, read_expression
+from pertxogai.drawing import VALUED, Drawing, Note, Value, WordFault
 from pertxogai.drawing.names import nearest
+from pertxogai.drawing.values.lines import read_value_expression
 from pertxogai.drawing.values.reckoning import reckoned
 from pertxogai.drawing.values.table import check_value_name
 
@@ -19,7 +20,7 @@ class SetValue:
     def on(self, drawing: Drawing) -> Drawing:
         """The drawing with it. Raises WordFault, and DrawingUnsound where something that uses it
         takes no such value."""
-        value = Value(self.name, read_expression(self.expression))
+        value = Value(self.name, read_value_expression(self.expression))
         if any(each.name == self.name for each in drawing.values):
             values = (value if each.name == self.name else each for each in drawing.values)
             return reckoned(replace(drawing, values=tuple(values)))

@@ -8,9 +8,10 @@ from dataclasses import dataclass, replace
 
 from pertxogai.drawing import (
     VALUED, AngleBetween, Constraint, Drawing, DrawingUnsound, Expression, Value, WordFault,
-    XDistance, YDistance, read_expression)
+    XDistance, YDistance)
 from pertxogai.drawing.constraint_checks import check_constraint
 from pertxogai.drawing.numbers import read_length, read_written_angle
+from pertxogai.drawing.values.lines import check_untoleranced, read_value_expression
 from pertxogai.drawing.values.reckoning import reckoned
 from pertxogai.drawing.values.table import Values
 from pertxogai.exits import CommandError
@@ -145,13 +146,14 @@ def _valued(value: Value, given: Mapping[str, str]) -> Value:
     """A value as its cell has it. Raises WordFault."""
     if value.name not in given:
         return value
-    return replace(value, expression=read_expression(given[value.name]))
+    return replace(value, expression=read_value_expression(given[value.name]))
 
 
 def _told(dimension: Constraint, cell: str, values: Values) -> Constraint:
     """A dimension as its cell has it, with who says its sign, as if that stood in its line. Raises
     WordFault."""
     assert isinstance(dimension, VALUED)
+    check_untoleranced(cell)
     if isinstance(dimension, AngleBetween):
         angle = read_written_angle(cell, values)
         return replace(dimension, value=angle.value, sense=angle.sense,

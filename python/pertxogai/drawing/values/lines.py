@@ -3,10 +3,14 @@
 from __future__ import annotations
 
 from collections.abc import Iterable, Sequence
-from typing import NamedTuple
+from typing import TYPE_CHECKING, NamedTuple
 
 from pertxogai.drawing.refusal import WordFault
+from pertxogai.drawing.tolerances.tolerance import split_tolerance
 from pertxogai.drawing.values.table import Value, Values, check_value_name
+
+if TYPE_CHECKING:
+    from pertxogai.drawing.values.expression import Expression
 
 WORD = "value"
 """The first word of the line of a value."""
@@ -25,9 +29,24 @@ def read_value(words: Sequence[str], called: str | None = None) -> Value:
     if len(words) == 2:
         raise WordFault(words[1], "has no value: write a number behind it, such as "
                                   f"{WORD} {words[1]} 120")
+    return Value(words[1], read_value_expression(" ".join(words[2:])))
+
+
+def read_value_expression(text: str) -> Expression:
+    """The expression of a value. Raises WordFault, also at a tolerance behind it, which as a sum
+    would be another number."""
     from pertxogai.drawing.values.parsing import read_expression
 
-    return Value(words[1], read_expression(" ".join(words[2:])))
+    check_untoleranced(text)
+    return read_expression(text)
+
+
+def check_untoleranced(text: str) -> None:
+    """Raises WordFault where the last word of a number or an expression is a tolerance."""
+    _, tolerance = split_tolerance(text)
+    if tolerance:
+        raise WordFault(tolerance, "is a tolerance, which only the line of a dimension has: write "
+                                   "it there, or a sum with blanks around its signs")
 
 
 class WrittenValues(NamedTuple):
