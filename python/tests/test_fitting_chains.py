@@ -622,3 +622,14 @@ def test_two_angles_that_turn_far_are_highest_where_the_arm_stands_upright(progr
                      "angle First Arm +45deg +-8deg\n", program)
     assert worst(high) == rounded(1000 * sin(radians(59)), 1000)
     assert high.answer is Answer.BEYOND and high.worst.turning
+
+
+@pytest.mark.parametrize(("side", "off"), [(10, 1), (50, 1 / 2), (120, 1 / 3), (400, 1 / 6)])
+def test_a_side_as_long_as_a_row_goes_has_the_tolerance_of_that_row(side, off, program) -> None:
+    # Table 3 has 20 minutes over 50 up to 120 mm. The placed ends are rounded to nanometres, so
+    # that a side of 120 mm may come out longer by a part of one.
+    (angle,) = checks("tolerances ISO2768-m\ncheck Angle angle P Q ..\n"
+                      f"segment P 0 0 {side + 7} 0\nsegment Q P.start {side * 0.5} {side * 0.866}\n"
+                      f"coincident P.start Origin\nhorizontal P\nlength P {side + 7}\n"
+                      f"length Q {side}\nangle P Q 60deg\n", program)
+    assert worst(angle) == rounded(60 - off, 60 + off)

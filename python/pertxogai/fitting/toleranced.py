@@ -117,10 +117,10 @@ def _off(drawing: Drawing, solution: Solution, each: Valued) -> tuple[Fraction, 
 def _size(drawing: Drawing, solution: Solution, each: Valued) -> tuple[Table, Fraction]:
     """In which table of general tolerances a dimension stands, and by which size."""
     if isinstance(each, AngleBetween):
-        placed = Placed(drawing, solution)
-        sides = [root(square(placed.line(side).way)) / 1000 for side in (each.first, each.second)
-                 if isinstance(drawing.shape(side.name), Segment)]
-        return Table.ANGULAR, min(sides, default=Fraction(0))
+        placed = Placed(drawing, solution)  # To a whole micrometre: ends are rounded to nanometres.
+        sides = [round(root(square(placed.line(side).way)) / 1000) for side
+                 in (each.first, each.second) if isinstance(drawing.shape(side.name), Segment)]
+        return Table.ANGULAR, Fraction(min(sides, default=0))
     is_edge = isinstance(each, Radius) and _breaks_edge(drawing, solution, each.rim)
     return Table.BROKEN_EDGE if is_edge else Table.LINEAR, abs(each.value_um)
 
