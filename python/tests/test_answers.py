@@ -182,6 +182,23 @@ def test_a_dimension_that_contradicts_is_off_by_the_difference(program):
     assert names["Width"].off.amount == 5000
 
 
+BAR = "segment S 0 0 40 1\ncoincident S.start Origin\nhorizontal S\nlength S 40\n"
+BENT = BAR + "segment T S.end 60 30\nlength T 35\nangle S T 120deg\n"
+
+
+@pytest.mark.parametrize("text, spare", [
+    # The start is at the origin, or 5 mm from it.
+    (BAR + "Wrong: x S.start 5\n", {"Wrong", "constraint 1 (coincident S.start Origin)"}),
+    # The two ends are one by the shape, so only the distance can go.
+    (BENT + "Wrong: y S.end T.start 5\n", {"Wrong"}),
+    (BENT + "Wrong: x S.end T.start -5\n", {"Wrong"})])
+def test_a_distance_of_a_point_from_itself_conflicts(text, spare, program):
+    found = judge(read_drawing(text), program)
+    assert found.verdict is Verdict.OVER
+    assert {each.name for each in found.surplus if each.then is Then.WELL} == spare
+    assert [each.off.amount for each in found.surplus if each.name == "Wrong"] == [5_000_000]
+
+
 ROW = "point A 0 0\npoint B 20 0\npoint C 40 0\nfixed A\ny B 0\ny C 0\nx A B +20\nx B C +20\n"
 RIMS = "circle C 0 0 10\nfixed C.centre\nradius C 10\ncircle D 5 0 20\nradius D 5\ntangent C D\n"
 PAIR = "point A 10 5\npoint B 20 5\nfixed A\nfixed B\n"

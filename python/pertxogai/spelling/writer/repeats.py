@@ -89,13 +89,12 @@ class Repeats:
     def _size(self, number: int, equation: Equation, told: Redundant,
               circuit: frozenset[Owner]) -> None:
         """A length or radius that is told twice, as a distance of two points of its own, told
-        twice; as much longer both times as is needed where one of them is no length."""
+        twice; as much longer both times as is needed where one of them is no length. So is a
+        distance of a point from itself, which is none."""
         layout = self.layout
-        size = next((key for key in equation.form.terms), None)
-        if size is None:
-            return
-        value = layout.rails.number(Form.of(size)) or 1000
-        again = value - Fraction(told.amount) / equation.form.terms[size]
+        size, factor = next(iter(equation.form.terms.items()), (None, 1))
+        value = layout.rails.number(Form.of(size)) or 1000 if size is not None else 1000
+        again = value - Fraction(told.amount) / factor
         more = max(0, 1000 - int(min(value, again))) if min(value, again) <= 0 else 0
         names = f"T{number}", f"U{number}"
         for name, x in zip(names, (0, value + more)):
