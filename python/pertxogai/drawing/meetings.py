@@ -107,9 +107,13 @@ class Meetings:
                     return Pair(end, end)
         return None
 
-    def on_both(self, tangent: Tangent) -> Pair | None:
-        """The first point that the drawing's words put on both shapes of a tangent: there they
-        touch."""
+    def touching(self, tangent: Tangent) -> Pair | None:
+        """The point in which the two shapes of a tangent touch: that of `contact`, else the first
+        that the drawing's words put on both."""
+        contact = self.contact(tangent)
+        return contact if contact is not None else self._on_both(tangent)
+
+    def _on_both(self, tangent: Tangent) -> Pair | None:
         for each in self._drawing.constraints:
             if (isinstance(each, PointOn) and each.curve == tangent.first
                     and (self.leader(each.point), tangent.second) in self._on):

@@ -276,7 +276,7 @@ class Plane(Generic[N]):
     def _tangent(self, tangent: Tangent) -> list[Jet[N]]:
         meetings = self.drawing.meetings
         # Of a point on both, their distance would say nothing new, to the first order.
-        contact = meetings.contact(tangent) or meetings.on_both(tangent)
+        contact = meetings.touching(tangent)
         first, second = tangent.first, tangent.second
         lines = self.is_line(first), self.is_line(second)
         if all(lines):

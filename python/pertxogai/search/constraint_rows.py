@@ -199,7 +199,8 @@ class _Asked:
     # -- touching
 
     def _tangent(self, tangent: Tangent) -> Row:
-        at = self._drawing.meetings.contact(tangent) or self._on_both(tangent)
+        at = self._drawing.meetings.touching(tangent)
+        # Of a point on both, their distance would say nothing new, to the first order.
         if at is not None:
             return self._touching_at(tangent, at)
         line, rim = tangent.first, tangent.second
@@ -209,13 +210,6 @@ class _Asked:
             centre = self._unknowns.centre(rim)
             return self._aside(self._unknowns.line(line), centre, self._radius(rim), is_sided=True)
         return self._rims_touching(tangent)
-
-    def _on_both(self, tangent: Tangent) -> Pair | None:
-        """A point that is told to lie on both shapes: there they touch. That their distance is
-        right would say no more, to the first order, than that the point lies on both."""
-        on_first, on_second = (self._unknowns.on(each) for each in (tangent.first, tangent.second))
-        at = next((point for point in on_first if point in on_second), None)
-        return Pair(at, at) if at is not None else None
 
     def _touching_at(self, tangent: Tangent, at: Pair) -> Row:
         """The normals there run alike: those of rims are their radii, and a line is square to its

@@ -4,7 +4,7 @@ Points that are told to be one are one point here. The origin and the points of 
 given. Lengths are in nanometres, and not whole."""
 from __future__ import annotations
 
-from collections.abc import Iterator, Sequence
+from collections.abc import Iterator
 from dataclasses import dataclass
 from enum import Enum
 
@@ -12,7 +12,7 @@ import numpy as np
 
 from pertxogai.classes import Classes
 from pertxogai.drawing import (
-    ORIGIN, Arc, Axis, Circle, Drawing, Pair, Place, PointOn, PointRef, ShapeRef, Which)
+    ORIGIN, Arc, Axis, Circle, Drawing, Pair, Place, PointRef, ShapeRef, Which)
 from pertxogai.drawing.meetings import JOINING_ALONE, pair_of
 from pertxogai.search.arrays import Array
 from pertxogai.search.combination import Combination
@@ -114,12 +114,6 @@ class Unknowns:
         if leader in self.given:
             return Combination({}, *self.given[leader])
         return Combination({self.number_of[leader]: 1.0})
-
-    def on(self, curve: ShapeRef) -> Sequence[PointRef]:
-        """The points that are told to lie on a curve, of those that are one the one that stands for
-        them."""
-        return [self.leader(each.point) for each in self.drawing.constraints
-                if isinstance(each, PointOn) and each.curve == curve]
 
     def line(self, ref: ShapeRef) -> tuple[Combination, Combination]:
         """The start of a segment or an axis, and the way from there to its end."""
