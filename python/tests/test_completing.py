@@ -375,7 +375,7 @@ def test_equal_radii_fix_no_position(program):
     ("circle A 0 0 10\ncircle B 40 0 12\n",
      ["diameter A 20", "diameter B 24", "x A.centre B.centre 40", "horizontal A.centre B.centre"],
      ["coincident A.centre Origin"]),
-    # Three sizes and three sides, of which the first is told by its x.
+    # Three sizes and three sides, of which the first is given as an x.
     ("circle A 0 0 10\ncircle B 40 0 12\ncircle C 80 30 4\n",
      ["diameter A 20", "diameter B 24", "diameter C 8", "x A.centre B.centre 40",
       "distance B.centre C.centre 50", "distance A.centre C.centre 85.44",

@@ -148,7 +148,7 @@ def test_a_constraint_in_another_plane_is_left_out(tmp_path: Path) -> None:
     path = edited(tmp_path, "plate", second + b"80020000", second + b"00020000")
     (one,) = read_solvespace(path)
     assert [str(each) for each in one.left_out] == [
-        "c00a-pt-pt-distance: it is told in another plane than that of its sketch"]
+        "c00a-pt-pt-distance: it belongs to another plane than its sketch"]
     path = edited(tmp_path, "plate", second + b"80020000", second + b"00000000")
     assert read_solvespace(path)[0].drawing == found("plate").drawing
 

@@ -172,7 +172,7 @@ def _apart(record: Record, group: Record) -> NotDrivingCause | None:
 def _told(record: Record, group: Record, plane: Plane, gathering: DrawingBuilder) -> Said:
     """What a constraint of a group says. Raises Unsaid."""
     if record.handle("workplane.v") not in (0, group.handle("activeWorkplane.v")):
-        raise NotSayable("it is told in another plane than that of its sketch")
+        raise NotSayable("it belongs to another plane than its sketch")
     return say(record, plane, gathering.is_left)
 
 
