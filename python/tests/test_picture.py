@@ -9,6 +9,7 @@ from fractions import Fraction
 import pytest
 
 from conftest import EXAMPLES, TOP
+from pertxogai.board.marks import marks
 from pertxogai.drawing import PointRef, Which, read_drawing
 from pertxogai.judging.judged_sketch import judge_sketch
 from pertxogai.judging.measure import Frame, Solution
@@ -17,6 +18,7 @@ from pertxogai.output.picture.fitting import Motion
 from pertxogai.output.picture import (
     Bow, Dot, Ink, LengthBar, Manner, Marking, Ring, Scene, Square, Stroke, Tag, picture_of,
     picture_of_designed, picture_of_drawing, picture_of_parts, picture_of_shape)
+from pertxogai.output.picture.drawings import DrawnPlaces
 from pertxogai.output.picture.page import Figure, Page
 from pertxogai.output.picture.placed import (
     LaidLine, as_drawn, as_placed, laid_on, moved, segments)
@@ -245,6 +247,42 @@ def test_angles_and_right_angles() -> None:
     )
     svg = picture_of_drawing(sketch).svg
     assert "45°" in texts_of(svg) and svg.count("<polyline") == 1
+
+
+DIMENSIONED = """segment A 0 0 12345.678 0
+segment B 0 0 8000 9000
+segment C 12345.678 0 13000 9000
+circle H 500 800 33
+length A 12345.678
+length B 100000.001
+length C 10in/3
+radius H 1234.56789
+angle A B 60.125deg
+angle A C 123.456deg
+angle B C 360deg/7
+"""
+
+
+def test_dimensions_are_drawn_at_the_values_that_are_told() -> None:
+    """10 in / 3 are 84.6666.. mm, to the nanometre 84.666667; 360/7 are 51.428571 degrees."""
+    drawing = read_drawing(DIMENSIONED)
+    told = {"12345.678", "100000.001", "84.666667", "R1234.56789", "60.125°", "123.456°",
+            "51.428571°", "A", "B", "C", "H"}
+    assert set(texts_of(picture_of_designed(drawing).svg)) == told
+    shown = {mark["text"] for number, constraint in enumerate(drawing.constraints, 1)
+             for mark in marks(DrawnPlaces(drawing, None), number, constraint)}
+    assert shown == told - set("ABCH")
+
+
+@pytest.mark.parametrize("p, q, degrees", [
+    (1, 2, "26.5651°"), (-1, 30, "1.9092°"), (2911, 5042, "30°"), (1, 1, "45°")])
+def test_the_angle_of_a_ratio_is_told_to_a_ten_thousandth(p: int, q: int, degrees: str) -> None:
+    """atan(1/2) is 26.56505.., atan(1/30) 1.90915.. degrees."""
+    lines = "line L 0 0 1 0\nline M 0 0 1 1"
+    sketch = Sketch.parse(f"sketch 1\n{lines}\nangle L M {p}/{q}\nend\n")
+    assert degrees in texts_of(picture_of_drawing(sketch).svg)
+    drawing = read_drawing(f"segment L 0 0 1 0\nsegment M 0 0 1 1\nangle L M {p}/{q}\n")
+    assert degrees in texts_of(picture_of_designed(drawing).svg)
 
 
 def test_a_designers_drawing_as_drawn_and_as_placed() -> None:

@@ -17,7 +17,7 @@ from pertxogai.drawing import (
 from pertxogai.drawing.labels import Offset, Reference
 from pertxogai.drawing.mentions import refs_of
 from pertxogai.judging.measure.solution import MissingPlace
-from pertxogai.output.picture.drawings import BAR, DrawnPlaces, mm
+from pertxogai.output.picture.drawings import BAR, DrawnPlaces, degrees_told, mm
 from pertxogai.output.picture.marks import LengthBar, PointMm
 from pertxogai.output.picture.plane import between, crossing, sweep
 
@@ -98,7 +98,7 @@ def _angle(where: DrawnPlaces, angle: AngleBetween) -> MarkAlone:
     one, two = where.ends(angle.first.name), where.ends(angle.second.name)
     is_axis = isinstance(where.drawing.shape(angle.first.name), Axis)
     corner = two[0] if is_axis else crossing(one, two)
-    text = f"{degrees:.4g}°"
+    text = degrees_told(value)
     if corner is None:
         return {"at": between(*two, 0.5), "text": text}
     ways = [_turn(corner, one, is_axis), _turn(corner, two)]

@@ -155,6 +155,11 @@ def mm_text(um: int) -> str:
     return "-" + digits if um < 0 else digits
 
 
+def degrees_text(p: int, q: int) -> str:
+    """The angle whose tangent is p/q in degrees to read, without its sign, to a ten-thousandth."""
+    return f"{math.degrees(math.atan2(abs(p), q)):.4f}".rstrip("0").rstrip(".")
+
+
 def read_um(word: str) -> int | None:
     """The micrometres of a number of the language, or None where the word is none or passes its
     limit."""

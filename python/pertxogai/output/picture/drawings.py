@@ -9,10 +9,12 @@ from fractions import Fraction
 from functools import cached_property
 
 from pertxogai.drawing import (
-    AngleBetween, Arc, Axis, Circle, Constraint, Degrees, Diameter, Distance, Drawing, Length,
-    Pair, ParallelDistance, Point, PointLineDistance, PointRef, Radius, Segment, Shape, ShapeRef,
-    Which, XDistance, YDistance)
+    AngleBetween, AngleValue, Arc, Axis, Circle, Constraint, Degrees, Diameter, Distance, Drawing,
+    Length, Pair, ParallelDistance, Point, PointLineDistance, PointRef, Radius, Segment, Shape,
+    ShapeRef, Which, XDistance, YDistance)
+from pertxogai.drawing.numbers import decimal_text, mm_text
 from pertxogai.judging.measure import Solution
+from pertxogai.language.numbers import degrees_text
 from pertxogai.output.picture.marks import (
     Arrow, Bow, Dimension, Dot, Ink, LengthBar, Manner, Mark, PointMm, Ring, Scene, Stroke, Tag)
 from pertxogai.output.picture.plane import between, crossing, foot, sweep, unit
@@ -205,17 +207,18 @@ class DrawnPlaces:
         near = corner is not None and min(
             math.dist(corner, end) for end in (*one, *two)
         ) <= math.dist(*one)
-        value = angle.value
-        degrees = (
-            float(value.value)
-            if isinstance(value, Degrees)
-            else math.degrees(math.atan2(value.p, value.q))
-        )
-        return Tag(
-            corner if corner and near else between(*two, 0.5), 0.0, f"{abs(degrees):.4g}°", ink
-        )
+        at = corner if corner and near else between(*two, 0.5)
+        return Tag(at, 0.0, degrees_told(angle.value), ink)
 
 
 def mm(um: Fraction) -> str:
-    """Micrometres as a number of millimetres to read."""
-    return f"{float(um) / 1e3:.7g}"
+    """Micrometres as a number of millimetres to read, exact to the nanometre."""
+    return mm_text(round(um, 3))
+
+
+def degrees_told(value: AngleValue) -> str:
+    """An angle to read, without its sign, exact to a millionth of a degree; a ratio to a
+    ten-thousandth."""
+    if isinstance(value, Degrees):
+        return f"{decimal_text(round(abs(value.value), 6))}°"
+    return f"{degrees_text(value.p, value.q)}°"

@@ -7,7 +7,7 @@ from dataclasses import dataclass
 from functools import cached_property
 
 from pertxogai.language import Angle, Block, Constraint, Distance, Sketch
-from pertxogai.language.numbers import mm_text
+from pertxogai.language.numbers import degrees_text, mm_text
 from pertxogai.output.picture.marks import (
     Dimension, Dot, Ink, LengthBar, Manner, Mark, PointMm, Ring, Scene, Square, Stroke, Tag)
 from pertxogai.output.picture.placed import (
@@ -204,7 +204,7 @@ class _Layout:
         if constraint.q == 0 and corner and number is None:
             yield Square(corner, _towards(corner, one), _towards(corner, two), ink)
             return
-        text = f"{math.degrees(math.atan2(abs(constraint.p), constraint.q)):.4g}°"
+        text = f"{degrees_text(constraint.p, constraint.q)}°"
         text = text if corner else f"{text} to {constraint.first}"
         yield Tag(corner or middle_of(two), 0.0, f"{number}: {text}" if number else text, ink)
 
