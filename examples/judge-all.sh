@@ -4,5 +4,5 @@
 # SKETCH to name the program if it isn't on the path.
 for it; do
     "${SKETCH:-sketch}" ${COMMAND:-check} < "$it" > "$it.answer"
-    echo "$? $it"
+    printf '%s %s\n' "$?" "$it"
 done
