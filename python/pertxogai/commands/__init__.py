@@ -29,6 +29,7 @@ AS_STORED = "also report how far the positions in the file are off each constrai
 CHECK = "check it by sketch verify, sketch_claim.py and sketch_claim.c"
 COMPLETED = "write the completed drawing as a .drawing, or into a copy of the .FCStd or .slvs"
 CLAIM = "the claim to write: the sketch, its steps, positions and tolerances, as verify reads them"
+DRAWING = "a drawing: .drawing, .FCStd, .slvs, .dxf"
 FILE = "a sketch: .sketch, .drawing, .FCStd, .slvs, .dxf"
 CHART = "a chart of how much each dimension contributes, as SVG"
 FITTED = "a .drawing with tolerances and checks"
@@ -138,7 +139,7 @@ def _add_complete(commands: Commands) -> None:
     completing = _command(commands, "complete",
                           "proposes the missing dimensions of a sketch, in your own words")
     completing.set_defaults(act=_complete)
-    completing.add_argument("file", type=Path, metavar="FILE", help=FILE)
+    completing.add_argument("file", type=Path, metavar="FILE", help=DRAWING)
     completing.add_argument("--json", action="store_true", help="print one object of JSON")
     completing.add_argument("-o", "--output", type=Path, metavar="OUT", help=COMPLETED)
     completing.add_argument("--sketch", metavar="NAME", help=SKETCH)
@@ -148,7 +149,7 @@ def _add_range(commands: Commands) -> None:
     ranging = _command(commands, "range",
                        "says how far each value and dimension can go, and why no further")
     ranging.set_defaults(act=_range)
-    ranging.add_argument("file", type=Path, metavar="FILE", help=FILE)
+    ranging.add_argument("file", type=Path, metavar="FILE", help=DRAWING)
     ranging.add_argument("names", nargs="*", metavar="NAME", help=NAMES)
     ranging.add_argument("--json", action="store_true", help="print one object of JSON")
     ranging.add_argument("--sketch", metavar="NAME", help=SKETCH)
@@ -158,7 +159,7 @@ def _add_family(commands: Commands) -> None:
     family = _command(commands, "family",
                       "judges and draws one drawing in many sizes, those of a table")
     family.set_defaults(act=_family)
-    family.add_argument("file", type=Path, metavar="FILE", help=FILE)
+    family.add_argument("file", type=Path, metavar="FILE", help=DRAWING)
     family.add_argument("sizes", type=Path, metavar="SIZES.csv", help=SIZES)
     family.add_argument("-o", "--output", type=Path, metavar="FOLDER", help=FOLDER)
     family.add_argument("--svg", action="store_true", help="write each variant to NAME.svg")

@@ -13,7 +13,7 @@ ENDS = {
             " all the same, and says why; 2 if the arguments or a file can't be read, nothing can"
             " be written, or a DXF of what isn't good is asked for; 3 if the program gave no"
             " answer",
-    "complete": "0 if each sketch is fully constrained with the proposed lines, or lacks nothing; 1"
+    "complete": "0 if each sketch is good with the proposed lines, or is good and lacks nothing; 1"
                 f" if one isn't, and a line says why; {OTHERWISE}",
     "range": "0 if the drawing has ranges; 1 if it isn't good and so has none, and a line says why;"
              f" {OTHERWISE}",
