@@ -229,10 +229,12 @@ class _Cut:
         """The notes, each with what it stands at; what comes behind all shapes stays there."""
         count = len(self.drawing.geometry)
 
-        def moved(before: int) -> int:
-            behind = keeps * (before > first) + (before >= count)
+        def moved(note: Note) -> int:
+            before = note.before
+            behind = keeps * (before + note.beside > first) + (before >= count)
             return before + behind - sum(count + each < before for each in gone)
-        return tuple(replace(note, before=moved(note.before)) for note in self.drawing.notes)
+        return tuple(replace(note, before=moved(note)) for note in self.drawing.notes
+                     if not (note.beside and note.before - count in gone))
 
 
 def _far(end: PointRef) -> PointRef:

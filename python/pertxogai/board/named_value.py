@@ -2,9 +2,9 @@
 from __future__ import annotations
 
 from collections.abc import Sequence
-from dataclasses import replace
 from itertools import count
 
+from pertxogai.board.head_lines import with_head
 from pertxogai.drawing import Drawing, Value, read_expression
 
 Lines = Sequence[tuple[str, ...]]
@@ -20,7 +20,5 @@ def named(drawing: Drawing, lines: Lines, word: str, stem: str,
     taken = {each.name for each in (*drawing.geometry, *drawing.values)}
     name = next(each for each in (f"{stem}{number}" for number in count(1)) if each not in taken)
     value = Value(name, read_expression(text))
-    notes = tuple(replace(note, before=note.before - 1) if note.before < 0 else note
-                  for note in drawing.notes)
-    return (replace(drawing, values=(*drawing.values, value), notes=notes),
+    return (with_head(drawing, values=(*drawing.values, value)),
             [(*words[:-1], name) if words[0] == word else words for words in lines])

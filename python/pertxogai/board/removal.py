@@ -5,6 +5,7 @@ from collections.abc import Iterator
 from dataclasses import dataclass, field, replace
 
 from pertxogai.board.anchors import leader_of, with_spot
+from pertxogai.board.head_lines import with_head
 from pertxogai.drawing import Anchor, Drawing, Note, PointRef, Shape, points_of
 from pertxogai.drawing.mentions import named
 from pertxogai.drawing.named_shapes import spot_of
@@ -20,7 +21,8 @@ def without(drawing: Drawing, shapes: frozenset[str], numbers: frozenset[int]) -
     said = tuple(drawing.constraints[number - 1] for number in asks)
     notes = tuple(_notes(drawing, shapes, frozenset(asks)))
     checks = drawing.tolerancing.without(shapes)
-    return replace(drawing, geometry=kept, constraints=said, notes=notes, tolerancing=checks)
+    made = replace(drawing, geometry=kept, constraints=said, notes=notes)
+    return with_head(made, tolerancing=checks)
 
 
 @dataclass(frozen=True)

@@ -3,7 +3,8 @@ from __future__ import annotations
 
 from dataclasses import dataclass, replace
 
-from pertxogai.drawing import VALUED, Drawing, Note, Value, WordFault
+from pertxogai.board.head_lines import with_head
+from pertxogai.drawing import VALUED, Drawing, Value, WordFault
 from pertxogai.drawing.names import nearest
 from pertxogai.drawing.values.lines import read_value_expression
 from pertxogai.drawing.values.reckoning import reckoned
@@ -27,9 +28,7 @@ class SetValue:
         check_value_name(self.name)
         if drawing.has(self.name):
             raise WordFault(self.name, "is drawn already: take another name")
-        notes = tuple(replace(note, before=note.before - (note.before < 0))
-                      for note in drawing.notes)
-        return reckoned(replace(drawing, values=(*drawing.values, value), notes=notes))
+        return reckoned(with_head(drawing, values=(*drawing.values, value)))
 
 
 @dataclass(frozen=True)
@@ -46,16 +45,8 @@ class DropValue:
         user = _user(drawing, self.name)
         if user is not None:
             raise WordFault(self.name, f"is used by {user}: write a number there first")
-        place = names.index(self.name) - len(names)
-        return replace(drawing, values=tuple(it for it in drawing.values if it.name != self.name),
-                       notes=tuple(_kept(note, place) for note in drawing.notes
-                                   if note.before != place or not note.beside))
-
-
-def _kept(note: Note, place: int) -> Note:
-    """A note once the value at a place, counted back from the shapes, is gone: what stood above it
-    stands above what came next."""
-    return replace(note, before=note.before + (note.before <= place))
+        return with_head(drawing,
+                         values=tuple(it for it in drawing.values if it.name != self.name))
 
 
 def _user(drawing: Drawing, name: str) -> str | None:

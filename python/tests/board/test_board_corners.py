@@ -122,10 +122,10 @@ def test_what_is_larger_than_the_edges_is_drawn_smaller() -> None:
 
 
 def test_notes_stay_where_they_were() -> None:
-    text = ("# first\nsegment A 0 0 40 0\n# second\nsegment B A.end 40 30\n# third\nlength A 40\n"
-            "# last\n")
+    text = ("# first\nsegment A 0 0 40 0 # low\n# second\nsegment B A.end 40 30\n# third\n"
+            "length A 40\n# last\n")
     assert fillet(text, "A", "B") == [
-        "# first", "construction point P1 40 0", "segment A 0 0 35 0", "# second",
+        "# first", "construction point P1 40 0", "segment A 0 0 35 0 # low", "# second",
         "segment B 40 5 40 30", "arc A1 35 5 A.end B.start", "# third", "distance A.start P1 40",
         "on P1 A", "on P1 B", "tangent A A1", "tangent A1 B", "radius A1 5", "# last"]
 

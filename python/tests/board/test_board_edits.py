@@ -159,6 +159,43 @@ def test_rename_a_shape_everywhere() -> None:
     assert "is no name" in trouble(TRIANGLE, do="rename", old="S1", new="two words")
 
 
+CHECKED = """drawing 1
+# sizes
+value W 100 # wide
+tolerances ISO2768-m # class
+# fits
+check Gap length Top 99 .. 101 # gap
+check Side length Left 59 .. 61 # side
+segment Bottom 0 0 100 0 # low
+segment Right Bottom.end 100 60
+segment Top Right.end 0 60
+segment Left Top.end Bottom.start
+length Bottom 100
+"""
+
+
+def test_notes_of_values_tolerances_and_checks_stay_where_they_were() -> None:
+    """Whatever comes, or goes, among the lines above the shapes."""
+    assert lines(CHECKED, do="set-value", name="H", expression="60") == (
+        CHECKED.replace("# wide\n", "# wide\nvalue H 60\n").splitlines()[1:])
+    assert lines(CHECKED, do="drop-value", name="W") == (
+        CHECKED.replace("value W 100 # wide\n", "").splitlines()[1:])
+    without = lines(CHECKED, do="erase", shapes=["Top"])
+    assert without[:6] == [
+        "# sizes", "value W 100 # wide", "tolerances ISO2768-m # class", "# fits",
+        "check Side length Left 59 .. 61 # side", "segment Bottom 0 0 100 0 # low"]
+    assert lines(CHECKED, do="erase", shapes=["Top", "Left"])[3:5] == [
+        "# fits", "segment Bottom 0 0 100 0 # low"]
+
+
+def test_a_new_value_of_a_copy_moves_no_note() -> None:
+    text = CHECKED + "circle C 20 20 4\ncircle D 50 20 4\n"
+    made = lines(text, do="row", shapes=["C", "D"], dx=200, dy=0, count=2)
+    assert made[:7] == [
+        "# sizes", "value W 100 # wide", "value Pitch1 200", "tolerances ISO2768-m # class",
+        "# fits", "check Gap length Top 99 .. 101 # gap", "check Side length Left 59 .. 61 # side"]
+
+
 def test_construction_and_back() -> None:
     found = lines(TRIANGLE, do="construction", shapes=["S2"], construction=True)
     assert found[1] == "construction segment S2 S1.end 20 30"
