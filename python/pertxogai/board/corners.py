@@ -163,9 +163,10 @@ class _Cut:
         """Whether something is said of the corner, or of the whole lengths of the segments."""
         ends = {self.meeting.first, self.meeting.second}
         names = {each.shape for each in ends}
+        checked = (each.asked for each in self.drawing.tolerancing.checks)
         return bool(self._at_corner() - ends) or any(
             _mentions(each, self._at_corner()) or _is_of_length(each, names)
-            for each in self.drawing.constraints if not self._joins(each))
+            for each in (*self.drawing.constraints, *checked) if not self._joins(each))
 
     def _joins(self, constraint: Constraint) -> bool:
         """Whether a constraint only says that the two ends are one point."""
@@ -190,8 +191,9 @@ class _Cut:
         asked_for = self.drawing.constraints
         said = [self._said(each, name) for each in asked_for if not self._joins(each)]
         gone = [number for number, each in enumerate(asked_for) if self._joins(each)]
+        checks = self.drawing.tolerancing.saying(lambda each: self._said(each, name))
         drawing = replace(self.drawing, geometry=geometry, constraints=tuple(said),
-                          notes=self._notes(first, keeps, gone))
+                          notes=self._notes(first, keeps, gone), tolerancing=checks)
         on = [["on", name, each.shape] for each in opened] if keeps else []
         same = [["coincident", str(ref), name] for ref in self.drawing.points()
                 if ref.which is Which.AT and ref in self._at_corner()]
@@ -215,7 +217,8 @@ class _Cut:
         match constraint:
             case Length(ShapeRef(segment), value) if segment in names:
                 ends = _in_order(names[segment], PointRef(name))
-                return Distance(*ends, value, constraint.name, expression=constraint.expression)
+                return Distance(*ends, value, constraint.name, expression=constraint.expression,
+                                tolerance=constraint.tolerance)
             case Midpoint(point, ShapeRef(segment)) if segment in names:
                 return Symmetric(*_in_order(names[segment], PointRef(name)), point, constraint.name)
             case Perpendicular(first, second, Pair() as pair) if _is_at(pair, self._at_corner()):

@@ -207,8 +207,11 @@ class Rename:
         return replace(
             renamed_in_notes(drawing, self.old, self.new),
             geometry=tuple(map(self._shape, drawing.geometry)),
-            constraints=tuple(with_refs(each, self._point, lambda ref: ShapeRef(self._of(ref.name)))
-                              for each in drawing.constraints))
+            constraints=tuple(map(self._said, drawing.constraints)),
+            tolerancing=drawing.tolerancing.saying(self._said))
+
+    def _said(self, constraint: Constraint) -> Constraint:
+        return with_refs(constraint, self._point, lambda ref: ShapeRef(self._of(ref.name)))
 
     def _shape(self, shape: Shape) -> Shape:
         return replace(with_refs(shape, self._point), name=self._of(shape.name))

@@ -7,6 +7,7 @@ from dataclasses import dataclass, fields, replace
 
 from pertxogai.board.anchors import with_spot
 from pertxogai.board.edges import NEAR, Edge, Round, Straight, edge_of, met
+from pertxogai.board.head_lines import with_head
 from pertxogai.board.line_reader import asking
 from pertxogai.board.mapping import PointUm, numbers, rounded
 from pertxogai.board.new_names import Figure, free_name
@@ -126,9 +127,10 @@ def _ended(drawing: Drawing, end: PointRef, crossing: Crossing) -> Drawing:
     shape = with_spot(_shape(freed, end.shape), end.which, rounded(*crossing.at))
     made = replace(freed, geometry=tuple(
         shape if each.name == end.shape else each for each in freed.geometry))
-    gone = {number for number, each in enumerate(made.constraints, 1)
-            if end in [*refs_of(each)] or _is_of_ends(each, end)}
+    gone = {number for number, each in enumerate(made.constraints, 1) if _is_gone(each, end)}
     made = without(made, frozenset(), frozenset(gone))
+    made = with_head(made, tolerancing=made.tolerancing.saying(
+        lambda each: None if _is_gone(each, end) else each))
     return asking(made, ["on", str(end), crossing.other])
 
 
@@ -148,10 +150,15 @@ def _alone(drawing: Drawing, end: PointRef) -> Drawing:
                 each = with_spot(each, ref.which, heir or place)
                 heir = heir or ref
         shapes.append(each)
-    said = drawing.constraints
-    if heir is not None:
-        said = tuple(_handed_on(each, end, heir) for each in said)
-    return replace(drawing, geometry=tuple(shapes), constraints=said)
+    made = replace(drawing, geometry=tuple(shapes))
+    return made if heir is None else _said_of(made, end, heir)
+
+
+def _said_of(drawing: Drawing, end: PointRef, heir: PointRef) -> Drawing:
+    """The drawing in which what was said of a point, and measured of it, is of another."""
+    said = tuple(_handed_on(each, end, heir) for each in drawing.constraints)
+    checks = drawing.tolerancing.saying(lambda each: _handed_on(each, end, heir))
+    return replace(drawing, constraints=said, tolerancing=checks)
 
 
 def _handed_on(constraint: Constraint, end: PointRef, heir: PointRef) -> Constraint:
@@ -159,6 +166,11 @@ def _handed_on(constraint: Constraint, end: PointRef, heir: PointRef) -> Constra
     changes = {each.name: heir for each in fields(constraint)
                if getattr(constraint, each.name) == end}
     return replace(constraint, **changes) if changes else constraint
+
+
+def _is_gone(constraint: Constraint, end: PointRef) -> bool:
+    """Whether a constraint is of an end that lies elsewhere now, or of what that changes."""
+    return end in [*refs_of(constraint)] or _is_of_ends(constraint, end)
 
 
 def _is_of_ends(constraint: Constraint, end: PointRef) -> bool:
@@ -175,8 +187,7 @@ def _moved_end(drawing: Drawing, end: PointRef, other: PointRef) -> Drawing:
             if spot_of(each, ref.which) == end:
                 each = with_spot(each, ref.which, other)
         shapes.append(each)
-    said = tuple(_handed_on(each, end, other) for each in drawing.constraints)
-    return replace(drawing, geometry=tuple(shapes), constraints=said)
+    return _said_of(replace(drawing, geometry=tuple(shapes)), end, other)
 
 
 def _behind(drawing: Drawing, place: int) -> tuple[Note, ...]:

@@ -59,6 +59,27 @@ def test_what_is_said_of_the_corner_is_said_of_a_point_that_stays_there() -> Non
         "radius A1 5"]
 
 
+def test_a_tolerance_stays_with_its_dimension() -> None:
+    text = ELBOW + "length A 40 +-0.1\nlength B 30 +0.2-0\n"
+    for made in (fillet(text, "A", "B"), chamfer(text, "A", "B")):
+        assert "distance A.start P1 40 +-0.1" in made and "distance P1 B.end 30 +0.2-0" in made
+
+
+def test_a_check_of_the_corner_measures_the_point_that_stays_there() -> None:
+    """Else it would measure to the end of the arc, and the length of what remains."""
+    text = ("check Over distance A.start B.start 39 .. 41\ncheck Long length A 39 .. 41\n"
+            "check High length B 29 ..\n")
+    for made in (fillet(text + ELBOW, "A", "B"), chamfer(text + ELBOW, "A", "B")):
+        assert made[:4] == [
+            "check Over distance A.start P1 39 .. 41", "check Long distance A.start P1 39 .. 41",
+            "check High distance P1 B.end 29 ..", "construction point P1 40 0"]
+
+
+def test_a_check_of_something_else_keeps_no_point_in_the_corner() -> None:
+    text = "check Side distance A.start B.end 10 .. 60\n"
+    assert fillet(text + ELBOW, "A", "B") == [text.strip(), *fillet(ELBOW, "A", "B")]
+
+
 def test_what_else_ends_in_the_corner_stays_there() -> None:
     found = fillet(ELBOW + "circle C A.end 3\nsegment D B.start 60 10\n", "A", "B")
     assert found[:6] == ["construction point P1 40 0", "segment A 0 0 35 0",

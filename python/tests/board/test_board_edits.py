@@ -174,6 +174,11 @@ length Bottom 100
 """
 
 
+def test_rename_a_shape_that_is_checked() -> None:
+    assert lines(CHECKED, do="rename", old="Top", new="Lid") == (
+        CHECKED.replace("Top", "Lid").splitlines()[1:])
+
+
 def test_notes_of_values_tolerances_and_checks_stay_where_they_were() -> None:
     """Whatever comes, or goes, among the lines above the shapes."""
     assert lines(CHECKED, do="set-value", name="H", expression="60") == (

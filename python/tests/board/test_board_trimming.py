@@ -51,6 +51,19 @@ def test_an_end_that_shares_a_point_leaves_it() -> None:
         "on A.end R"]
 
 
+def test_a_check_goes_with_the_end_or_the_length_that_it_measures() -> None:
+    """What is left of it is measured no longer under its name."""
+    checks = ["check Long length A 1 .. 99", "check End distance A.end L.end 1 .. 99",
+              "check Start distance A.start L.end 1 .. 99"]
+    text = "\n".join(checks) + "\n" + CROSS
+    assert trim(text, "A", 35, 0)[:2] == [checks[2], "segment A 0 0 30 0"]
+    assert trim(text, "A", 2, 0)[:2] == [checks[1], "segment A 10 0 40 0"]
+    assert trim(text, "A", 20, 0)[:3] == [
+        "check End distance S1.end L.end 1 .. 99", checks[2], "segment A 0 0 10 0"]
+    text = "check End distance A.end L.end 1 .. 99\n" + CROSS + "segment T A.end 60 20\n"
+    assert trim(text, "A", 35, 0)[0] == "check End distance T.start L.end 1 .. 99"
+
+
 def test_of_a_circle_an_arc_is_left() -> None:
     """By Pythagoras the chord at x = 6 meets the circle of radius 10 at y = 8 and -8. The piece to
     the right goes, so the arc runs from the upper crossing round to the lower one."""

@@ -2,14 +2,15 @@
 
 from __future__ import annotations
 
-from collections.abc import Iterable
+from collections.abc import Callable, Iterable
 from dataclasses import dataclass, replace
 from fractions import Fraction
 from typing import TYPE_CHECKING
 
 from pertxogai.drawing.constraint_checks import check_constraint
 from pertxogai.drawing.constraint_lines import ConstraintWord, read_constraints
-from pertxogai.drawing.constraints import SENSED, VALUED, AngleBetween, Sense, Valued
+from pertxogai.drawing.constraints import (
+    SENSED, VALUED, AngleBetween, Constraint, Sense, Valued)
 from pertxogai.drawing.cursor import Cursor
 from pertxogai.drawing.mentions import named
 from pertxogai.drawing.named_shapes import NamedShapes
@@ -87,6 +88,13 @@ class Tolerancing:
         """The same without the checks that measure one of these shapes."""
         kept = (each for each in self.checks if shapes.isdisjoint(named(each.asked)))
         return replace(self, checks=tuple(kept))
+
+    def saying(self, other: Callable[[Constraint], Constraint | None]) -> Tolerancing:
+        """The same with what each check measures said otherwise; without the checks of which
+        `other` leaves nothing."""
+        said = ((each, other(each.asked)) for each in self.checks)
+        return replace(self, checks=tuple(replace(each, asked=asked) for each, asked in said
+                                          if isinstance(asked, VALUED)))
 
     def lines(self) -> list[str]:
         """The lines in the text."""
