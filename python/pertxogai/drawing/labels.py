@@ -152,7 +152,7 @@ def renamed_in_notes(drawing: Drawing, old: str, new: str) -> Drawing:
     """A drawing in which the notes that measure speak of a shape by another name."""
     name = re.compile(rf"(?<![\w.]){re.escape(old)}(?!\w)")
     return replace(drawing, notes=tuple(
-        replace(note, text=name.sub(new, note.text))
+        replace(note, text=name.sub(lambda _: new, note.text))
         if note.text.startswith(_WORD) and not note.beside else note for note in drawing.notes))
 
 

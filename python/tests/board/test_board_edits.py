@@ -179,6 +179,12 @@ def test_rename_a_shape_that_is_checked() -> None:
         CHECKED.replace("Top", "Lid").splitlines()[1:])
 
 
+def test_a_name_that_a_pattern_would_read_is_refused_as_a_name() -> None:
+    text = TRIANGLE + "# reference length S2\n"
+    for name in ("\\1", "a\\g"):
+        assert "is no name" in trouble(text, do="rename", old="S1", new=name)
+
+
 def test_notes_of_values_tolerances_and_checks_stay_where_they_were() -> None:
     """Whatever comes, or goes, among the lines above the shapes."""
     assert lines(CHECKED, do="set-value", name="H", expression="60") == (
