@@ -207,6 +207,15 @@ def test_a_new_value_of_a_copy_moves_no_note() -> None:
         "# fits", "check Gap length Top 99 .. 101 # gap", "check Side length Left 59 .. 61 # side"]
 
 
+def test_all_shapes_go_and_the_class_of_tolerances_stays() -> None:
+    """What is left can be drawn on."""
+    text = "tolerances ISO2768-m # class\nsegment S 0 0 40 0\n"
+    left = edited(text, do="erase", shapes=["S"])["text"]
+    assert left == "drawing 1\ntolerances ISO2768-m # class\n"
+    assert lines(left, do="draw", figure="point", spots=[{"x": 1, "y": 2}]) == [
+        "tolerances ISO2768-m # class", "point P1 1 2"]
+
+
 def test_construction_and_back() -> None:
     found = lines(TRIANGLE, do="construction", shapes=["S2"], construction=True)
     assert found[1] == "construction segment S2 S1.end 20 30"
