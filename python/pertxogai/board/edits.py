@@ -11,7 +11,7 @@ from pertxogai.board.anchors import leader_of, with_spot
 from pertxogai.board.corners import Corner
 from pertxogai.board.figures import centre_rectangle, polygon, slot, tangent_arc
 from pertxogai.board.labelling import Label, Measure
-from pertxogai.board.line_reader import asking, drawn, valued
+from pertxogai.board.line_reader import asking, constraint_at, drawn, valued
 from pertxogai.board.more_lines import with_constraints, with_shapes
 from pertxogai.board.new_names import Figure, free_name
 from pertxogai.board.offsetting import Offset
@@ -175,7 +175,7 @@ class Value:
     def on(self, drawing: Drawing) -> Drawing:
         """The drawing with that value. Raises DrawingUnsound, with what the constraint is called,
         where that isn't what it takes."""
-        old = _constraint(drawing, self.number)
+        old = constraint_at(drawing, self.number)
         with faults_of(drawing.called(self.number)):
             return _with(drawing, self.number, valued(drawing, old, self.value))
 
@@ -189,7 +189,7 @@ class Call:
 
     def on(self, drawing: Drawing) -> Drawing:
         """The drawing with that name."""
-        old = _constraint(drawing, self.number)
+        old = constraint_at(drawing, self.number)
         name = " ".join(self.name.split()) or None
         return _with(drawing, self.number, replace(old, name=name))
 
@@ -267,12 +267,6 @@ def _words(spot: Anchor) -> str:
     if isinstance(spot, PointRef):
         return str(spot)
     return f"{mm_text(spot.x_um)} {mm_text(spot.y_um)}"
-
-
-def _constraint(drawing: Drawing, number: int) -> Constraint:
-    if not 1 <= number <= len(drawing.constraints):
-        raise WordFault(f"constraint {number}", "doesn't stand")
-    return drawing.constraints[number - 1]
 
 
 def _with(drawing: Drawing, number: int, constraint: Constraint) -> Drawing:

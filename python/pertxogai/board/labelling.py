@@ -5,24 +5,36 @@ from __future__ import annotations
 from dataclasses import dataclass
 from fractions import Fraction
 
+from pertxogai.board.line_reader import constraint_at
 from pertxogai.board.removal import without
-from pertxogai.drawing import Drawing, WordFault
+from pertxogai.drawing import VALUED, Drawing, WordFault, asked_of, words_of
 from pertxogai.drawing.labels import labelled, labels, references, relabelled, with_reference
 
 
 @dataclass(frozen=True)
 class Measure:
     """Measures what a line says without its value, as `length Bottom`, and asks nothing. number:
-    the constraint, by its place from 1, that asked for it before, and goes."""
+    the constraint, by its place from 1, that asked for it before, and goes; then its words
+    count."""
 
     words: tuple[str, ...]
     number: int | None = None
 
     def on(self, drawing: Drawing) -> Drawing:
         """The drawing that measures it."""
-        label = None if self.number is None else labels(drawing).get(self.number)
-        gone = frozenset(() if self.number is None else {self.number})
-        return with_reference(without(drawing, frozenset(), gone), list(self.words), label)
+        if self.number is None:
+            return with_reference(drawing, list(self.words))
+        label, words = labels(drawing).get(self.number), self._words_of(drawing, self.number)
+        rest = without(drawing, frozenset(), frozenset({self.number}))
+        return with_reference(rest, words, label)
+
+    @staticmethod
+    def _words_of(drawing: Drawing, number: int) -> list[str]:
+        """The words of a dimension without its value and its tolerance."""
+        constraint = constraint_at(drawing, number)
+        if not isinstance(constraint, VALUED):
+            raise WordFault(words_of(constraint), "is no dimension")
+        return list(asked_of(constraint))
 
 
 @dataclass(frozen=True)

@@ -32,6 +32,13 @@ def asking(drawing: Drawing, words: list[str]) -> Drawing:
     return with_constraints(drawing, asked(drawing, words))
 
 
+def constraint_at(drawing: Drawing, number: int) -> Constraint:
+    """The constraint at a place, from 1. Raises WordFault where there is none."""
+    if not 1 <= number <= len(drawing.constraints):
+        raise WordFault(f"constraint {number}", "doesn't stand")
+    return drawing.constraints[number - 1]
+
+
 def valued(drawing: Drawing, constraint: Constraint, value: str) -> Constraint:
     """A constraint with another value, as it is written; it keeps its tolerance where none is
     written behind that. Raises WordFault."""

@@ -106,7 +106,7 @@ class AskEdit(TypedDict):
 
 class ReferenceEdit(TypedDict):
     """Measures a dimension, by its words without a value, and asks nothing. number: the constraint
-    that asked for it before."""
+    that asked for it before; its words count then."""
 
     do: Literal["reference"]
     words: list[str]

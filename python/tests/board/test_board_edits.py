@@ -216,6 +216,12 @@ def test_all_shapes_go_and_the_class_of_tolerances_stays() -> None:
         "tolerances ISO2768-m # class", "point P1 1 2"]
 
 
+def test_a_dimension_with_a_tolerance_is_only_measured() -> None:
+    for said in ("length S1 40 +-0.1", "length S1 40 +-1", "length S1 2 * 20 +0.2-0"):
+        found = lines(TRIANGLE.replace("length S1 40", said), do="reference", words=[], number=1)
+        assert found[-1] == "# reference length S1"
+
+
 def test_construction_and_back() -> None:
     found = lines(TRIANGLE, do="construction", shapes=["S2"], construction=True)
     assert found[1] == "construction segment S2 S1.end 20 30"

@@ -155,8 +155,7 @@ export class Offers {
     const text = this.paper.answer?.text;
     const value = await dimension(constraint.called, constraint.value, this.place(number));
     if (value === MEASURED) {
-      const words = constraint.words.slice(0, -constraint.value.length).trim().split(' ');
-      await this.paper.edit({ do: 'reference', words, number }, text);
+      await this.paper.edit({ do: 'reference', words: [], number }, text);
     } else if (value !== null) await this.paper.edit({ do: 'value', number, value }, text);
   }
 

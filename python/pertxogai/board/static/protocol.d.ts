@@ -322,7 +322,7 @@ export interface AskEdit {
 
 /**
  * Measures a dimension, by its words without a value, and asks nothing. number: the constraint
- * that asked for it before.
+ * that asked for it before; its words count then.
  */
 export interface ReferenceEdit {
   do: 'reference';
