@@ -53,6 +53,8 @@ def test_an_angle_has_one_in_degrees():
 def test_a_sum_is_no_tolerance():
     (told,) = read_drawing(EDGE + "length A 40 + 0.2 - 0.1\n").constraints
     assert told.tolerance is None and told.value_um == 40_100
+    (told,) = read_drawing(EDGE + "length A 40 + -0.1\n").constraints
+    assert told.tolerance is None and told.value_um == 39_900
 
 
 @pytest.mark.parametrize("value, line", [
@@ -109,6 +111,11 @@ def test_what_is_refused_is_named(line, word):
     ("check Gap length A 3", "needs .. once, between its limits: write a line such as check Gap "),
     ("length A 40 +0.1 -0.2", "may be part of a tolerance or of a sum: write a tolerance without "
                               "blanks, such as +0.1-0.2, and a sum with blanks around its signs"),
+    ("length A 40 +- 0.1", "may be a tolerance or a sum: write a tolerance behind a blank and "
+                           "without one in it, such as +-0.1, and a sum with blanks around its"),
+    ("length A 40+-0.1", "may be a tolerance or a sum"),
+    ("angle A B 90deg +- 0.5deg", "may be a tolerance or a sum"),
+    ("value W 40 +- 0.1", "may be a tolerance or a sum"),
     ("length A 40 -0.2-0.1", "has its greater deviation last: write it first, such as "),
     ("length A 40 +-1deg", "is no tolerance of a length: write millimetres, such as +-0.1"),
     ("angle A B 90deg +-0.1", "is no tolerance of an angle: write degrees, such as +-0.5deg")])

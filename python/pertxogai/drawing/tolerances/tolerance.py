@@ -37,6 +37,10 @@ def split_tolerance(text: str) -> tuple[str, str]:
     value, _, last = text.rpartition(" ")
     if value and (re.match(_BOTH, last) or re.match(_EACH, last)):
         return value, last
+    if "+-" in text:
+        raise WordFault("+-", "may be a tolerance or a sum: write a tolerance behind a blank and "
+                              "without one in it, such as +-0.1, and a sum with blanks around its "
+                              "signs")
     before = value.rpartition(" ")[2]
     if value and re.match(_SIGNED, last) and (re.match(_SIGNED, before) or re.match(_PLAIN, value)):
         raise WordFault(last, "may be part of a tolerance or of a sum: write a tolerance without "
