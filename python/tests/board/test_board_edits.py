@@ -308,6 +308,12 @@ def test_what_is_measured_goes_and_is_renamed() -> None:
         "# reference distance Base.start S2.end; label 2 -3")
 
 
+def test_an_angle_is_shown_as_it_is_written() -> None:
+    text = "segment A 0 0 40 0\nsegment B 0 0 -20 34\nangle A B 120.05deg\nlength A 12345.678\n"
+    found = edited(text, do="construction", shapes=["A"], construction=True)
+    assert [each["text"] for each in found["drawing"]["marks"]] == ["120.05°", "12345.678"]
+
+
 def test_the_marks_of_labels_and_of_what_is_measured() -> None:
     """From (0, 0) to (20, 30) it is 36.06 mm."""
     marks = edited(MEASURED, do="label", number=1, x=1.5, y=-12)["drawing"]["marks"]
