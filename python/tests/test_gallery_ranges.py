@@ -213,10 +213,12 @@ LEAST_ANGLE, MOST_ANGLE = .0001, 179.9999
     ("slotted-plate", "distance West", NO_LEAST, 57.001),
     ("slotted-plate", "x West", 7.999, 62.001), ("slotted-plate", "y West", 7.999, 42.001),
     # Three planets of 10 about a sun of 10; two of them are a quarter turn apart. They are drawn
-    # across the ring of 30, so that is no fault; but their middles, 20 away, stay within it.
-    ("sun-and-planets", "radius Sun", 19.999 / sqrt(2) - 10, 20.001),
-    ("sun-and-planets", "radius Ring", 19.999, NO_MOST),
-    ("sun-and-planets", "radius P1", NO_LEAST, 20.001),
+    # across the ring of 30, so that is no fault, wherever their middles lie. A planet reaches from
+    # the sun's rim to 20 beyond: it leaves a ring that it only touches, but for a micrometre.
+    ("sun-and-planets", "radius Sun", 19.999 / sqrt(2) - 10, 29.998),
+    ("sun-and-planets", "radius Ring", 10.002, NO_MOST),
+    # Planets of P are (10 + P) sqrt(2) apart, and cross where that is below 2 P - 0.001.
+    ("sun-and-planets", "radius P1", NO_LEAST, (10 * sqrt(2) + .001) / (2 - sqrt(2))),
     # The slot's head lies 62 from the right, 18 from the top, and 18 wide of the neck.
     ("t-slot", "length Bottom", 62, NO_MOST), ("t-slot", "length Right", 18, NO_MOST),
     ("t-slot", "length TopR", 6, 82), ("t-slot", "length NeckR", NO_LEAST, 32),
@@ -249,7 +251,8 @@ def test_ends_are_those_by_hand(name: str, words: str, low: float | None,
         assert -1e-9 <= high - row.high < row.step
 
 
-@pytest.mark.parametrize("name", ["washer", "d-shaft", "plate-by-values", "open-hinge"])
+@pytest.mark.parametrize("name", [
+    "washer", "d-shaft", "plate-by-values", "open-hinge", "sun-and-planets"])
 def test_the_page_is_as_it_is_printed(name: str, program: Program) -> None:
     path = f"python/tests/drawings/{name}.drawing"
     done = subprocess.run(["bench/ranges", "--table", "--jobs", "1", path], cwd=TOP,
