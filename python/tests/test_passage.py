@@ -25,11 +25,11 @@ def solution(points, radii):
     return Solution(places, {name: round(size * MM) for name, size in radii.items()})
 
 
-def is_clear(text, places, numbers=SHARES):
-    """places: of a number from 0 to 100 the points and the radii."""
+def is_clear(text, places, numbers=SHARES, is_free=False):
+    """places: of a number from 0 to 1 the points and the radii. is_free: whether all may turn."""
     drawing = read_drawing(text)
     edges = [Edges(drawing, solution(*places(each / 100))) for each in numbers]
-    things = Things.of(edges[0], frozenset(), False)
+    things = Things.of(edges[0], frozenset(), is_free)
     return Passage.of(things, numbers, [things.placed(each) for each in edges]).is_clear()
 
 
@@ -100,6 +100,25 @@ def test_an_edge_that_turns_about_on_the_way():
         return edge((20, 9), (0, 0), (10 - 60 * it + 60 * it * it, 0))
     assert not is_clear(EDGE, places)
     assert is_clear(EDGE, lambda it: edge((20, 9), (0, 0), (10 - 9 * it, 0)))
+
+
+@pytest.mark.parametrize(("most", "is_far"), [(70, True), (95, False)])
+def test_an_arm_that_turns_about_in_a_frame_that_turns_too(most, is_far):
+    """All is turned by 100 to 140 degrees. The arm lies 60 degrees off its drawn way in the frame
+    at both ends, and further between them: where it is 90 off, it runs the other way."""
+    def at(centre, size, way):
+        return centre[0] + size * cos(radians(way)), centre[1] + size * sin(radians(way))
+
+    def places(it):
+        turn = 100 + 40 * it
+        far, arm = at((0, 0), 100, turn), at((0, 0), 50, turn + 45)
+        way = turn + 60 + 4 * (most - 60) * it * (1 - it)
+        return {("A", Which.START): (0, 0), ("A", Which.END): far, ("B", Which.START): far,
+                ("B", Which.END): at(far, 100, turn + 90), ("Arm", Which.START): arm,
+                ("Arm", Which.END): at(arm, 5, way)}, {}
+
+    text = "segment A 0 0 100 0\nsegment B 100 0 100 100\nsegment Arm 35 35 40 35\n"
+    assert is_clear(text, places, (0, 20, 80, 100), is_free=True) is is_far
 
 
 def test_what_touches_all_the_way_is_clear():

@@ -3,6 +3,7 @@ edges, roundings, expressions that turn back, obstacles that are passed or hit."
 from __future__ import annotations
 
 from fractions import Fraction
+from math import asin, degrees, sqrt
 
 import pytest
 
@@ -435,3 +436,18 @@ def test_what_only_just_reaches_is_told_so() -> None:
     assert found.high.at == Fraction("92.499")
     assert found.high.fault.text.startswith(
         "Rod.end can't be placed: the distance only just reaches the line (step 3, reach ")
+
+
+def test_an_edge_that_turns_about_between_two_values_of_a_drawing_that_is_free() -> None:
+    """Arm, drawn at 45 degrees, is at most 90.2 off that, at 37. Beside it all turns with it, by T:
+    A to D have 2 * (100^2 + 80^2) of the sums by which T is found, Arm 70 * sqrt(2). Arm runs the
+    other way where it is a right angle off T: there 32800 sin T = 70 sqrt(2), and T = 0.172929
+    degrees, so (W - 37)^2 / 2 = 0.2 - T."""
+    found = range_of("value W 20\nsegment A 0 0 100 0\nsegment B A.end 100 80\n"
+                     "segment C B.end 0 80\nsegment D C.end A.start\nsegment Arm 40 30 47 37\n"
+                     "perpendicular A B\nperpendicular B C\nperpendicular C D\nlength A 100\n"
+                     "length B 80\ndistance Arm.start A 30\ndistance Arm.start D 40\n"
+                     "length Arm 10\nangle A Arm +(135.2deg - (W-37)*(W-37)/2*1deg)\n", "W")
+    turn = degrees(asin(70 * sqrt(2) / 32800))
+    assert float(found.high.at) == pytest.approx(37 - sqrt(2 * (.2 - turn)), abs=.001)
+    assert found.high.fault.text == "Arm runs the other way than it is drawn"

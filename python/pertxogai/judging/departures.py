@@ -127,10 +127,9 @@ class Comparison:
 
 def _reversals(edges: Sequence[Edge], free: bool) -> Iterator[Departure]:
     """The edges that run against their drawn way, once that is turned by the turn of all."""
-    turn = _turn(edges) if free else (1, 0)
+    turn = turn_of_all(edges, free)
     for edge in edges:
-        first, second = edge.drawn.way, edge.placed.way
-        if dot(turn, (dot(first, second), cross(first, second))) < 0:
+        if edge.runs(turn) < 0:
             yield Departure(DepartureKind.TURNED, (edge.name,))
 
 
@@ -141,11 +140,11 @@ def _gone(outline: Sequence[Edge]) -> Iterator[Departure]:
             yield Departure(DepartureKind.GONE, (edge.name,))
 
 
-def _turn(edges: Sequence[Edge]) -> Vector:
-    """The turn after which the drawn edges are nearest to the placed ones, by least squares:
-    its cosine and sine, times one number above 0. No turn where none fits better than
-    another."""
-    ways = [(edge.drawn.way, edge.placed.way) for edge in edges]
+def turn_of_all(edges: Sequence[Edge], free: bool) -> Vector:
+    """By what a drawing is turned as a whole: where it is free, the turn after which the drawn
+    edges are nearest to the placed ones, by least squares; its cosine and sine, times one number
+    above 0. No turn where it isn't free, or none fits better than another."""
+    ways = [(edge.drawn.way, edge.placed.way) for edge in edges if free]
     turn = sum(dot(*each) for each in ways), sum(cross(*each) for each in ways)
     return turn if any(turn) else (1, 0)
 

@@ -7,7 +7,7 @@ from itertools import combinations
 from typing import NamedTuple, Protocol
 
 from pertxogai.drawing import Arc, Distance, Drawing, PointRef, Segment, Which
-from pertxogai.exact import Vector, between, cross, whole_near
+from pertxogai.exact import Number, Vector, between, cross, dot, whole_near
 from pertxogai.judging.measure.solution import Solution
 
 LEAST_NM = 10
@@ -50,6 +50,12 @@ class Edge(NamedTuple):
     ends: tuple[PointRef, PointRef]
     drawn: Chord
     placed: Chord
+
+    def runs(self, turn: Vector) -> Number:
+        """How far it runs its drawn way, once that is turned as all is: times the lengths of the
+        drawn way and of that of the turn."""
+        first, second = self.drawn.way, self.placed.way
+        return dot(turn, (dot(first, second), cross(first, second)))
 
     def turns(self, other: Edge) -> bool | None:
         """Whether the corner with another edge turns to the other side than it is drawn; None where

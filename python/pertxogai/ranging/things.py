@@ -15,8 +15,8 @@ from numpy.typing import NDArray
 from pertxogai.drawing import (
     ORIGIN, X_AXIS, Y_AXIS, Arc, Circle, Constraint, Distance, Drawing, PointLineDistance, PointOn,
     PointRef, Segment, ShapeRef, Symmetric, Tangent, Which)
-from pertxogai.exact import between, cross, dot
-from pertxogai.judging.departures import Departure, DepartureKind, Warned
+from pertxogai.exact import Vector, between, cross, dot
+from pertxogai.judging.departures import Departure, DepartureKind, Warned, turn_of_all
 from pertxogai.judging.edge_points import AT_END_NM, EdgePoint, Endings, edge_points, is_beyond
 from pertxogai.judging.edges import Chord, Edge, Edges, leaders_of, name_of
 from pertxogai.judging.rims import Rim, Round
@@ -56,14 +56,16 @@ class Things:
     """What of a drawing may come to cross or to turn about, whatever its dimensions are. outline,
     rims: the edges, and the circles and arcs, that may cross. counts: of how many pieces each of
     these is. pairs: the places of two of them that are drawn apart and end nowhere together. runs:
-    what runs its drawn way: nothing, where nothing ties it to the datum's directions. meeting: each
-    two straight things that locate one point. on_edges: the points that lie on an edge."""
+    what runs its drawn way. is_free: whether nothing ties it to the datum's directions, so that it
+    runs as all is turned. meeting: each two straight things that locate one point. on_edges: the
+    points that lie on an edge."""
 
     outline: tuple[Segment, ...]
     rims: tuple[Circle | Arc, ...]
     counts: tuple[int, ...]
     pairs: Indices
     runs: tuple[Segment, ...]
+    is_free: bool
     meeting: tuple[tuple[Straight, Straight], ...]
     on_edges: tuple[EdgePoint, ...]
 
@@ -82,7 +84,7 @@ class Things:
                  if not _meet(endings, things[one], things[other])
                  and _may_cross(edges, things[one], things[other], known)]
         return Things(outline, rims, tuple(_count(each.drawn) for each in things),
-                      np.array(pairs, np.intp).reshape(-1, 2), () if is_free else segments,
+                      np.array(pairs, np.intp).reshape(-1, 2), segments, is_free,
                       tuple(_meeting(edges.drawing, segments)),
                       tuple(each for each in edge_points(edges.drawing) if _holds(edges, each)))
 
@@ -96,9 +98,11 @@ class Things:
         things = _placed(edges, self.outline, self.rims)
         pieces = np.array([piece for each, count in zip(things, self.counts)
                            for piece in _pieces(each.placed, count)], float).reshape(-1, 6)
+        running = [*map(edges.of, self.runs)]
+        turn = turn_of_all(running, self.is_free)
         turns = (_turn(_edge(edges, one), _edge(edges, other)) for one, other in self.meeting)
         rooms = (room for each in self.on_edges for room in _rooms(edges, each))
-        runs = np.array([*(_run(edges.of(each)) for each in self.runs), *turns, *rooms], float)
+        runs = np.array([*(_run(each, turn) for each in running), *turns, *rooms], float)
         return Placement(pieces[:, :4].reshape(-1, 2, 2), pieces[:, 4], pieces[:, 5], runs)
 
 
@@ -113,9 +117,9 @@ def _edge(edges: Edges, straight: Straight) -> Edge:
     return straight if isinstance(straight, Edge) else edges.of(straight)
 
 
-def _run(edge: Edge) -> float:
-    """How far an edge runs its drawn way."""
-    return float(dot(edge.drawn.way, edge.placed.way)) / (hypot(*edge.drawn.way) or 1)
+def _run(edge: Edge, turn: Vector) -> float:
+    """How far an edge runs its drawn way, once that is turned as all is."""
+    return float(edge.runs(turn)) / (hypot(*edge.drawn.way) * hypot(*turn) or 1)
 
 
 def _holds(edges: Edges, one: EdgePoint) -> bool:
