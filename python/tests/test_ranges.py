@@ -524,12 +524,12 @@ def test_ranges_are_told_in_lines_and_as_json(asked, tmp_path, capsys):
     assert told == (
         "plate: 2 ranges\n"
         "  Bore: from 0.001 to 60.002 mm, now 12, sampled at N values; by numbers no two shapes "
-        "without a common end cross, and none turns about, between them\n"
+        "that are drawn apart and share no end come to cross, and none turns about, between them\n"
         "    below: no length is below 0.001 mm\n"
         "    above: Bottom and Hole cross, but are drawn apart\n"
         "  constraint 8 (x Hole.centre 45): from 5.999 to 114.001 mm, now 45, sampled at "
-        "N values; by numbers no two shapes without a common end cross, and none turns about, "
-        "between them\n"
+        "N values; by numbers no two shapes that are drawn apart and share no end come to cross, "
+        "and none turns about, between them\n"
         "    below: Left and Hole cross, but are drawn apart\n"
         "    above: Right and Hole cross, but are drawn apart\n")
     assert main(["range", str(path), "Bore", "--json"]) == 0

@@ -18,8 +18,8 @@ class RangeJson(TypedDict):
     `deg`, or nothing; low, high: the last numbers with which the drawing stays as it is; low_why,
     high_why: why it doesn't one step beyond (a micrometre, a ten-thousandth of a degree, or a
     thousandth of what has no unit), or that rounding may break a constraint further on; sampled:
-    how many values were tried; clear_by_numbers: whether by numbers no two shapes without a common
-    end cross, and none turns about, between these."""
+    how many values were tried; clear_by_numbers: whether by numbers no two shapes that are drawn
+    apart and share no end come to cross, and none turns about, between these."""
 
     of: str
     present: float
@@ -55,8 +55,8 @@ def ranges_lines(name: str, drawing: Drawing, ranges: Sequence[Range]) -> Iterat
 
 def sampled_text(each: Range) -> str:
     """At how many values a range was sampled, and what is known of those between."""
-    between = ("no two shapes without a common end cross, and none turns about," if each.is_clear
-               else "a shape may cross another or turn about")
+    between = ("no two shapes that are drawn apart and share no end come to cross, and none turns "
+               "about," if each.is_clear else "a shape may cross another or turn about")
     return f"sampled at {each.tried} values; by numbers {between} between them"
 
 
