@@ -376,6 +376,17 @@ def test_the_bar_is_round_and_takes_at_most_a_third(
     assert (max(spots) - min(spots)) / 96 * 25.4 == pytest.approx(length * float(scale), abs=0.01)
 
 
+@pytest.mark.parametrize("radius_m", [3, 30, 1000])
+def test_a_page_of_any_size_has_few_cells(radius_m: int) -> None:
+    """Of 2 m each way a page to scale has as many cells as any larger one: 200 along each side, and
+    two or three that the edge of a shape touches besides."""
+    scene = Scene("ring", (Ring((0.0, 0.0), radius_m * 1000.0, "Ring"),), (), ())
+    page = Page.to_scale(scene, 1.0)
+    texts = Texts(page, [Figure.of(mark, page) for mark in scene.marks], [])
+    assert 150 ** 2 < len(texts.figures) < 203 ** 2
+    assert "Ring" in texts_of(picture_of(scene).to_scale(Fraction(1)).svg)
+
+
 @pytest.mark.parametrize("name", ["triangle", "square", "d-shaft", "bent-sheet"])
 @pytest.mark.parametrize("scale", [1, 2, 5])
 def test_no_name_is_cut_off_on_a_page_that_is_little_wider(name: str, scale: int) -> None:

@@ -36,9 +36,10 @@ class Texts:
     ) -> None:
         self.page = page
         self.written: list[Text] = []
-        self.boxes: Cells[Box] = Cells()
-        self.figures: Cells[Figure] = Cells()
-        self.bars: Cells[tuple[PointMm, PointMm]] = Cells()
+        side = max(page.width, page.height)
+        self.boxes: Cells[Box] = Cells(side)
+        self.figures: Cells[Figure] = Cells(side)
+        self.bars: Cells[tuple[PointMm, PointMm]] = Cells(side)
         for figure in figures:
             _add_figure(self.figures, figure)
         for bar in bars:
