@@ -10,20 +10,22 @@ from pertxogai.board.construction import PlayedConstruction
 from pertxogai.board.drawing_json import Sight
 from pertxogai.board.judgement_json import places_shown
 from pertxogai.board.panel import Untold
+from pertxogai.board.held import redrawn
 from pertxogai.board.placed_parts import LaidPart, parts_laid, shown_between
 from pertxogai.board.protocol import Judgement as JudgementJson, Places
-from pertxogai.drawing import Drawing, Parameter
+from pertxogai.drawing import Drawing, Parameter, Place, um_of_mm
 from pertxogai.exits import MissingLibrary
 from pertxogai.judging import (
-    Judgement, TooMuch, WeighedJudgement, too_much, weighed, with_choices)
+    DrawingRefused, Judgement, TooMuch, WeighedJudgement, too_much, weighed, with_choices)
 from pertxogai.judging.edited import EditedDrawing
 from pertxogai.judging.finding import Finding
 from pertxogai.judging.judged_drawing import JudgedDrawing
 from pertxogai.judging.judgement import judge_edited
 from pertxogai.judging.measure import Solution
+from pertxogai.judging.measure.solution import MissingPlace
 from pertxogai.judging.settled import solution_of
 from pertxogai.judging.shortage import shortage_of
-from pertxogai.language import Refusal
+from pertxogai.language import NotHeld, Refusal
 from pertxogai.language.claim import Claim
 from pertxogai.language.flips import Flip, Flips
 from pertxogai.output.construction import Construction
@@ -187,6 +189,16 @@ class BoardDrawing:
         if self.judgement.solution is None and self.parts:
             return shown_between(self.drawing, self.parts)
         return self.judgement.solution
+
+    def as_shown(self) -> Drawing:
+        """The drawing with its places where it is shown; as it is drawn where nothing is known of
+        these."""
+        try:
+            where = DrawnPlaces(self.drawing, self.shown())
+            return redrawn(self.drawing, lambda ref: Place(*map(um_of_mm, where.at(ref))),
+                           lambda name: um_of_mm(where.radius(name)))
+        except (ProgramError, DrawingRefused, Refusal, NotHeld, MissingPlace):
+            return self.drawing
 
     def placed(self, before: BoardDrawing | None) -> Places | None:
         """Where all lies as it is placed, as the page is told it; as it was told of a drawing

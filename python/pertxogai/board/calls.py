@@ -28,6 +28,7 @@ from pertxogai.board.protocol import (
     Answer, ChangedDrawing, Completed, Dragged, Dxf, Edited, Fitted, Judged, Offered, Opened,
     OtherShape, Planned, Ranged, Svg, Trouble, Verified, Weighed)
 from pertxogai.board.ranges import range_shown
+from pertxogai.board.trimming import Extend, Trim
 from pertxogai.completing import complete
 from pertxogai.drawing import Drawing, DrawingRefusal, DrawingUnsound, Place, WordFault, checked
 from pertxogai.files.contents import FileRefusal
@@ -177,6 +178,8 @@ def _edit(desk: Desk, given: Fields) -> Edited:
     """The text that an edit makes of a text, and all that `judge` tells of it."""
     known = desk.judged(given.text("text"))
     edit = read_edit(known.drawing, Fields.of(given.values.get("edit")))
+    if isinstance(edit, (Trim, Extend)):
+        edit = replace(edit, shown=known.as_shown())
     return desk.edited(edit.on(known.drawing), known, given)
 
 

@@ -65,6 +65,11 @@ class Round:
         """Whether a place so far round lies on it, and in no end."""
         return not self.is_arc or NEAR < along < self.sweep - NEAR
 
+    def at(self, along: float) -> PointUm:
+        """The place so far round."""
+        (x, y), turn = self.centre, self.first + along
+        return x + self.radius * math.cos(turn), y + self.radius * math.sin(turn)
+
 
 Edge = Straight | Round
 

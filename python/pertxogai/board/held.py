@@ -2,7 +2,7 @@
 rank, by numbers, where the drawing is placed. What comes of them the program says."""
 from __future__ import annotations
 
-from collections.abc import Iterable, Sequence
+from collections.abc import Callable, Iterable, Sequence
 from dataclasses import dataclass, replace
 from fractions import Fraction
 from typing import TYPE_CHECKING
@@ -12,7 +12,6 @@ from pertxogai.board.copying import Copy
 from pertxogai.board.line_reader import asked
 from pertxogai.drawing import Circle, Constraint, Drawing, Place, PointRef, WordFault, points_of
 from pertxogai.drawing.named_shapes import spot_of
-from pertxogai.judging.measure import Solution
 
 if TYPE_CHECKING:
     from pertxogai.search.arrays import Array
@@ -34,18 +33,24 @@ def placed_by_numbers(drawing: Drawing) -> Drawing:
     found = solve(equations)
     if not found.is_solved():
         return drawing
-    return _redrawn(drawing, solution_of(equations.unknowns, found.x))
+    solution = solution_of(equations.unknowns, found.x)
+
+    def at(ref: PointRef) -> Place:
+        x, y = solution.spot(ref)
+        return Place(Fraction(x) / 1000, Fraction(y) / 1000)
+    return redrawn(drawing, at, lambda name: Fraction(solution.radius(name)) / 1000)
 
 
-def _redrawn(drawing: Drawing, solution: Solution) -> Drawing:
+def redrawn(drawing: Drawing, at: Callable[[PointRef], Place],
+            radius_um: Callable[[str], Fraction]) -> Drawing:
+    """A drawing with its points and its circles' radii drawn elsewhere."""
     shapes = []
     for shape in drawing.geometry:
         if isinstance(shape, Circle):
-            shape = replace(shape, radius_um=Fraction(solution.radius(shape.name)) / 1000)
+            shape = replace(shape, radius_um=radius_um(shape.name))
         for ref in points_of(shape):
-            x, y = solution.spot(ref)
             if not isinstance(spot_of(shape, ref.which), PointRef):
-                shape = with_spot(shape, ref.which, Place(Fraction(x) / 1000, Fraction(y) / 1000))
+                shape = with_spot(shape, ref.which, at(ref))
         shapes.append(shape)
     return replace(drawing, geometry=tuple(shapes))
 

@@ -1,5 +1,5 @@
 """A piece of an edge that is taken away between the edges that cross it, and a segment that goes
-on to the next edge that it meets. Where edges cross is found on the drawn places, by numbers."""
+on to the next edge that it meets. Where edges cross is found where they are shown, by numbers."""
 from __future__ import annotations
 
 from collections.abc import Iterator
@@ -21,7 +21,7 @@ from pertxogai.drawing.mentions import refs_of
 @dataclass(frozen=True)
 class Crossing:
     """Where an edge is met: how far along it, as a share of a segment or in radians round a rim,
-    the place, and the shape that it meets there."""
+    the place that is so far along it as it is drawn, and the shape that it meets there."""
 
     along: float
     at: PointUm
@@ -30,17 +30,20 @@ class Crossing:
 
 @dataclass(frozen=True)
 class Trim:
-    """Takes the piece of an edge away on which a place lies, between what crosses it there."""
+    """Takes the piece of an edge away on which a place lies, between what crosses it there. shown:
+    the drawing where it is shown; None for where it is drawn."""
 
     shape: str
     at: Place
+    shown: Drawing | None = None
 
     def on(self, drawing: Drawing) -> Drawing:
         """The drawing without that piece; without the edge where nothing crosses it. Raises
         WordFault where there is no such edge."""
-        edge = edge_of(drawing, self.shape)
+        shown = self.shown or drawing
+        edge = edge_of(shown, self.shape)
         along = edge.along(numbers(self.at))
-        found = sorted(_crossings(drawing, edge), key=lambda each: each.along)
+        found = sorted(_crossings(drawing, shown, edge), key=lambda each: each.along)
         if not found:
             return without(drawing, frozenset({self.shape}), frozenset())
         return _without_piece(drawing, edge, found, along)
@@ -48,18 +51,21 @@ class Trim:
 
 @dataclass(frozen=True)
 class Extend:
-    """Has a segment go on beyond the end that a place is nearer to, to what it meets next."""
+    """Has a segment go on beyond the end that a place is nearer to, to what it meets next. shown:
+    as for `Trim`."""
 
     shape: str
     at: Place
+    shown: Drawing | None = None
 
     def on(self, drawing: Drawing) -> Drawing:
         """The drawing with it. Raises WordFault where it isn't a segment, or meets nothing."""
-        edge = edge_of(drawing, self.shape)
+        shown = self.shown or drawing
+        edge = edge_of(shown, self.shape)
         if not isinstance(edge, Straight):
             raise WordFault(self.shape, "is no segment: only a segment goes on")
         is_end = edge.along(numbers(self.at)) > 0.5
-        beyond = [each for each in _crossings(drawing, edge, beyond=True)
+        beyond = [each for each in _crossings(drawing, shown, edge, beyond=True)
                   if (each.along > 1 + NEAR if is_end else each.along < -NEAR)]
         if not beyond:
             raise WordFault(self.shape, "meets nothing on that side")
@@ -67,12 +73,23 @@ class Extend:
         return _ended(drawing, PointRef(self.shape, Which.END if is_end else Which.START), nearest)
 
 
-def _crossings(drawing: Drawing, edge: Edge, beyond: bool = False) -> Iterator[Crossing]:
-    """Where an edge is crossed between its ends; also where the line through it is, `beyond`."""
-    for name, place in met(drawing, edge):
+def _crossings(drawing: Drawing, shown: Drawing, edge: Edge,
+               beyond: bool = False) -> Iterator[Crossing]:
+    """Where an edge is crossed between its ends, as it is shown; also where the line through it is,
+    `beyond`."""
+    drawn = edge_of(drawing, edge.name)
+    for name, place in met(shown, edge):
         along = edge.along(place)
         if beyond or edge.is_within(along):
-            yield Crossing(along, place, name)
+            yield Crossing(along, _drawn_at(drawn, edge, along), name)
+
+
+def _drawn_at(drawn: Edge, shown: Edge, along: float) -> PointUm:
+    """The place of an edge as it is drawn, as far along it as one of the same edge as it is
+    shown."""
+    if isinstance(drawn, Round) and isinstance(shown, Round):
+        return drawn.at(along / shown.sweep * drawn.sweep)
+    return drawn.at(along)
 
 
 def _without_piece(drawing: Drawing, edge: Edge, found: list[Crossing], along: float) -> Drawing:

@@ -6,6 +6,9 @@ import pytest
 
 from test_board_edits import lines, trouble
 
+from pertxogai.board.calls import Desk
+from pertxogai.program import Program
+
 CROSS = """segment A 0 0 40 0
 segment L 10 -10 10 10
 segment R 30 -10 30 10
@@ -62,6 +65,51 @@ def test_a_check_goes_with_the_end_or_the_length_that_it_measures() -> None:
         "check End distance S1.end L.end 1 .. 99", checks[2], "segment A 0 0 10 0"]
     text = "check End distance A.end L.end 1 .. 99\n" + CROSS + "segment T A.end 60 20\n"
     assert trim(text, "A", 35, 0)[0] == "check End distance T.start L.end 1 .. 99"
+
+
+ELSEWHERE = """segment A 0 0 100 0
+segment B 50 -20 50 30
+coincident A.start Origin
+horizontal A
+vertical B
+length A 100
+x B.start 80
+y B.start 20
+length B 50
+"""
+"""B is drawn at x = 50, and placed at 80."""
+
+
+def cut(program: Program, text: str, **edit: object) -> list[str]:
+    found = Desk(program).answer("edit", {"text": text, "edit": edit})
+    assert "text" in found, found
+    return str(found["text"]).splitlines()[1:]
+
+
+def test_the_piece_goes_that_is_clicked_where_it_is_shown(program: Program) -> None:
+    """At x = 70, left of the crossing. The new end is drawn as far along A as it is placed."""
+    made = cut(program, ELSEWHERE, do="trim", shape="A", x=70, y=0)
+    assert made[0] == "segment A 80 0 100 0" and made[-1] == "on A.start B"
+    made = cut(program, ELSEWHERE, do="trim", shape="A", x=85, y=0)
+    assert made[0] == "segment A 0 0 80 0" and made[-1] == "on A.end B"
+
+
+def test_a_segment_goes_on_to_what_it_meets_where_it_is_shown(program: Program) -> None:
+    """To C, which is drawn behind B, and placed before it, at 60 of the placed 100 from 20 on: one
+    and a half times as far along A as that goes."""
+    text = ELSEWHERE.replace("A 0 0 100 0", "A 0 0 30 0").replace("length A 100", "length A 40") + (
+        "segment C 70 -20 70 30\nvertical C\nx C.start 60\ny C.start 20\nlength C 50\n")
+    made = cut(program, text, do="extend", shape="A", x=39, y=0)
+    assert made[0] == "segment A 0 0 45 0" and made[-1] == "on A.end C"
+
+
+def test_the_piece_of_a_rim_goes_that_is_clicked_where_it_is_shown(program: Program) -> None:
+    """Of a circle of radius 10, drawn with 20, which a line at x = 6 crosses at 8 and -8, as an
+    angle of atan(8/6); drawn so far round it ends at 12 and 16."""
+    text = ("circle C 0 0 20\nsegment A 12 -30 12 30\ncoincident C.centre Origin\nradius C 10\n"
+            "vertical A\nx A.start 6\ny A.start 20\nlength A 40\n")
+    made = cut(program, text, do="trim", shape="C", x=10, y=0)
+    assert made[0] == "arc C 0 0 12 16 12 -16"
 
 
 def test_of_a_circle_an_arc_is_left() -> None:
