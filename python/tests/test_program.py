@@ -1,6 +1,7 @@
 """The program: how it is found, its statuses, and what is said where it gives no answer."""
 from __future__ import annotations
 
+import math
 import os
 import stat
 import subprocess
@@ -8,6 +9,7 @@ import sys
 import time
 from collections.abc import Callable
 from concurrent.futures import ThreadPoolExecutor
+from dataclasses import replace
 from pathlib import Path
 
 import pytest
@@ -197,6 +199,12 @@ def test_a_program_that_hangs(tmp_path) -> None:
     time.sleep(2.6)
     assert not (tmp_path / "left").exists()  # what it started was stopped too
     assert time.monotonic() - begin < 20
+
+
+@pytest.mark.parametrize("seconds", [3e6, 1e300, math.inf])
+def test_a_limit_of_time_may_be_as_long_as_one_likes(program: Program, seconds: float) -> None:
+    answer = replace(program, seconds=seconds).ask(["check"], TRIANGLE)
+    assert answer.status is Status.DONE
 
 
 BUSY = "import time\nwhile time.process_time() < 0.3: pass"

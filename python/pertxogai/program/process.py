@@ -17,6 +17,8 @@ from pertxogai.program.errors import MissingProgram, ProgramSpoke, ProgramTimedO
 MEBIBYTE = 1 << 20
 MOST_BYTES = 64 * MEBIBYTE
 CHUNK = 1 << 16
+LONGEST = 3600.0
+"""The most seconds of one wait: no wait for pipes takes more than some weeks."""
 
 
 class Limits(NamedTuple):
@@ -133,7 +135,7 @@ class _Talk:
             for pipe in self.written:
                 ready.register(pipe, selectors.EVENT_READ)
             while ready.get_map():
-                for key, _ in ready.select(self._seconds_left()):
+                for key, _ in ready.select(min(self._seconds_left(), LONGEST)):
                     self._serve(ready, key.fileobj)  # type: ignore[arg-type]
         try:
             code = _wait(self.process, self._seconds_left())
