@@ -707,6 +707,17 @@ def test_what_is_left_out_and_holds_on_the_places_of_the_rest_repeats_it(program
     assert found.repeats == ("Half",) and found.left_out == ()
 
 
+def test_the_ends_of_an_arc_that_are_left_out_are_measured(program):
+    """B is the mirror image of A, of radius 12, so that its ends lie on its circle too."""
+    found = judge(read_drawing("arc A 10 -5 20 0 0 0\narc B 10 5 A.end A.start\n"
+                               "coincident A.end Origin\non A.start XAxis\nx A.start 20\n"
+                               "radius A 12\nsymmetric A B about XAxis\n"), program)
+    left, = found.left_out_measured
+    assert found.verdict is Verdict.WELL and left.name == "the ends of B"
+    assert left.off is not None and left.off.amount <= 2 and left.holds()
+    assert found.held == ("the ends of B",) and found.left_out == ()
+
+
 def test_what_is_left_out_and_is_off_on_the_places_of_the_rest_contradicts_it(program):
     """The middle of A and B lies 6 * (36 + 144 - 169) / (2 * 6 * 12) from M, towards C."""
     found = judge(read_drawing(HALVED + "distance A M 6\ndistance B M 6\n"), program)

@@ -6,13 +6,13 @@ from dataclasses import dataclass, field, replace
 from functools import cached_property
 from typing import TYPE_CHECKING
 
-from pertxogai.drawing import Circle, Drawing
+from pertxogai.drawing import Circle, Drawing, ShapeRef
 from pertxogai.judging.departures import Warned
 from pertxogai.judging.edited import EditedDrawing
 from pertxogai.judging.freedoms import Freedoms, Gone, Twice, Whole, freedoms
 from pertxogai.judging.jets import TooMany
 from pertxogai.judging.limits import EncodingRefused, check_fits
-from pertxogai.judging.measure.deviation import Deviation, Unit
+from pertxogai.judging.measure.deviation import Because, Deviation, Implied, Unit
 from pertxogai.judging.measure.limit import Limit
 from pertxogai.judging.measure.measuring import Measurement, measure
 from pertxogai.judging.measure.solution import Solution
@@ -43,8 +43,8 @@ FINE_NM = 2
 
 @dataclass(frozen=True)
 class LeftOut:
-    """A constraint that couldn't be encoded, by its name, and its deviation at the positions of the
-    rest; None if there are no positions, or for the ends of an arc."""
+    """A constraint, or the ends of an arc, that couldn't be encoded, by its name, and its deviation
+    at the positions of the rest; None if there are no positions."""
 
     name: str
     owner: Owner
@@ -162,13 +162,16 @@ class Judgement:
     def left_out_measured(self) -> tuple[LeftOut, ...]:
         """The constraints that couldn't be encoded, with their measured deviations."""
         owners = sorted(each for each in self.asked.spelled.left_out if each.number)
-        return tuple(LeftOut(self.names.owner(each), each,
-                             None if each.shape else self._off(each.number),
-                             self.limit, self._twice(each) is Twice.WHOLE) for each in owners)
+        return tuple(LeftOut(self.names.owner(each), each, self._off(each), self.limit,
+                             self._twice(each) is Twice.WHOLE) for each in owners)
 
-    def _off(self, number: int) -> Deviation | None:
-        """How far a constraint is off at the solved position."""
-        return self.limit.told(each for each in self.deviations if each.number == number)
+    def _off(self, owner: Owner) -> Deviation | None:
+        """How far a constraint, or the ends of an arc, are off at the solved position."""
+        if not owner.shape:
+            return self.limit.told(each for each in self.deviations if each.number == owner.number)
+        arc = ShapeRef(self.names.drawing.geometry[owner.number - 1].name)
+        return self.limit.told(each for each in self.deviations if isinstance(each.of, Implied)
+                               and each.of.because is Because.RIM and each.of.to == arc)
 
     def _twice(self, owner: Owner) -> Twice | None:
         """What of a constraint the others say too, by rank; None where the rank isn't known."""
