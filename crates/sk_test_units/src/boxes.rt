@@ -26,14 +26,13 @@ pub fn same(rt: &impl Abort, found: Answer<[Ends; 3]>, wanted: Answer<[Ends; 3]>
 
 /// The ends are all at so many millimetres, on a grid with so many units to the millimetre.
 pub fn lies_at(rt: &impl Abort, unit: i128, found: Answer<[Ends; 3]>, [x, y, z]: [i8; 3]) {
-    let wanted = [exact(rt, unit, x), exact(rt, unit, y), exact(rt, unit, z)];
+    let wanted = [exact(unit, x), exact(unit, y), exact(unit, z)];
     same(rt, found, Ok(wanted));
 }
 
 /// Both ends at so many millimetres.
-pub fn exact(rt: &impl Abort, unit: i128, mm: i8) -> Ends {
-    assert!(rt; 0 < unit && unit <= 274877906944);
-    let end = unit * i128::from(mm);
+fn exact(unit: i128, mm: i8) -> Ends {
+    let end = unit.wrapping_mul(i128::from(mm));
     (end, end)
 }
 

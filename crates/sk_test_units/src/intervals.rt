@@ -52,41 +52,60 @@ fn refused<G: Grid>(rt: &impl Abort, answer: Answer<G>, cause: Option<Cause>) {
     assert!(rt; answer.err() == cause);
 }
 
-/// What is refused, and what just isn't, on a grid with so many units to the millimetre.
-fn refuses<G: Grid>(rt: &impl Abort, unit: i128) -> Result<(), Cause> {
-    assert!(rt; 0 < unit && unit <= 274877906944);
+/// What has no root or no quotient, on a grid whose -1 mm is so many units.
+fn refuses<G: Grid>(rt: &impl Abort, below: i128) {
     let (zero, one) = (Iv::<G>::whole(0), Iv::<G>::whole(1));
-    let flat = Cause::Flat { lo: 0, hi: 0 };
-    refused(rt, zero.sqrt(), Some(flat));
-    refused(rt, one.div(zero), Some(flat));
+    let flat = Some(Cause::Flat { lo: 0, hi: 0 });
+    refused(rt, zero.sqrt(), flat);
+    refused(rt, one.div(zero), flat);
     let below = Cause::Gap {
-        lo: -unit,
-        hi: -unit,
+        lo: below,
+        hi: below,
     };
     refused(rt, one.neg().sqrt(), Some(below));
-    let around_zero = um::<G>(-1).add(um(1))?;
-    let flat = Cause::Flat { lo: -1, hi: 1 };
-    refused(rt, one.div(around_zero), Some(flat));
+    let around_zero = there(rt, um::<G>(-1).add(um(1)));
+    let flat = Some(Cause::Flat { lo: -1, hi: 1 });
+    refused(rt, one.div(around_zero), flat);
+}
 
-    let out = Some(Cause::Range);
-    let large = Iv::<G>::whole(TWO_TO_25);
-    let (limit, larger) = (large.mul(large)?, large.add(large)?);
+fn there<G: Grid>(rt: &impl Abort, answer: Answer<G>) -> Iv<G> {
+    answer.expect(rt, "an interval")
+}
+
+/// What just isn't out of range, and what is.
+fn bounds<G: Grid>(rt: &impl Abort) {
+    let (out, one, large) = (Some(Cause::Range), Iv::whole(1), Iv::whole(TWO_TO_25));
+    let limit = there::<G>(rt, large.mul(large));
+    let larger = there::<G>(rt, large.add(large));
     refused(rt, larger.mul(larger), out);
     refused(rt, limit.add(one), out);
     refused(rt, limit.sub(one), None);
     refused(rt, limit.neg().sub(one), out);
-    let length = Iv::<G>::whole(TWO_TO_40);
-    refused(rt, length.length_box(), None);
-    refused(rt, length.add(one)?.length_box(), out);
-    refused(rt, Iv::<G>::whole(-2).normal_box(), None);
-    let normal = Iv::<G>::whole(2).add(um(1))?;
+}
+
+/// The same, of the lengths and the normals that a box may have.
+fn bounds_of_boxes<G: Grid>(rt: &impl Abort) {
+    let (out, one, length) = (Some(Cause::Range), Iv::whole(1), Iv::whole(TWO_TO_40));
+    refused::<G>(rt, length.length_box(), None);
+    refused(rt, there::<G>(rt, length.add(one)).length_box(), out);
+    refused::<G>(rt, Iv::whole(-2).normal_box(), None);
+    let normal = there::<G>(rt, Iv::whole(2).add(um(1)));
     refused(rt, normal.normal_box(), out);
-    Ok(())
 }
 
 #[test]
 fn refusals_on_each_grid(rt: HostRuntime) {
-    assert!(rt; refuses::<G16>(&rt, 65536).is_ok());
-    assert!(rt; refuses::<G27>(&rt, 134217728).is_ok());
-    assert!(rt; refuses::<G38>(&rt, 274877906944).is_ok());
+    refuses::<G16>(&rt, -65536);
+    refuses::<G27>(&rt, -134217728);
+    refuses::<G38>(&rt, -274877906944);
+}
+
+#[test]
+fn bounds_on_each_grid(rt: HostRuntime) {
+    bounds::<G16>(&rt);
+    bounds::<G27>(&rt);
+    bounds::<G38>(&rt);
+    bounds_of_boxes::<G16>(&rt);
+    bounds_of_boxes::<G27>(&rt);
+    bounds_of_boxes::<G38>(&rt);
 }

@@ -55,14 +55,9 @@ fn placed_line(x: i8, y: i8) -> At
 }
 
 fn turns_to(rt: &impl Abort, x: i8, y: i8, drawn: Sign, placed: i8) {
-    assert!(rt;
-        turn_drawn(&point(0, 0), &point(4, 0), &point(x, y)) == drawn,
-        "at {x} {y}"
-    );
-    assert!(rt;
-        turn_placed(spot(0, 0), spot(4, 0), spot(x, y)) == placed,
-        "at {x} {y}"
-    );
+    let seen = turn_drawn(&point(0, 0), &point(4, 0), &point(x, y));
+    let found = turn_placed(spot(0, 0), spot(4, 0), spot(x, y));
+    assert!(rt; seen == drawn && found == placed, "at {x} {y}");
 }
 
 #[test]
@@ -74,24 +69,12 @@ fn turns(rt: HostRuntime) {
 
 /// A point at (3, way) beside a line, and the way along it from (3, 7) to (end, 2).
 fn goes(rt: &impl Abort, way: i8, end: i8, drawn: Sign, placed: i8) {
-    assert!(rt;
-        side_drawn(&line(10, 0), &point(3, way)) == drawn,
-        "at {way}"
-    );
-    assert!(rt;
-        side_placed(placed_line(10, 0), spot(3, way)) == placed,
-        "at {way}"
-    );
-    let (from, to) = (point(3, 7), point(end, 2));
-    assert!(rt;
-        advance_drawn(&line(10, 0), &from, &to) == drawn,
-        "to {end}"
-    );
-    let (from, to) = (spot(3, 7), spot(end, 2));
-    assert!(rt;
-        advance_placed(placed_line(10, 0), from, to) == placed,
-        "to {end}"
-    );
+    let side = side_drawn(&line(10, 0), &point(3, way));
+    let advance = advance_drawn(&line(10, 0), &point(3, 7), &point(end, 2));
+    assert!(rt; side == drawn && advance == drawn, "drawn at {way}");
+    let side = side_placed(placed_line(10, 0), spot(3, way));
+    let advance = advance_placed(placed_line(10, 0), spot(3, 7), spot(end, 2));
+    assert!(rt; side == placed && advance == placed, "placed at {way}");
 }
 
 #[test]
@@ -107,14 +90,9 @@ fn senses(rt: &impl Abort, length: i8, (x, y): (i8, i8), q: i8, drawn: Sign, pla
         p: 1,
         q: i32::from(q),
     };
-    assert!(rt;
-        sense_drawn(&line(length, 0), &line(x, y), ratio) == drawn,
-        "at {x} {y}"
-    );
-    assert!(rt;
-        sense_placed(placed_line(length, 0), placed_line(x, y), ratio) == placed,
-        "at {x} {y}"
-    );
+    let seen = sense_drawn(&line(length, 0), &line(x, y), ratio);
+    let found = sense_placed(placed_line(length, 0), placed_line(x, y), ratio);
+    assert!(rt; seen == drawn && found == placed, "at {x} {y}");
 }
 
 #[test]

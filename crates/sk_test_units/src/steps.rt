@@ -3,7 +3,7 @@ ghost use Rattle.std.specs.Prelude.{◌≡◌, IsTrue};
 ghost use Rattle.sk_steps.specs.Leaves.{AreMeasured, IsSoundMeasure};
 ghost use Rattle.sk_steps.specs.ThirdElement.{HasConstruction};
 
-use crate::boxes::{Answer, Ends, are_alike, ends_of, exact, lies_at, same};
+use crate::boxes::{Answer, Ends, are_alike, ends_of, lies_at, same};
 use sk_base::{ConId, Edge, Elem, Kind, Measure, Ratio, Sign, Um};
 use sk_interval::{Cause, G16, G27, G38, Grid, Iv};
 use sk_steps::{BoxOf, Given, What, leaf_boxes, settle, third_element};
@@ -52,9 +52,12 @@ fn third<G: Grid>(rt: &impl Abort, three: Three, root: Sign) -> Answer<[Ends; 3]
     let (u, v) = frame::<G>(rt, base, false);
     let (ux, wx) = frame(rt, first, w_is_first);
     let (vy, wy) = frame(rt, second, w_is_first);
-    assert!(rt; are_alike(ux.kind(), u.kind()) && are_alike(vy.kind(), v.kind()));
-    assert!(rt; are_alike(wy.kind(), wx.kind()));
-    assert!(rt; has_construction(u.kind(), v.kind(), wx.kind()));
+    assert!(rt;
+        are_alike(ux.kind(), u.kind())
+            && are_alike(vy.kind(), v.kind())
+            && are_alike(wy.kind(), wx.kind())
+            && has_construction(u.kind(), v.kind(), wx.kind())
+    );
     ends_of(&third_element(&Given {
         u,
         v,
@@ -129,34 +132,41 @@ fn are_near(ends: Ends, place: i128) -> bool {
     ends.0.abs_diff(place) <= 4 && ends.1.abs_diff(place) <= 4
 }
 
-fn are_at(ends: Ends, place: i128) -> bool {
-    ends.0 == place && ends.1 == place
-}
-
-/// Slanted lines on a grid with so many units to the millimetre; 0.6 and 0.8 are so many units, rounded down. One touches a
-/// circle of radius 5 about the origin and one of radius 2, 5 further along the first axis.
-fn slanted<G: Grid>(rt: &impl Abort, unit: i128, tenths_6: i128, tenths_8: i128) {
-    assert!(rt; 0 < tenths_6 && tenths_6 < tenths_8 && tenths_8 < unit);
-    assert!(rt; unit <= 274877906944);
+/// The line that touches a circle of radius 5 about the origin and one of radius 2, 5 further along the first axis: the parts of
+/// its normal are near to -0.6 and 0.8, in units, and it is 5 mm off.
+fn touches<G: Grid>(rt: &impl Abort, normal: (i128, i128), off: i128) {
     let centres = Measure::PointPoint(Um(5000));
     let belt = [centres, along(5000, Sign::Plus), along(2000, Sign::Plus)];
     let [a, b, c] = match third::<G>(rt, (belt, false), Sign::Plus) {
         Ok(ends) => ends,
         Err(_) => panic!(rt; "a belt"),
     };
-    assert!(rt; are_near(a, -tenths_6) && are_near(b, tenths_8));
-    assert!(rt; are_at(c, exact(rt, unit, -5).0));
-    let slope = Measure::LineLine(Ratio { p: 3, q: 4 }, Sign::Minus);
-    let (_, line) = frame::<G>(rt, slope, false);
-    let wanted = [(tenths_6, tenths_6 + 1), (-1 - tenths_8, -tenths_8), (0, 0)];
-    same(rt, ends_of(&Ok(line)), Ok(wanted));
+    assert!(rt; are_near(a, normal.0) && are_near(b, normal.1) && c == (off, off));
 }
 
 #[test]
-fn slanted_lines_on_each_grid(rt: HostRuntime) {
-    slanted::<G16>(&rt, 65536, 39321, 52428);
-    slanted::<G27>(&rt, 134217728, 80530636, 107374182);
-    slanted::<G38>(&rt, 274877906944, 164926744166, 219902325555);
+fn belts_on_each_grid(rt: HostRuntime) {
+    touches::<G16>(&rt, (-39321, 52428), -327680);
+    touches::<G27>(&rt, (-80530636, 107374182), -671088640);
+    touches::<G38>(&rt, (-164926744166, 219902325555), -1374389534720);
+}
+
+/// The second line of an angle of tangent 3/4, whose normal has the parts 0.6 and -0.8, in units.
+fn slopes<G: Grid>(rt: &impl Abort, a: Ends, b: Ends) {
+    let slope = Measure::LineLine(Ratio { p: 3, q: 4 }, Sign::Minus);
+    let (_, line) = frame::<G>(rt, slope, false);
+    same(rt, ends_of(&Ok(line)), Ok([a, b, (0, 0)]));
+}
+
+#[test]
+fn slopes_on_each_grid(rt: HostRuntime) {
+    slopes::<G16>(&rt, (39321, 39322), (-52429, -52428));
+    slopes::<G27>(&rt, (80530636, 80530637), (-107374183, -107374182));
+    slopes::<G38>(
+        &rt,
+        (164926744166, 164926744167),
+        (-219902325556, -219902325555),
+    );
 }
 
 /// A line with these parts of its normal, by 0.001 mm off the origin.
@@ -187,7 +197,7 @@ fn boxes_are_settled_at_midpoints(rt: HostRuntime) {
 }
 
 fn has_word(rt: &impl Abort, what: What, word: &str) {
-    assert!(rt; what.word() == word, "{word}");
+    assert!(rt; what.word() == word);
 }
 
 #[test]
