@@ -239,6 +239,42 @@ def test_a_constraint_is_asked_for_once_by_a_double_click(page: Page) -> None:
     assert lines_of(page, "horizontal A") == 1
 
 
+# Files, and the other shape.
+
+def test_a_file_has_the_edit_that_was_made_before_it(page: Page) -> None:
+    """The server answers that one later."""
+    page.begin("segment A 0 0 40 0\nlength A 40\n", "well")
+    page.settled()
+    with page.held("edit"):
+        page.press_twice(".marks [data-constraint='1'] text")
+        page.wait("a field", "return document.querySelector('#value[open] input')")
+        field = page.driver.find_element(By.CSS_SELECTOR, "#value input")
+        field.send_keys(Keys.CONTROL, "a")
+        field.send_keys("30", Keys.ENTER)
+        page.wait("it is asked", "return window.isHeld")
+        page.click("#save")
+        for kind in ("sketch", "dxf"):
+            page.click("#export summary")
+            page.click(f"[data-export='{kind}']")
+    assert page.downloaded("drawing.drawing").decode().endswith("length A 30\n")
+    assert b"distance P1 P2 30\n" in page.downloaded("drawing.sketch")
+    lines = page.downloaded("drawing.dxf").decode().split("\n")
+    assert "30.0" in lines and "40.0" not in lines
+    assert page.text().endswith("length A 30\n")
+
+
+def test_a_drawing_that_is_begun_meanwhile_isnt_saved_in_its_place(page: Page) -> None:
+    page.begin("segment A 0 0 40 0\n", "open")
+    page.select("A")
+    with page.held("edit"):
+        page.keys("x")
+        page.wait("it is asked", "return window.isHeld")
+        page.click("#save")
+        page.click("#new")
+    assert b"segment A 0 0 40 0\n" in page.downloaded("drawing.drawing")
+    page.verdict("empty")
+
+
 # Another tab, and an answer that can't be read.
 
 def test_the_other_shape_comes_to_a_tab_that_was_opened_again(page: Page) -> None:

@@ -109,68 +109,72 @@ export class Files {
     if (drawing) this.begin(drawing.text, drawing.name, drawing.leftOut);
   }
 
-  /** Saves the drawing's text. */
+  /** Saves the drawing's text, once all that was asked before is done. */
   save() {
-    const text = this.paper.saved = this.paper.settle();
-    this.keeping.keep();
-    download(`${this.paper.name}.drawing`, text);
+    const { paper } = this;
+    paper.settle();
+    const { history, name } = paper;
+    return paper.queue(async () => {
+      if (paper.history === history) {
+        paper.saved = history.text;
+        this.keeping.keep();
+      }
+      download(`${name}.drawing`, history.text);
+    });
   }
 
   /**
-   * Exports what is shown.
+   * Exports what is shown once all that was asked before is done.
    * @param {Kind} kind
    */
   async export(kind) {
-    nodeOf('export', HTMLDetailsElement).open = false;
-    const text = this.paper.settle();
-    const { name } = this.paper;
-    const found = await this.content(kind, text, name);
+    this.paper.settle();
+    const { history, name } = this.paper;
+    const found = await this.paper.queue(() => this.content(kind, history.text, name));
     if (found?.content) download(name + ENDINGS[kind], found.content);
     else if (found) this.paper.tell('trouble', whyNot(found));
   }
 
   /**
-   * The content of a file of a kind, or why there is none; null where the server is stopped.
+   * The content of a file of a kind, or why there is none. Throws Stopped.
    * @param {Kind} kind
    * @param {string} text
    * @param {string} name
-   * @returns {Promise<(Answer & { content?: string | null }) | null>}
+   * @returns {Promise<Answer & { content?: string | null }>}
    */
   async content(kind, text, name) {
     const { paper } = this;
     switch (kind) {
       case 'sketch': return this.language(text);
-      case 'claim': return paper.ask('verify', { text })
-        .then((each) => withContent(each, each?.claim));
-      case 'svg': return paper.ask('svg', { text, name })
-        .then((each) => withContent(each, each?.svg));
-      case 'dxf': return paper.ask('dxf', { text, name, release: RELEASE })
-        .then((each) => withContent(each, each?.dxf));
-      default: return paper.ask('program-dxf', { text })
-        .then((each) => withContent(each, each?.dxf));
+      case 'claim': return paper.about('verify', { text })
+        .then((each) => withContent(each, each.claim));
+      case 'svg': return paper.about('svg', { text, name })
+        .then((each) => withContent(each, each.svg));
+      case 'dxf': return paper.about('dxf', { text, name, release: RELEASE })
+        .then((each) => withContent(each, each.dxf));
+      default: return paper.about('program-dxf', { text })
+        .then((each) => withContent(each, each.dxf));
     }
   }
 
   /**
-   * The sketch of a text, once it is judged.
+   * The sketch of a text, as it was judged.
    * @param {string} text
    */
-  language(text) {
-    return this.paper.queue(async () => {
-      const { answer, refused } = this.paper;
-      if (refused) return { refused };
-      return { content: answer?.text === text ? answer.judgement?.language : null };
-    });
+  async language(text) {
+    const { paper, paper: { said } } = this;
+    const judged = said?.text === text ? said : await paper.about('judge', { text });
+    return withContent(judged, judged.judgement?.language);
   }
 }
 
 /**
  * An answer with the content of a file.
- * @param {Answer | null} answer
+ * @param {Answer} answer
  * @param {string | undefined} content
  */
 function withContent(answer, content) {
-  return answer && { ...answer, content };
+  return { ...answer, content };
 }
 
 /**

@@ -89,7 +89,7 @@ export class Page {
       new: () => files.begin('', 'drawing'),
       gallery: () => files.gallery(),
       open: () => files.input.click(),
-      save: () => files.save(),
+      save: inTurn(() => files.save()),
       undo: () => sequence.do(() => paper.go(-1)),
       redo: () => sequence.do(() => paper.go(1)),
       help: () => closed(nodeOf('keys', HTMLDialogElement)),
@@ -162,8 +162,17 @@ export class Page {
     if (!button) return;
     const { tool, export: kind } = button.dataset;
     if (isTool(tool)) this.gestures.sequence.do(() => this.take(tool));
-    else if (kind) this.files.export(/** @type {import('./files.js').Kind} */ (kind));
+    else if (kind) this.export(/** @type {import('./files.js').Kind} */ (kind));
     else this.acts[button.id]?.(button);
+  }
+
+  /**
+   * A file of a kind is exported, behind what was clicked before.
+   * @param {import('./files.js').Kind} kind
+   */
+  export(kind) {
+    this.menu.open = false;
+    this.gestures.sequence.do(() => { this.files.export(kind); });
   }
 
   /**
