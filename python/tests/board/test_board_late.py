@@ -275,6 +275,20 @@ def test_a_drawing_that_is_begun_meanwhile_isnt_saved_in_its_place(page: Page) -
     page.verdict("empty")
 
 
+def test_a_choice_that_is_turned_back_at_once_shows_no_other_shape(page: Page) -> None:
+    page.begin(drawing("arm"), "well")
+    page.click("#tab-steps")
+    page.wait("a choice", "return document.querySelector('#flip:not([hidden])')")
+    with page.held("flips"):
+        page.click("#flip")
+        page.wait("it is asked", "return window.isHeld")
+        page.click("#flip")
+        page.settled()
+    page.settled()
+    page.settled()
+    assert page.count("#board .other > *") == 0 and page.count("#flip[aria-pressed=false]") == 1
+
+
 # Another tab, and an answer that can't be read.
 
 def test_the_other_shape_comes_to_a_tab_that_was_opened_again(page: Page) -> None:

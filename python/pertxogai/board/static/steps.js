@@ -28,6 +28,8 @@ export class Steps {
    */
   told = null;
   place = 0;
+  /** How often the other shape was asked for. */
+  asked = 0;
   /** @type {Set<number>} */
   flipped = new Set();
 
@@ -243,24 +245,37 @@ export class Steps {
     return this.plan?.elements[step.made].called ?? '';
   }
 
-  /** Turns the choice of the step over that is told. */
+  /** Turns the choice of the step over that is told; back, where there is no such shape. */
   async flip() {
-    const { text, told, plan } = this;
-    if (!told || text === null) return;
+    const { told } = this;
+    if (!told) return;
     const { number } = told;
     if (!this.flipped.delete(number)) this.flipped.add(number);
-    const steps = [...this.flipped];
-    /** @type {import('./protocol').OtherShape | null} */
-    const found = steps.length ? await this.paper.ask('flips', { text, steps }) : {};
-    if (this.plan !== plan) return;
+    let found = await this.other();
     if (found?.trouble) {
       this.flipped.delete(number);
       this.paper.tell('trouble', found.trouble.message);
+      found = await this.other();
     }
+    if (!found) return;
     this.slide(this.steps.length);
     this.tell(told, 1);
-    this.show(null, found?.placed ?? null);
-    if (found?.placed) this.board.reveal();
+    this.show(null, found.placed ?? null);
+    if (found.placed) this.board.reveal();
+  }
+
+  /**
+   * The shape in which all choices are turned over that are to be; null where it is no longer
+   * asked for.
+   * @returns {Promise<import('./protocol').OtherShape | null>}
+   */
+  async other() {
+    const { text, plan } = this;
+    const steps = [...this.flipped];
+    const turn = this.asked += 1;
+    const found = text !== null && steps.length ? await this.paper.ask('flips', { text, steps })
+      : {};
+    return this.plan === plan && this.asked === turn ? found : null;
   }
 
   /** The drawing is drawn anew as the other shape lies. */
