@@ -311,6 +311,36 @@ def test_the_scale_that_is_offered_fits_what_is_dragged_away_too(page: Page,
     assert {"1:2", "100"} <= set(told.stdout.split())
 
 
+@pytest.mark.skipif(not shutil.which("pdftoppm"), reason="without Debian's poppler-utils")
+def test_the_sheet_is_of_the_drawing_that_stands(page: Page, tmp_path: Path) -> None:
+    """Also where the browser's own menu prints it, and while a step of the construction is shown;
+    an open drawing's says who has placed it."""
+    page.begin(PLATE, "well")
+    printed(page, tmp_path, "1:2")
+    page.begin(PLATE.replace("100", "80"), "well")
+    page.click("#tab-steps")
+    page.wait("its steps", "return document.querySelector('#back')")
+    page.click("#back")
+    page.wait("a step", "return document.querySelector('#board .overlay > *')")
+    assert {"80", "1:2", "well;"} <= words_printed(page, tmp_path)
+    page.begin(PLATE.replace("length RBottom 100\n", ""), "open")
+    page.wait("a shape", "return document.getElementById('pieces')")
+    found = words_printed(page, tmp_path)
+    assert {"60", "open,", "numbers;"} <= found and "80" not in found
+    page.click("#new")
+    page.verdict("empty")
+    assert words_printed(page, tmp_path) == set()
+
+
+def words_printed(page: Page, folder: Path) -> set[str]:
+    """The words of the PDF that the browser's own menu makes."""
+    told = page.driver.execute_cdp_cmd("Page.printToPDF", {"preferCSSPageSize": True})
+    path = folder / "menu.pdf"
+    path.write_bytes(base64.b64decode(told["data"]))
+    text = subprocess.run(["pdftotext", path, "-"], capture_output=True, text=True, check=True)
+    return set(text.stdout.split())
+
+
 def test_of_points_alone_there_is_no_sheet(page: Page) -> None:
     page.begin(POINTS, "open")
     page.driver.execute_script("window.print = () => { window.isPrinted = true; };")

@@ -26,6 +26,8 @@ const SCALES = [10, 5, 2, 1, 1 / 2, 1 / 5, 1 / 10, 1 / 20, 1 / 50, 1 / 100, 1 / 
 /** Makes the sheet of what a board shows, and has it printed. */
 export class Sheet {
   node = nodeOf('paper', SVGSVGElement);
+  /** The scale that was asked for last of the drawing; 0 for none yet. */
+  scale = 0;
 
   /**
    * @param {import('./board.js').Board} board
@@ -36,6 +38,8 @@ export class Sheet {
     this.board = board;
     this.paper = paper;
     this.tell = tell;
+    paper.when('begin', () => { this.scale = 0; });
+    window.addEventListener('beforeprint', () => this.make(this.scale || this.fitting()));
   }
 
   /** Asks for the scale, makes the sheet, and has the browser print it. */
@@ -46,7 +50,10 @@ export class Sheet {
     if (told === null) return;
     const scale = scaleOf(told);
     if (!scale) this.tell(`'${told}' isn’t a scale: write one as 1:2 or 2:1`, 'trouble');
-    else if (this.make(scale)) window.print();
+    else if (this.make(scale)) {
+      this.scale = scale;
+      window.print();
+    }
   }
 
   /**
@@ -57,6 +64,7 @@ export class Sheet {
     const { answer: { drawing }, shown } = this.board;
     const box = this.box();
     if (!box) {
+      this.node.replaceChildren();
       this.tell('Nothing is drawn that could be printed.');
       return false;
     }
@@ -85,13 +93,14 @@ export class Sheet {
     const long = bar * scale * MM;
     const [y, x] = [top + TITLE * MM * 0.72, width - 12 - long];
     const verdict = byId('verdict').querySelector('h2')?.textContent ?? '';
+    const placed = this.board.answer.judgement?.found ? ', placed by numbers' : '';
     return [
       svg('rect', { class: 'frame', x: 0.5, y: 0.5, width: width - 1,
         height: top + TITLE * MM - 1 }),
       svg('path', { class: 'frame', d: `M0 ${top}H${width}` }),
       svg('text', { class: 'title', x: 12, y: top + 26 }, this.paper.name),
       svg('text', { class: 'told', x: 12, y: top + 50 },
-        `${verdict}; lengths in mm; those in brackets are measured`),
+        `${verdict}${placed}; lengths in mm; those in brackets are measured by numbers`),
       svg('text', { class: 'told scale', x: width / 2, y: top + 36 }, `scale ${scaleText(scale)}`),
       svg('path', { class: 'bar', d: `M${x} ${y - 5}v10M${x} ${y}h${long}M${x + long} ${y - 5}v10`,
         'data-bar': bar }),
@@ -117,8 +126,12 @@ export class Sheet {
    * where nothing is drawn.
    */
   box() {
-    const { board, board: { plane } } = this;
+    const { board, board: { plane, overlay } } = this;
+    board.overlay = null;
+    board.drawNow();
     const edges = board.edgeBox();
+    board.overlay = overlay;
+    board.draw();
     if (!edges) return null;
     const places = [plane.toPlane([edges[0], edges[1]]), plane.toPlane([edges[2], edges[3]]),
       ...board.answer.drawing.marks.flatMap(toldPlaces)];
