@@ -20,8 +20,8 @@ ENDS = {
     "family": "the greatest of all variants: 0 if it is good; 1 if it isn't; 2 if it is rejected; 3"
               " if the program gave no answer. 2 also if the arguments or a file can't be read, or"
               " nothing can be written",
-    "fit": "0 if every check with limits fits in the worst case; 1 if one doesn't, or it isn't"
-           f" known; {OTHERWISE}",
+    "fit": "0 if every check with limits fits in the worst case; 1 if one doesn't, if it isn't"
+           f" known, or if there is no check; {OTHERWISE}",
     "certify": "0 if the claim is written, and with --check each checker accepts it; 1 if the"
                " sketch isn't good, or a checker doesn't accept the claim or can't be run;"
                f" {OTHERWISE}",
