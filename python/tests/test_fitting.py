@@ -372,6 +372,21 @@ def test_json_and_the_chart(capsys, program, monkeypatch, tmp_path) -> None:
     assert "length PlateBottom 100 +-0.2" in svg and "49.65 .. 50.35" in svg
 
 
+@pytest.mark.parametrize("tolerance", ["0.01", "0.0{}"])
+@pytest.mark.parametrize("count", [12, 15])
+def test_how_many_dimensions_are_left_out_is_told(program, count: int, tolerance: str) -> None:
+    """The lines name eight and the chart twelve; the others may give as much as these."""
+    ends = ["0 0", *(f"S{number}.end" for number in range(count))]
+    lines = [f"segment S{number} {ends[number]} {10 * number + 10} 0\nhorizontal S{number}\n"
+             f"length S{number} 10 +-{tolerance.format(number + 10)}" for number in range(count)]
+    total = f"check Total distance S0.start S{count - 1}.end .."
+    found = checked("\n".join([*lines, "coincident S0.start Origin", total, ""]), program)
+    svg = fit_chart("stack", found)
+    told = f"and {count - 12} more, each as much or less"
+    assert svg.count(" %</text>") == 12 and (told in svg) == (count > 12)
+    assert f"and {count - 8} more, each as much or less" in map(str.strip, fit_lines("", found))
+
+
 def test_the_chart_names_a_check_that_is_not_known(program) -> None:
     # The bar may lie anywhere along x; how long it is, is known.
     found = checked("check Aside x A.end 19 .. 21\ncheck Long length A 19 .. 21\n"

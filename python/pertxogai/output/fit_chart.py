@@ -47,7 +47,7 @@ def fit_chart(name: str, found: Fit) -> str:
             height += 2 * ROW
             continue
         rows.extend(_Check(found.drawing, each, height + ROW).elements())
-        height += (4 + min(len(each.shares), MOST_BARS)) * ROW
+        height += (4 + min(len(each.shares), MOST_BARS + 1)) * ROW
     return "\n".join([
         f'<svg xmlns="http://www.w3.org/2000/svg" width="{WIDTH}" height="{height + MARGIN}" '
         f'viewBox="0 0 {WIDTH} {height + MARGIN}" role="img">',
@@ -80,6 +80,9 @@ class _Check:
         most = max((share.gives for share in found.shares), default=1)
         for row, share in enumerate(found.shares[:MOST_BARS], start=3):
             yield from self._bar(row, share, most, unit)
+        if len(found.shares) > MOST_BARS:
+            yield _text(LEFT - 12, self._top + (MOST_BARS + 3) * ROW,
+                        f"and {len(found.shares) - MOST_BARS} more, each as much or less", "end")
 
     def _range(self, row: int, label: str, of: Range, answer: Answer) -> Iterator[str]:
         """A range between the limits, where there are some, with the place of the check as all is

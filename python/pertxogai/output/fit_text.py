@@ -129,7 +129,7 @@ def _share_lines(drawing: Drawing, found: CheckedFit) -> Iterator[str]:
     unit = unit_of(found)
     yield from (_share_text(drawing, share, unit) for share in found.shares[:MOST_SHARES])
     if len(found.shares) > MOST_SHARES:
-        yield f"and {len(found.shares) - MOST_SHARES} more, each less"
+        yield f"and {len(found.shares) - MOST_SHARES} more, each as much or less"
     if found.shares and found.check.has_limits and found.answer is not Answer.FITS:
         first = found.shares[0].dimension
         yield f"tighten first: {words_of_dimension(drawing, first)}{_to(found)}"
