@@ -831,6 +831,19 @@ def test_what_has_no_shape_says_without_what_there_is_one(program, text, names):
     assert not any("share" in line for line in lines)
 
 
+def test_where_another_choice_gives_a_shape_none_is_said_to_be_missing(program):
+    """P, drawn above A and B, is 26.46 above or below them: C is 106.5 from it or 53.5, and Q spans
+    70."""
+    drawing = read_drawing("point A 0 0\npoint B 60 0\npoint P 30 26\npoint C 30 -80\n"
+                           "point Q 50 -50\ncoincident A Origin\non B XAxis\nx B 60\n"
+                           "distance A P 40\ndistance B P 40\nx C 30\ny C -80\n"
+                           "distance P Q 30\ndistance C Q 40\n")
+    found = judge(drawing, program)
+    lines = [*drawing_lines(CountedDrawing("kite", drawing, found))]
+    assert "    draw P on the other side of the line through Origin and B" in lines
+    assert found.unmet is None and not any("no shape" in line for line in lines)
+
+
 def test_what_is_rigid_in_another_way_has_a_shape(program):
     """Two triangles and three bars between them."""
     text = ("point A 0 0\npoint B 30 0\npoint C 12 25\npoint D 5 60\npoint E 38 66\npoint F 20 95\n"

@@ -277,9 +277,9 @@ class WeighedJudgement(Judgement):
     """A judgement with what takes many more calls of the program. If it is over-constrained, each
     removable dimension is tried. loose: if it is over-constrained, what is missing all the same.
     unmet: if it has no positions, nothing is missing or redundant by rank, and by numbers there is
-    no shape near the drawn one, the constraints without any one of which there is a shape; None
-    otherwise. tried: if it is fully constrained but has no positions, or positions that don't meet
-    a constraint, what other choices of its steps give."""
+    no shape near the drawn one, nor one by other choices, the constraints without any one of which
+    there is a shape; None otherwise. tried: if it is fully constrained but has no positions, or
+    positions that don't meet a constraint, what other choices of its steps give."""
 
     loose: tuple[str, ...] = ()
     unmet: tuple[str, ...] | None = None
@@ -389,7 +389,8 @@ def with_choices(judged: WeighedJudgement, program: Solver) -> WeighedJudgement:
     keys = [f"place={judged.place.value}", within(judged.asked.spelled)]
     found = tried(judged.asked.spelled.sketch, steps, program, keys,
                   lambda shape: _is_met(judged, shape))
-    return replace(judged, tried=replace(found, scale=judged.asked.spelled.scale))
+    return replace(judged, unmet=judged.unmet if found.found is None else None,
+                   tried=replace(found, scale=judged.asked.spelled.scale))
 
 
 def plan_of(asked: Trial, program: Solver) -> Plan:
