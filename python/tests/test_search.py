@@ -255,6 +255,16 @@ def test_a_rigid_drawing_that_floats_has_no_moves():
     assert (found.freedoms, found.of_the_whole, found.moves) == (3, 3, ())
 
 
+@pytest.mark.parametrize("x, y", [(0, 0), (100_000, 3), (-762_290, -273_760), (315_000, 500_000)])
+def test_what_is_drawn_far_from_the_origin_moves_and_turns_as_a_whole(x, y):
+    """10 unknowns less 6 that are told, and nothing is told of the origin: all moves, and turns."""
+    found = found_of(f"construction segment S {x - 9.49} {y - .41} {x + 9.37} {y - .56}\n"
+                     f"circle C {x + 8.28} {y - 7.39} 3.67\ncircle D {x + 7.3} {y + 2.59} 4.35\n"
+                     "symmetric C D about S\nequal C D\ndistance S.start D 17.611\n"
+                     "diameter D 6.5\nlength S 19.535\n")
+    assert (found.freedoms, found.of_the_whole, found.is_doubtful) == (4, 3, False)
+
+
 # -- what is said twice, and what contradicts
 
 

@@ -16,6 +16,8 @@ from pertxogai.search.unknowns import Unknowns
 
 SEEN = 1e-6
 """Of motions of length 1, what moves by less stays."""
+LAST_DIGITS = 2e-15
+"""By such a part of how far it lies from the origin a way may be off in floats."""
 
 
 def of_the_whole(rows: Linearization, free: Sequence[Free]) -> Array:
@@ -32,7 +34,9 @@ def of_the_whole(rows: Linearization, free: Sequence[Free]) -> Array:
     aside = rows.step_nm() * some
     there, back = (rows.near(each) @ frame.at(each) for each in (rows.x + aside, rows.x - aside))
     bends = (there - back) / (2 * STEP) @ staying
-    found: Array = moves @ staying @ _to_the_first_order(bends - reached @ (reached.T @ bends))[1]
+    seen = max(SEEN, LAST_DIGITS / STEP * frame.remoteness())
+    found: Array = moves @ staying @ _to_the_first_order(bends - reached @ (reached.T @ bends),
+                                                         seen)[1]
     return found
 
 
@@ -41,7 +45,7 @@ class _Frame:
     a shape has a given point, a turn about that is left; where shapes have several, none."""
 
     def __init__(self, unknowns: Unknowns, x: Array) -> None:
-        self._unknowns, self._points = unknowns, 2 * len(unknowns.points)
+        self._unknowns, self._points, self._x = unknowns, 2 * len(unknowns.points), x
         given = list(set(unknowns.given_of_shapes()))
         places = x[:self._points].reshape(-1, 2)
         middle = places.mean(axis=0) if len(places) else np.zeros(2)
@@ -56,6 +60,13 @@ class _Frame:
         found: Array = self._all(x)[:, self._kept] / self._lengths
         return found
 
+    def remoteness(self) -> float:
+        """How far the points lie from the origin, as so many times of what they reach over; 0 of a
+        single point."""
+        places = self._x[:self._points].reshape(-1, 2)
+        wide = np.ptp(places, axis=0).max() if len(places) else 0.0
+        return float(np.abs(places).max() / wide) if wide else 0.0
+
     def _all(self, x: Array) -> Array:
         moves = np.zeros((self._unknowns.count, 3))
         aside = x[:self._points].reshape(-1, 2) - self._pole
@@ -64,9 +75,10 @@ class _Frame:
         return moves
 
 
-def _to_the_first_order(changes: Array) -> tuple[Array, Array]:
+def _to_the_first_order(changes: Array, seen: float = SEEN) -> tuple[Array, Array]:
     """How rows may be changed, as columns of length 1 that are square to each other, and the
-    combinations of motions that change none. changes: of each row, with each motion."""
+    combinations of motions that change none. changes: of each row, with each motion. seen: what
+    changes by less stays."""
     more = np.zeros((changes.shape[1], changes.shape[1]))
     reached, sizes, combinations = np.linalg.svd(np.vstack([changes, more]), full_matrices=False)
-    return reached[:len(changes), sizes > SEEN], combinations[sizes <= SEEN].T
+    return reached[:len(changes), sizes > seen], combinations[sizes <= seen].T
