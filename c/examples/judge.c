@@ -18,6 +18,11 @@ int main(int count, char **words) {
         return SKETCH_READ_FAULT;
     }
     size_t length = fread(input, 1, MOST, file);
+    if (ferror(file)) { /* a folder can be opened, and not read */
+        perror(words[1]);
+        fclose(file);
+        return SKETCH_READ_FAULT;
+    }
     fclose(file);
 
     char *text;
@@ -25,5 +30,5 @@ int main(int count, char **words) {
     int32_t status = sketch_run(count > 2 ? words[2] : "check", input, length, &text, &size);
     if (text != NULL) fwrite(text, 1, size, stdout);
     free(text);
-    return status;
+    return fflush(stdout) == 0 && !ferror(stdout) ? status : SKETCH_WRITE_FAULT;
 }

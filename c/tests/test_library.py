@@ -65,6 +65,15 @@ def test_the_answers_are_the_programs(judge, sketch):
         assert (found.returncode, found.stdout) == (wanted.returncode, wanted.stdout), command
 
 
+def test_judge_ends_with_another_status_if_it_cannot_read_or_write(judge):
+    """As the program does: 3 and 4. A folder can be opened, and not read."""
+    for unread in (TOP, TOP / "nowhere.sketch"):
+        found = run(judge, unread)
+        assert (found.returncode, found.stdout) == (3, b"") and str(unread).encode() in found.stderr
+    with open("/dev/full", "wb") as full:
+        assert subprocess.run([judge, SKETCHES[0]], stdout=full).returncode == 4
+
+
 def test_eight_threads_answer_as_one(room):
     compiled("cc", "-std=gnu11", *STRICT, HERE / "tests/threads.c", room / "libsketch.a", "-lpthread", "-o", room / "threads")
     done = run(room / "threads", 8, 2, *SKETCHES)
