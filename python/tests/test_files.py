@@ -127,6 +127,21 @@ def test_nothing_is_written_where_there_are_no_places(capsys: pytest.CaptureFixt
     assert list(tmp_path.iterdir()) == []
 
 
+def test_a_dxf_as_drawn_is_told_what_it_lacks(capsys: pytest.CaptureFixture[str],
+                                              tmp_path: Path) -> None:
+    """An ellipse, its axes, foci and own constraints, which a drawing can't express."""
+    out = tmp_path / "ellipse.dxf"
+    status, told, err = called(capsys, "draw", FILES / "ellipse.FCStd", "-o", out, "--as-drawn")
+    assert (status, told) == (0, "") and "ELLIPSE" not in out.read_text()
+    first, *_, last = err.splitlines()
+    assert first == f"pertxogai: {out}: left out of the file: Ellipse5: a drawing has no ellipse"
+    assert last == f"pertxogai: {out}: and 2 more: see ./pertxogai judge"
+    out = tmp_path / "ellipse.svg"  # The picture says it below.
+    assert called(capsys, "draw", FILES / "ellipse.FCStd", "-o", out, "--as-drawn")[2] == ""
+    out = tmp_path / "hinge.dxf"
+    assert called(capsys, "draw", FILES / "hinge.FCStd", "-o", out, "--as-drawn") == (0, "", "")
+
+
 def test_pictures(capsys: pytest.CaptureFixture[str], tmp_path: Path) -> None:
     for name, is_well in (("link.FCStd", True), ("twice.FCStd", False), ("slot.slvs", True)):
         out = tmp_path / f"{name}.svg"
