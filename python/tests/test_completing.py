@@ -101,6 +101,9 @@ def test_relations_that_are_nearly_so(text, lines):
       "y H.centre 25.1", "x K.centre 60.1"], []),
     # A lone circle: its size, and where it lies.
     ("circle C 12 5 3\n", ["diameter C 6"], ["x C.centre 12", "y C.centre 5"]),
+    # Two circles drawn a micrometre off one centre, so that all of them may turn: one centre.
+    ("circle C 12 5 3\ncircle D 12.001 5 6\n", ["concentric C D", "diameter C 6", "diameter D 12"],
+     ["x C.centre 12", "y C.centre 5"]),
     # An edge of a given length that leans by 30 degrees: its direction, and the place of an end.
     ("segment A 2 1 19.32 11\nlength A 20\n", [],
      ["angle A +30deg", "x A.start 2", "y A.start 1"]),

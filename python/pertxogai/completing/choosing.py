@@ -17,8 +17,8 @@ from pertxogai.completing.relations import NEAR_DEGREES, Relation, levels, relat
 from pertxogai.completing.slack import Demand, Slack, Remaining
 from pertxogai.completing.turns import Asked, Turns
 from pertxogai.drawing import (
-    ORIGIN, AngleBetween, Constraint, Drawing, Horizontal, Pair, PointRef, ShapeRef, Vertical,
-    XDistance, YDistance)
+    ORIGIN, AngleBetween, Concentric, Constraint, Drawing, Horizontal, Pair, PointRef, ShapeRef,
+    Vertical, XDistance, YDistance)
 from pertxogai.drawing.mentions import refs_of
 from pertxogai.search.rank import Free
 from pertxogai.search.values import told_best
@@ -271,7 +271,7 @@ def _next_relations(slack: Slack, taste: Taste,
              if taste.allows(each.constraint) and subject_of(each.constraint) not in unmet]
     demands = slack.demands([each.constraint for each in found])
     for relation, (constraint, demand) in zip(found, demands):
-        more = remaining.after(demand, ties_the_whole=is_level(constraint))
+        more = remaining.after(demand, ties_the_whole=may_tie_the_whole(constraint))
         if more is None:
             continue
         if not relation.holds():
@@ -283,6 +283,12 @@ def _next_relations(slack: Slack, taste: Taste,
 def is_level(constraint: Constraint) -> bool:
     """Whether it says that an edge runs along an axis, which ties the whole too."""
     return isinstance(constraint, (Horizontal, Vertical)) and isinstance(constraint.of, ShapeRef)
+
+
+def may_tie_the_whole(constraint: Constraint) -> bool:
+    """Whether a relation may fix how the whole is turned: a level edge; and that two circles have
+    one centre, since of two centres that lie beside each other alone all may be turned."""
+    return is_level(constraint) or isinstance(constraint, Concentric)
 
 
 def is_along_axes(constraint: Constraint) -> bool:
