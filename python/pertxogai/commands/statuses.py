@@ -32,9 +32,16 @@ GOOD = ("A sketch is good if the program says well and places it, every constrai
         " to be missing by rank, and nothing is found to lie mirrored.")
 PROGRAM = ("The program is the one of --program, else of the variable PERTXOGAI_SKETCH, else the"
            " repository's build, else the one on the path.")
+LIBRARY = ("If the variable PERTXOGAI_LIBRARY names the library and --program isn't given, the"
+           " library is asked in place of the program, and --seconds doesn't limit it.")
+"""What `commands.solvers` chooses for the commands that ask many times."""
+ASK_LIBRARY = ("range", "family", "fit")
 WIDTH = 80
 
 
 def epilog(command: str) -> str:
     """What stands below the options of a command."""
-    return "\n\n".join(fill(it, WIDTH) for it in (f"exit status: {ENDS[command]}.", GOOD, PROGRAM))
+    told = [f"exit status: {ENDS[command]}.", GOOD, PROGRAM]
+    if command in ASK_LIBRARY:
+        told.append(LIBRARY)
+    return "\n\n".join(fill(it, WIDTH) for it in told)
