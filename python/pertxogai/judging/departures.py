@@ -1,6 +1,6 @@
 """Where the placed shape departs from the drawn one: edges turned about or shrunk to nothing,
-corners on the other side, crossings, points beyond the ends of edges; and, however it is drawn,
-which edges turn back on each other.
+corners on the other side, crossings, points beyond the ends of edges; what a constraint puts on a
+side of a segment, on the other one; and, however it is drawn, which edges turn back on each other.
 
 All is by whole numbers of nanometres. A drawing that isn't tied to the datum's directions is
 compared as it lies once it has been turned, as a whole, the way that fits best."""
@@ -20,6 +20,7 @@ from pertxogai.judging.edges import (
 from pertxogai.judging.insides import Loops
 from pertxogai.judging.measure.solution import Solution
 from pertxogai.judging.rims import Rim, Round
+from pertxogai.judging.sides import Sided, sided
 
 
 class DepartureKind(Enum):
@@ -31,6 +32,7 @@ class DepartureKind(Enum):
     CROSSES = "cross, but are drawn apart"
     LEAVES = "is drawn on the other side of the outline"
     BEYOND = "lies beyond the end of"
+    ACROSS = "is drawn on the other side of"
 
 
 @dataclass(frozen=True)
@@ -49,6 +51,9 @@ class Departure:
             case DepartureKind.BEYOND:
                 point, edge = self.shapes
                 return f"{point} {self.departure.value} {edge}, but is drawn between its ends"
+            case DepartureKind.ACROSS:
+                thing, edge = self.shapes
+                return f"{thing} {self.departure.value} {edge}"
             case DepartureKind.OTHER_SIDE:
                 return f"the corner of {' and '.join(self.shapes)} {self.departure.value}"
             case _:
@@ -86,13 +91,26 @@ class Comparison:
     def _met(self) -> Corners:
         return Corners(self._drawing)
 
+    @cached_property
+    def _sided(self) -> tuple[Sided, ...]:
+        return tuple(sided(self._drawing))
+
     def warnings(self, edges: Edges, free: bool) -> tuple[Warned, ...]:
         """Everything that is warned of in a placed drawing, which may differ from this one by its
         dimensions. Raises MissingPlace."""
-        return (*self.departures(edges, free), *self._met.cusps(edges))
+        found = self.departures(edges, free)
+        return (*found, *self._across(edges, found), *self._met.cusps(edges))
+
+    def _across(self, edges: Edges, found: Sequence[Departure]) -> Iterator[Departure]:
+        """What lies on the other side of a segment than it is drawn. Of one that runs the other way
+        than it is drawn both sides are the other ones, so that tells nothing."""
+        turned = {each.shapes for each in found if each.departure is DepartureKind.TURNED}
+        for each in self._sided:
+            if (each.line.name,) not in turned and each.is_across(edges):
+                yield Departure(DepartureKind.ACROSS, (each.name, each.line.name))
 
     def departures(self, edges: Edges, free: bool) -> tuple[Departure, ...]:
-        """Every departure of such a drawing. Raises MissingPlace."""
+        """Every departure of such a drawing but of sides by a constraint. Raises MissingPlace."""
         outline = [*map(edges.of, self._outline)]
         rims = [Rim.of(edges.drawing, edges.solution, each) for each in self._rims]
         return (*_reversals([*map(edges.of, self._segments)], free), *_gone(outline),
