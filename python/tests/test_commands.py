@@ -3,6 +3,7 @@ from __future__ import annotations
 
 import io
 import json
+import math
 import os
 import subprocess
 import xml.etree.ElementTree as ElementTree
@@ -13,6 +14,8 @@ import pytest
 
 from conftest import TOP
 from pertxogai.commands import main
+from pertxogai.program import Status
+from pertxogai.program.reports import read_solve
 
 EXAMPLES = TOP / "examples"
 
@@ -38,6 +41,39 @@ def test_judge_a_sketch_that_is_well(capsys) -> None:
         "  point B 4000000 0",
         "  point C 4000000 3000000",
     ]
+
+
+def row_of(count: int) -> str:
+    """A row of points at (10 i, 7 (i mod 3)), each of which has its drawn distances, to a
+    micrometre, from the one before it and from the third before it, so that each step of the
+    construction is built on the one before it."""
+    at = [(10 * number, number % 3 * 7) for number in range(count)]
+    pairs = [(0, 1), (0, 2), (1, 2)] + [(number - back, number) for number in range(3, count)
+                                        for back in (1, 3)]
+    points = [f"point P{number} {x} {y}" for number, (x, y) in enumerate(at)]
+    lengths = [f"distance P{one} P{two} {math.dist(at[one], at[two]):.3f}" for one, two in pairs]
+    return "\n".join(["sketch 1", *points, *lengths, "end", ""])
+
+
+def test_what_points_place_and_boxes_do_not_is_told(capsys, tmp_path, program) -> None:
+    """The row of 12 lies as it is drawn, but for the rounding of its lengths: no length has a slip.
+    Of a flat triangle nothing of points is told, since they place it by luck alone."""
+    path, text = tmp_path / "row.sketch", row_of(12)
+    path.write_text(text)
+    assert program.ask(["solve"], text).status is not Status.DONE
+    placed = read_solve(program.ask(["solve", "place=points"], text).text)
+    last = [each for each in placed.places if each.name == "P11"][0]
+    first = [each for each in placed.places if each.name == "P0"][0]
+    across = math.dist((first.x_nm, first.y_nm), (last.x_nm, last.y_nm))
+    assert across == pytest.approx(1e6 * math.hypot(110, 14), abs=1e6)
+    status, out, _ = judged(capsys, "judge", str(path))
+    assert status == 1 and out.splitlines()[-1] == (
+        "  what to do: ask `./sketch solve place=points`, which places it within "
+        f"{placed.length_tolerance_nm} nm and {placed.angle_tolerance_ppb} ppb: by boxes the "
+        "intervals of its steps grow too wide")
+    assert placed.length_tolerance_nm <= 1000
+    _, out, _ = judged(capsys, "judge", str(EXAMPLES / "faults" / "flat-triangle.sketch"))
+    assert "what to do: change a length" in out and "place=points" not in out
 
 
 @pytest.mark.parametrize(

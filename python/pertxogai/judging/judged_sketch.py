@@ -11,12 +11,16 @@ from pertxogai.judging.limits import TextRefused
 from pertxogai.judging.measure.limit import Limit
 from pertxogai.language import Constraint, Refusal, Sketch
 from pertxogai.program import Answer, Solver, Status
+from pertxogai.program.called import PROGRAM
 from pertxogai.program.reports import (
     Cause, CheckReport, ConstraintFault, ExcessReport, Fault, FrameFault, NotAReport, NumberFault,
     PartsReport, Plan, RangeFault, Solved, Spare, TurnedFault, Verdict, WhyReport,
     read_answer, read_check, read_excess, read_fault, read_parts, read_plan, read_refusal,
     read_solve, read_spare, read_why)
 from pertxogai.program.reports.why import WORK, work_of
+
+POINTS = "place=points"
+"""The key of `solve` for midpoint placement; without it positions are found by boxes."""
 
 
 @dataclass(frozen=True)
@@ -26,8 +30,9 @@ class JudgedSketch:
     what `excess` leaves out of each cluster, with deviations; if it isn't fully constrained, each
     cluster by itself. limit: the limit for each constraint, with which the program was asked.
     tried: if a step fails, what other choices of the steps before it give. why: for each constraint
-    that is left out, the others that it follows from; None if that wasn't asked. `judging.good`
-    says whether it is good."""
+    that is left out, the others that it follows from; None if that wasn't asked. by_points: if it
+    has no positions by boxes, those by points, if the program has some; they aren't taken for good.
+    `judging.good` says whether it is good."""
 
     name: str
     sketch: Sketch
@@ -41,6 +46,7 @@ class JudgedSketch:
     limit: Limit = Limit()
     tried: Tried | None = None
     why: WhyReport | None = None
+    by_points: Solved | None = None
 
     def groups(self) -> dict[int, tuple[int, ...]]:
         """The constraints from which each one that is left out follows, by their numbers."""
@@ -97,9 +103,20 @@ def _with_places(
         plan = read_plan(_output_of(name, "plan", text, asks))
         fault = read_fault(answer.text)
         turned = tried(sketch, beneath(plan, fault), asks, [within])
-        return JudgedSketch(name, sketch, check, None, fault, plan, limit=limit, tried=turned)
+        return JudgedSketch(name, sketch, check, None, fault, plan, limit=limit, tried=turned,
+                            by_points=_by_points(fault, text, asks, within))
     solved = read_solve(_done_answer(name, answer, text).text)
     return JudgedSketch(name, sketch, check, solved, limit=limit)
+
+
+def _by_points(fault: Fault, text: str, asks: Solver, within: str) -> Solved | None:
+    """The positions by points of what has none by boxes; None where that proves that there are
+    none, or that the shape can't be told from a flat one, which points place by luck alone."""
+    if isinstance(fault, NumberFault):
+        if fault.cause is Cause.GAP or not fault.low < 0 < fault.high:
+            return None
+    answer = asks.ask(["solve", within, POINTS], text)
+    return read_solve(answer.text) if answer.status is Status.DONE else None
 
 
 def _done_answer(name: str, answer: Answer, text: str) -> Answer:
@@ -134,8 +151,13 @@ def _deciding(plan: Plan | None, step: int) -> tuple[Constraint, ...]:
     return tuple(leaf.constraint for leaf in deciding(plan, step)) if plan else ()
 
 
-def what_to_do(fault: Fault, turned: Tried | None = None) -> str:
-    """What helps against a fault, in a sentence. turned: what came of other choices."""
+def what_to_do(fault: Fault, turned: Tried | None = None, by_points: Solved | None = None) -> str:
+    """What helps against a fault, in a sentence. turned: what came of other choices. by_points: the
+    positions by points, if there are some."""
+    if by_points:
+        return (f"ask `{PROGRAM} solve {POINTS}`, which places it within"
+                f" {by_points.length_tolerance_nm} nm and {by_points.angle_tolerance_ppb} ppb: by"
+                " boxes the intervals of its steps grow too wide")
     if turned and turned.found:
         return "draw it so, or change a length: the way it is drawn it can't be placed"
     if isinstance(fault, NumberFault) and fault.cause is Cause.GAP:

@@ -106,7 +106,7 @@ def _fault(judged: JudgedSketch) -> dict[str, object] | None:
         "text": fault.text().strip(),
         "constraints": [it.text() for it in concerned(judged)],
         "at": list(_named(fault)),
-        "what_to_do": what_to_do(fault, judged.tried),
+        "what_to_do": what_to_do(fault, judged.tried, judged.by_points),
     }
 
 

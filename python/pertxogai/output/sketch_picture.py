@@ -30,4 +30,4 @@ def _fault_lines(judged: JudgedSketch) -> Iterator[str]:
         yield f"can't be placed, shown as drawn: {judged.fault.text().strip()}"
         yield from (f"of {constraint.text()}" for constraint in concerned(judged)[:MOST_SHOWN])
         yield from tried_lines(judged.sketch, judged.tried)
-        yield f"what to do: {what_to_do(judged.fault, judged.tried)}"
+        yield f"what to do: {what_to_do(judged.fault, judged.tried, judged.by_points)}"

@@ -62,7 +62,7 @@ def _fault_lines(judged: JudgedSketch) -> Iterator[str]:
         if len(constraints) > MOST_CONCERNED:
             yield f"    and of {len(constraints) - MOST_CONCERNED} more"
         yield from (f"  {line}" for line in tried_lines(judged.sketch, judged.tried))
-        yield f"  what to do: {what_to_do(judged.fault, judged.tried)}"
+        yield f"  what to do: {what_to_do(judged.fault, judged.tried, judged.by_points)}"
 
 
 def _over(over: OverPart, groups: Mapping[int, tuple[int, ...]]) -> Iterator[str]:
