@@ -182,6 +182,14 @@ def test_what_keeps_a_chain_straight_decides_though_its_length_is_greatest_there
     assert blamed(FOLDED, program) == ("H1", "H2", "L1", "L2", "L3", "L4")
 
 
+@pytest.mark.parametrize("base", ["200", "20"])
+def test_a_length_of_which_a_half_is_used_is_named(base: str, program: Program) -> None:
+    """M halves Base: half of 200 is more than 50 and 40 reach over, half of 20 is as much as they differ by."""
+    assert blamed("segment S 0 0 62 1\nsegment T S.start 29 41\nsegment U T.end S.end\npoint M 31 0\n"
+                  f"segment V M T.end\nHalf: midpoint M S\nBase: length S {base}\nSide: length T 50\n"
+                  "Median: length V 40\n", program) == ("Half", "Base", "Side", "Median")
+
+
 def test_where_something_is_redundant_all_that_the_construction_uses_are_named(program: Program) -> None:
     """A second `horizontal S` says what the first says: rank can't tell them apart."""
     again = ANGLED.replace("horizontal S\n", "horizontal S\nhorizontal S\n")

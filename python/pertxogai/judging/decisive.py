@@ -9,8 +9,8 @@ from itertools import combinations
 
 from pertxogai.cached import cached_on
 from pertxogai.drawing import (
-    AngleBetween, Constraint, Distance, Drawing, Horizontal, Parallel, Perpendicular,
-    PointLineDistance, PointRef, ShapeRef, Vertical)
+    AngleBetween, Constraint, Diameter, Distance, Drawing, Horizontal, Length, Parallel,
+    Perpendicular, PointLineDistance, PointRef, Radius, ShapeRef, Vertical)
 from pertxogai.drawing.places import UM_PER_MM
 from pertxogai.judging.equations import Plane
 from pertxogai.judging.freedoms import NONE, SOME, Freedoms, freedoms
@@ -19,6 +19,8 @@ from pertxogai.spelling.facts import Owner
 
 DIRECTIONS = Horizontal, Vertical, Parallel, Perpendicular, AngleBetween
 """What gives how lines run. The encoding takes some of these for granted."""
+SIZES = Length, Radius, Diameter
+"""What gives a length or a radius."""
 MOST_TRIED = 1000
 """The most constraints of the drawings of which each lacks one."""
 Element = PointRef | ShapeRef
@@ -48,7 +50,7 @@ def _decisive(drawing: Drawing, elements: Sequence[Element], used: Owners) -> Ow
     deciding = _taking_part(drawing, told)
     if deciding is None:
         return used
-    asked = used | _directions(drawing, elements)
+    asked = used | _directions(drawing, elements) | _sizes(drawing, deciding)
     unsure = frozenset(each for each in asked - deciding if each.number and not each.shape)
     idle = _idle(drawing, told, unsure)
     return asked - (unsure - used if idle is None else idle)
@@ -61,6 +63,13 @@ def _directions(drawing: Drawing, elements: Sequence[Element]) -> Owners:
         return frozenset()
     return frozenset(Owner(number) for number, each in enumerate(drawing.constraints, 1)
                      if isinstance(each, DIRECTIONS))
+
+
+def _sizes(drawing: Drawing, owners: Owners) -> Owners:
+    """Those of some constraints that give a length or a radius: a construction uses what they give
+    through others, as half of a length by a midpoint."""
+    return frozenset(each for each in owners if each.number and not each.shape
+                     and isinstance(drawing.constraints[each.number - 1], SIZES))
 
 
 def _idle(drawing: Drawing, told: Sequence[Constraint], unsure: Owners) -> Owners | None:
