@@ -201,6 +201,10 @@ LEAST_ANGLE, MOST_ANGLE = .0001, 179.9999
     ("plate-with-four-holes", "diameter H1", NO_LEAST, 30.002),
     ("plate-by-values", "Width", 35.999, None), ("radius-by-a-touch", "radius A", NO_LEAST, 19.999),
     ("radius-by-a-touch", "distance A", 10.001, NO_MOST),
+    # At 40 E6 goes on along E5; what E1 is longer lies sin 60 of it aside, and a micrometre of that
+    # is no corner.
+    ("hexagon-by-angles", "length E1", NO_LEAST, 40 + .001 / sqrt(.75)),
+    ("hexagon-by-angles", "length E5", NO_LEAST, 40 + .001 / sqrt(.75)),
     # The joints stay on rafters of 4000 / cos 30.
     ("roof-truss", "distance West", NO_LEAST, 4000 / cos(pi / 6)),
     ("roof-truss", "length Tie", 4600 * cos(pi / 6), NO_MOST),
@@ -252,7 +256,8 @@ def test_ends_are_those_by_hand(name: str, words: str, low: float | None,
 
 
 @pytest.mark.parametrize("name", [
-    "washer", "d-shaft", "plate-by-values", "open-hinge", "sun-and-planets"])
+    "washer", "d-shaft", "plate-by-values", "open-hinge", "sun-and-planets",
+    "triangle-with-median"])
 def test_the_page_is_as_it_is_printed(name: str, program: Program) -> None:
     path = f"python/tests/drawings/{name}.drawing"
     done = subprocess.run(["bench/ranges", "--table", "--jobs", "1", path], cwd=TOP,
