@@ -35,7 +35,7 @@ from pertxogai.program import ProgramError, Solver, Status
 from pertxogai.program.reports import (
     ClaimFails, Flipped, Plan, Refused, Shape, Solved, Verdict, Verified, read_answer, read_flips,
     read_plan, read_verify)
-from pertxogai.search import check_libraries, searched_within
+from pertxogai.search import check_libraries, search, searched_within
 
 if TYPE_CHECKING:
     from pertxogai.ranging import Range, Ranging
@@ -162,6 +162,16 @@ class BoardDrawing:
         if self.searched is None:
             return None
         return self.searched.finding_with(self.judgement, self.program)
+
+    @cached_property
+    def clashing(self) -> Finding | None:
+        """What can't all be met of what is open, by a search as long as that of `judge`, where none
+        on the board found a shape; None where this one finds a shape, which isn't shown."""
+        is_open = self.judgement.verdict is Verdict.OPEN
+        if not is_open or self.not_searched or self.searched is not None:
+            return None
+        finding = search(self.drawing)
+        return finding if finding.solution is None else None
 
     @property
     def not_searched(self) -> str:

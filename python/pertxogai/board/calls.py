@@ -204,14 +204,14 @@ def _weigh(desk: Desk, given: Fields) -> Weighed:
     """What is left out of a drawing that is over, and what may go instead, each with how far it is
     off without it; where one of these can't be told, the other, and why. Of one that is well and
     isn't met, what comes of other choices; of one that is open, what the program constructs of it
-    with values that were found."""
+    with values that were found, or what can't all be met."""
     judged = desk.judged(given.text("text"))
     judgement, left, weighing = judged.weighed, judged.too_much, judged.weighing
     unweighed = weighing if isinstance(weighing, Untold) else None
     return {"spare": [spare_json(each) for each in judgement.surplus],
             "excess": excess_shown(judgement, left),
             "lines": lines_shown(replace(judged.with_file(judgement, given.texts("left_out")),
-                                         finding=judged.constructed),
+                                         finding=judged.constructed or judged.clashing),
                                  Asides(left, unweighed, judged.short))}
 
 

@@ -133,6 +133,7 @@ def _open(judged: JudgedDrawing, found: Missing) -> Iterator[Line]:
     yield from _shown(judged, found)
     yield from _too_many(judgement)
     yield from _unmet(judged)
+    yield from _contradicting(judged)
     for piece in found.pieces[:MOST_PIECES]:
         yield Line(f"cluster {piece.number}: {piece.text()}", list="pieces",
                    selects=piece.elements, part=piece.number)
@@ -190,6 +191,16 @@ def _unmet(judged: JudgedDrawing) -> Iterator[Line]:
     if unmet is not None:
         without = f" Without any one of these a shape is found: {listed(unmet)}." if unmet else ""
         yield Line("No shape with these values was found near the drawing, by numbers." + without)
+
+
+def _contradicting(judged: JudgedDrawing) -> Iterator[Line]:
+    """What can't all be met, and what may repeat or contradict, as far as the search tells."""
+    finding = judged.finding
+    if finding is not None:
+        yield from (Line(f"These can’t all be met, by numbers: {listed(each)}.")
+                    for each in finding.contradictions)
+        yield from (Line(f"In doubt, redundant or conflicting, by numbers: {listed(each)}.")
+                    for each in finding.in_doubt)
 
 
 def _not_tied(judgement: Judgement, kind: str) -> Iterator[Line]:

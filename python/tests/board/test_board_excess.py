@@ -527,6 +527,16 @@ def test_what_is_open_and_has_no_shape_says_so_once_it_is_weighed(program) -> No
     assert said in told(text, "weigh", program)
 
 
+def test_what_is_open_and_contradicts_says_so_once_it_is_weighed(program) -> None:
+    """10, 20 and 10 don't reach over 100."""
+    text = ("segment A 0 0 100 0\nsegment B A.end 90 10\nsegment C B.end 10 10\n"
+            "segment D C.end A.start\nW: length A 100\nX: length B 10\nY: length C 20\nZ: length D 10\n")
+    said = "These can’t all be met, by numbers: 'Z', 'Y', 'X', 'W'."
+    assert said in told(text, "weigh", program)
+    lines = told(text.replace("W: length A 100", "W: length A 30"), "weigh", program)
+    assert not any("all be met" in str(each) for each in lines)
+
+
 def test_what_is_well_and_says_too_much_does_not_say_that_it_is_just_enough(program) -> None:
     """The middle of a segment from -18 26 to 30 40, by x and y, its length, and where its end lies
     twice: of these one is too many."""

@@ -42,6 +42,14 @@ def test_what_is_left_out_of_a_file_is_told_until_it_is_done(page: Page) -> None
     assert page.driver.execute_script(left) == 0
 
 
+def test_that_an_open_drawing_has_no_shape_is_told_a_moment_later(page: Page) -> None:
+    """A chain of 40, 30 and 40 doesn't reach over 200."""
+    page.begin("segment S 0 0 40 1\nsegment T S.end 40 30\nsegment U T.end 2 31\n"
+               "segment V U.end S.start\nA: length S 40\nB: length T 30\nC: length U 40\n"
+               "D: length V 200\nangle S U 10deg\n", "open")
+    wait_for("that it has none", lambda: "No shape with these values was found" in page.told())
+
+
 def test_which_choice_has_places_is_told_a_moment_later(page: Page) -> None:
     page.begin(TURNED, "fault")
     page.wait("what to draw",

@@ -317,8 +317,8 @@ export class Paper extends EventTarget {
     if (!this.refused) this.answer = answer;
     this.said = this.refused ? { ...this.answer, ...answer, judgement: null } : answer;
     this.tell('answer', this.said);
-    const { verdict, good, found } = answer.judgement ?? {};
-    if (verdict === 'over' || found || (verdict === 'well' && !good)) this.weighLater(text, answer);
+    const { verdict, good } = answer.judgement ?? {};
+    if (verdict && !good) this.weighLater(text, answer);
   }
 
   /**
@@ -334,7 +334,7 @@ export class Paper extends EventTarget {
   /**
    * Has told and measured, beside all else, what is left out of a drawing that is over, and what
    * may go; of one that isn't met, what comes of other choices; of one that is open, what the
-   * program constructs of it.
+   * program constructs of it, or that no shape is found.
    * @param {string} text
    * @param {Judged} answer
    */
