@@ -144,6 +144,16 @@ def test_a_cell_stands_for_what_its_line_says(tmp_path, capsys):
     assert [round(each, 6) for each in at] == [8, -8, 4]
 
 
+@pytest.mark.parametrize("names", ["Wide,High,Deep", "Deep,High,Wide"])
+def test_of_faulty_cells_the_first_is_named(names, tmp_path, capsys):
+    drawing, table = tmp_path / "part.drawing", tmp_path / "sizes.csv"
+    drawing.write_text("segment S 0 0 40 0\nsegment T S.end 40 30\nWide: length S 40\n"
+                       "High: length T 30\nDeep: distance S.start T.end 50\n")
+    table.write_text(f"{names}\none,two,three\n")
+    assert main(["family", str(drawing), str(table), "--jobs", "1"]) == 2
+    assert rows_of(capsys.readouterr().out)[1][6].startswith("variant 1: 'one' is no number")
+
+
 def test_a_tolerance_in_a_cell_is_no_sum(tmp_path, capsys):
     # Judged as 50.2 mm, and copied as 50 mm with a tolerance, it would be two bars.
     drawing, table = tmp_path / "bar.drawing", tmp_path / "sizes.csv"

@@ -402,6 +402,20 @@ def test_a_point_beside_an_edge_that_lies_mirrored_is_named(program):
     assert list(mirrored(found.drawing, below)) == [("S", "P S.start", "P S.end")]
 
 
+def test_of_points_beside_one_edge_the_first_that_lies_mirrored_is_named():
+    """Four points above each of six edges: the first has the edge, so of the others none is named,
+    whatever the order of a set is in this run."""
+    drawing = read_drawing("".join(
+        f"segment S{n} 0 {60 * n} 40 {60 * n}\n" + "".join(
+            f"point {each}{n} {x} {60 * n + 20}\ndistance {each}{n} S{n}.start 25\n"
+            f"distance {each}{n} S{n}.end 25\n" for each, x in zip("DCBA", (8, 16, 24, 32)))
+        for n in range(1, 7)))
+    drawn = {ref: drawing.drawn(ref) for ref in drawing.points()}
+    below = {ref: (int(1000 * at.x_um), -int(1000 * at.y_um)) for ref, at in drawn.items()}
+    assert list(mirrored(drawing, Solution(below, {}))) == [
+        (f"S{n}", f"D{n} S{n}.start", f"D{n} S{n}.end") for n in range(1, 7)]
+
+
 def test_a_corner_that_turns_by_the_directions_of_its_edges_is_not_mirrored(program):
     """A rises by 11 degrees as it is drawn, and B by 10; told are 10 and 12, so that the corner
     turns to the left, and is drawn to turn to the right."""

@@ -133,7 +133,7 @@ def drawing_of(drawing: Drawing, columns: Sequence[str], variant: Variant) -> Dr
     try:
         values = tuple(_valued(each, given) for each in drawing.values)
         table, said = Values(values), list(drawing.constraints)
-        for column in places.keys() & given.keys():
+        for column in filter(places.__contains__, given):  # The first faulty cell is named.
             told = _told(said[places[column]], given[column], table)
             check_constraint(drawing.scene, told)
             said[places[column]] = told

@@ -146,5 +146,6 @@ def _points_by_distances(drawing: Drawing, shapes: Sequence[Segment | Arc],
     across = {frozenset(leaders_of(drawing, each)): each for each in sides}
     for third in across.values():
         one, other = (ways.get(end, {}) for end in leaders_of(drawing, third))
-        for point in (one.keys() & other.keys()) - ended:
-            yield [third, one[point], other[point]]
+        for point in one:  # In the order of the constraints: that of a set changes with each run.
+            if point in other and point not in ended:
+                yield [third, one[point], other[point]]
