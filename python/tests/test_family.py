@@ -105,6 +105,29 @@ def test_a_folder_of_another_drawing_is_refused(sizes, tmp_path, capsys):
     assert json.loads((out / "family.json").read_text())["columns"] == ["Width"]
 
 
+def test_what_a_file_has_more_since_then_keeps_its_folder(tmp_path, capsys):
+    """No drawing says a ratio of two lengths. So the drawing stays the same, and isn't good."""
+    plate = (TOP / "python" / "tests" / "files" / "plate.slvs").read_bytes()
+    plate = plate.replace(b"Constraint.type=30\n",
+                          b"Constraint.type=30\nConstraint.comment=Wide\n", 1)
+    path, table, out = tmp_path / "plate.slvs", tmp_path / "sizes.csv", tmp_path / "out"
+    path.write_bytes(plate)
+    table.write_text("Wide\n70\n")
+    words = ["family", str(path), str(table), "-o", str(out), "--jobs", "1"]
+    assert main(words) == 0
+    ratio = (b"Constraint.h.v=00000063\nConstraint.type=51\nConstraint.group.v=00000002\n"
+             b"Constraint.workplane.v=80020000\nConstraint.valA=1.5\n"
+             b"Constraint.entityA.v=00040000\nConstraint.entityB.v=00050000\n"
+             b"AddConstraint\n\n")
+    path.write_bytes(plate.replace(b"Constraint.h.v=00000001\n",
+                                   ratio + b"Constraint.h.v=00000001\n", 1))
+    assert main(words) == 2
+    assert "was begun with another drawing" in capsys.readouterr().err
+    assert main([*words[:3], "--jobs", "1"]) == 1
+    assert rows_of(capsys.readouterr().out)[1][2:5] == [
+        "well", "no", "left out of the file: c063-length-ratio: a drawing has no such constraint"]
+
+
 def test_parts_of_a_table_make_the_whole(sizes, capsys):
     found = []
     for part in ("1/3", "2/3", "3/3"):

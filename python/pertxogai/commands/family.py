@@ -58,9 +58,9 @@ class Task:
 
     def begun(self) -> Begun:
         """What a folder is begun with."""
-        text = write_drawing(self.drawing).encode("utf-8", "replace")
-        return Begun(hashlib.sha256(text).hexdigest(), self.columns, self.limit.amount, self.svg,
-                     self.dxf, self.copy)
+        text = "\n".join([write_drawing(self.drawing), *self.drawing.not_drawn])
+        digest = hashlib.sha256(text.encode("utf-8", "replace")).hexdigest()
+        return Begun(digest, self.columns, self.limit.amount, self.svg, self.dxf, self.copy)
 
 
 def judge_family(options: argparse.Namespace) -> Exit:

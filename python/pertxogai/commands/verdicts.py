@@ -44,7 +44,8 @@ class Told:
 
 @dataclass(frozen=True)
 class Begun:
-    """What a folder is begun with: a digest of the drawing, the columns, and the words."""
+    """What a folder is begun with: a digest of the drawing and of what its file has besides, the
+    columns, and the words."""
 
     drawing: str
     columns: tuple[str, ...]
