@@ -10,6 +10,7 @@ from pertxogai.drawing import (
     Horizontal, Length, Midpoint, Pair, PointLineDistance, PointOn, PointRef, ShapeRef, Symmetric,
     Tangent, Vertical, Which, XDistance)
 from pertxogai.drawing.soundness import faults
+from pertxogai.drawing.wording import words_of
 from pertxogai.files.contents import Addition, FileRefusal, FileSketch, NotDrivingCause
 from pertxogai.files.solvespace import read_solvespace, write_solvespace
 from pertxogai.files.solvespace.writing import write_additions, write_places
@@ -110,6 +111,10 @@ def test_dimensions_of_a_group_that_takes_them_as_references_stand_aside(tmp_pat
         (word, NotDrivingCause.REFERENCE)
         for word in ("pt-pt-distance", "pt-line-distance", "diameter")}
     assert len(one.aside) == 7 and not one.left_out
+    assert [words_of(said) for each in one.aside for said in each.constraints] == [
+        "length Line4 60", "length Line5 40", "distance Circle8.centre Line7 15",
+        "distance Circle8.centre Line4 20", "distance Circle9.centre Line7 45",
+        "distance Circle9.centre Line4 20", "diameter Circle8 10"]
     assert [type(each) for each in one.drawing.constraints] == (
         4 * [Coincident] + 2 * [Horizontal, Vertical] + [Coincident, Equal])
 
