@@ -158,6 +158,21 @@ def test_a_constraint_in_another_plane_is_left_out(tmp_path: Path) -> None:
     assert read_solvespace(path)[0].drawing == found("plate").drawing
 
 
+@pytest.mark.parametrize("plane", [b"00000000", b"00020000"], ids=["free in 3d", "the yz plane"])
+def test_a_circle_that_is_drawn_elsewhere_is_left_out(tmp_path: Path, plane: bytes) -> None:
+    """The second hole of the plate; and so are its two distances, and that it is as large as the
+    first."""
+    hole = b"Request.h.v=00000009\nRequest.type=400\nRequest.workplane.v="
+    path = edited(tmp_path, "plate", hole + b"80020000", hole + plane)
+    (one,) = read_solvespace(path)
+    assert not one.drawing.has("Circle9")
+    assert [str(each) for each in one.left_out] == [
+        "r009: it isn't drawn in the plane of its sketch",
+        "c00e-pt-line-distance: it refers to a point that isn't in this drawing",
+        "c00f-pt-line-distance: it refers to a point that isn't in this drawing",
+        "c011-equal-radius: it refers to a shape that isn't in this drawing"]
+
+
 @pytest.mark.parametrize("flag", [b"allDimsReference", b"relaxConstraints"])
 def test_nothing_is_added_where_it_would_not_hold(tmp_path: Path, flag: bytes) -> None:
     path = edited(tmp_path, "loose", flag + b"=0", flag + b"=1")
