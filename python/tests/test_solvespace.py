@@ -147,6 +147,25 @@ def test_a_plane_by_lines_or_of_another_group_has_no_axes(tmp_path: Path, old: b
             "1-pt-plane-distance", "2-pt-plane-distance", "3-pt-in-plane")]
 
 
+def test_nor_has_it_lines_along_the_axes(tmp_path: Path) -> None:
+    """Each of the reference planes and of their normals, along which distances are projected."""
+    (one,) = read_solvespace(edited(tmp_path, "mirrors", b"subtype=6000", b"subtype=6001"))
+    assert [str(each) for each in one.left_out] == [
+        *(f"c00{number}: it refers to a plane that is no axis of this drawing" for number in (
+            "2-pt-plane-distance", "3-pt-plane-distance", "4-symmetric")),
+        *(f"c00{number}-proj-pt-pt-distance: it is projected on a line that is no axis of this "
+          "drawing" for number in (5, 6))]
+
+
+def test_a_comment_says_nothing(tmp_path: Path) -> None:
+    comment = (b"Constraint.h.v=00000063\nConstraint.type=1000\nConstraint.group.v=00000002\n"
+               b"Constraint.workplane.v=80020000\nConstraint.comment=drill last\n"
+               b"AddConstraint\n\n")
+    first = b"Constraint.h.v=00000001\n"
+    (one,) = read_solvespace(edited(tmp_path, "plate", first, comment + first))
+    assert one.drawing == found("plate").drawing and not (one.left_out or one.aside)
+
+
 def test_a_constraint_in_another_plane_is_left_out(tmp_path: Path) -> None:
     """In the yz plane a distance of two points is that of their views there: here, of their y."""
     second = b"Constraint.type=30\nConstraint.group.v=00000002\nConstraint.workplane.v="
