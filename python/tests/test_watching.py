@@ -13,6 +13,7 @@ from pathlib import Path
 import pytest
 
 from conftest import TOP
+from pertxogai.commands import main
 from pertxogai.commands.watching import saves
 from pertxogai.program import Program
 
@@ -114,3 +115,27 @@ def test_a_file_that_is_not_there_is_refused(program: Program, tmp_path: Path) -
     with watched(tmp_path / "none.slvs", program) as process:
         said = process.communicate(timeout=SECONDS)[1]
         assert process.returncode == 2 and "there is no such file: save it once" in said
+
+
+@pytest.mark.parametrize("name, words, said", [
+    ("folder.drawing", [], "it is a folder: name one file in it"),
+    ("pipe.drawing", [], "it is a pipe or a device, which isn't saved: name a file"),
+    ("notes.txt", [], "the ending .txt isn't known: rename it to one of "),
+    ("a" * 300 + ".drawing", [], "can't be read: File name too long"),
+    ("notes.txt/a.drawing", [], "there is no such file: save it once"),
+    ("a.drawing", ["--seconds", "0"], "--seconds takes a number above 0"),
+    ("a.drawing", ["--program", "/nowhere/sketch"], "/nowhere/sketch is no program that can be"),
+])
+def test_what_no_save_mends_is_refused_at_once(
+        name: str, words: list[str], said: str, program: Program, tmp_path: Path,
+        capsys: pytest.CaptureFixture[str], monkeypatch: pytest.MonkeyPatch) -> None:
+    monkeypatch.setenv("PERTXOGAI_SKETCH", program.path)
+    monkeypatch.setattr("pertxogai.commands.watching.saves", lambda path: iter(()))
+    (tmp_path / "folder.drawing").mkdir()
+    os.mkfifo(tmp_path / "pipe.drawing")
+    for plain in ("notes.txt", "a.drawing"):
+        (tmp_path / plain).write_text("point A 0 0\n")
+    status = main(["watch", str(tmp_path / name), *words])
+    out, complaint = capsys.readouterr()
+    assert status == (3 if "--program" in words else 2) and out == ""
+    assert said in complaint and complaint.count("\n") == 1

@@ -8,7 +8,8 @@ OTHERWISE = ("2 if the arguments or a file can't be read, or nothing can be writ
 ENDS = {
     "judge": f"0 if every sketch is good; 1 if one isn't, and a line says why; {OTHERWISE}; of"
              " several files the greatest",
-    "watch": "2 if there is no such file; 130 once Ctrl-C ends it",
+    "watch": "2 if there is no such file, or it is none that can be judged; 3 if the program isn't"
+             " found; 130 once Ctrl-C ends it",
     "draw": "0 if the sketch is good, or --as-drawn drew it; 1 if it isn't good: the SVG is drawn"
             " all the same, and says why; 2 if the arguments or a file can't be read, nothing can"
             " be written, or a DXF of what isn't good is asked for; 3 if the program gave no"

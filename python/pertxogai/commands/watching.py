@@ -2,16 +2,16 @@
 from __future__ import annotations
 
 import argparse
-import sys
+import stat
 import time
 from collections.abc import Callable, Iterator
 from dataclasses import dataclass
 from pathlib import Path
 
-from pertxogai.commands.judging import judge_file
+from pertxogai.commands.judging import judge_file, program_of
 from pertxogai.exits import CommandError, Exit
 from pertxogai.files.contents import FileRefusal
-from pertxogai.files.kinds import InputRefused
+from pertxogai.files.kinds import InputRefused, check_kind
 from pertxogai.files.printable import printable
 from pertxogai.judging import TextRefused
 from pertxogai.program import ProgramError
@@ -33,15 +33,32 @@ class _Stamp:
 def watch_file(options: argparse.Namespace) -> Exit:
     """Prints what `judge` says of a file, now and each time that it is saved, until it is
     interrupted. A file that can't be read, and a program that gives no answer, are told in a line,
-    and it goes on. Raises CommandError where there is no such file."""
+    and it goes on. Raises CommandError, InputRefused and MissingProgram for what no save mends."""
     path: Path = options.file
-    if not path.exists():
-        raise CommandError(f"{path}: there is no such file: save it once, and watch it then")
+    _check_watched(path)
+    program_of(options)
     for _ in saves(path):
         print(time.strftime("%H:%M:%S"), printable(str(path)))
         _judge(path, options)
-        sys.stdout.flush()
+        print(end="", flush=True)
     return Exit.GOOD
+
+
+def _check_watched(path: Path) -> None:
+    """Raises CommandError where there is no such file, or it is none that a program saves;
+    InputRefused where its kind isn't known."""
+    try:
+        mode = path.stat().st_mode
+    except (FileNotFoundError, NotADirectoryError):
+        raise CommandError(
+            f"{path}: there is no such file: save it once, and watch it then") from None
+    except OSError as error:
+        raise CommandError(f"{path}: can't be read: {error.strerror or error}") from None
+    if stat.S_ISDIR(mode):
+        raise CommandError(f"{path}: it is a folder: name one file in it")
+    if not stat.S_ISREG(mode):
+        raise CommandError(f"{path}: it is a pipe or a device, which isn't saved: name a file")
+    check_kind(path)
 
 
 def saves(path: Path, pause: Callable[[float], object] = time.sleep) -> Iterator[None]:

@@ -65,10 +65,8 @@ def kind_of(path: Path) -> Kind | None:
     return next((it for it in KINDS if it.suffix.lower() == path.suffix.lower()), None)
 
 
-def read_inputs(path: Path) -> tuple[Input, ...]:
-    """The sketches of a file. Raises InputRefused."""
-    if path.is_dir():
-        raise InputRefused(f"{path}: it is a folder: name the files in it, such as {path / '*'}")
+def check_kind(path: Path) -> Kind:
+    """The kind of a file, by its name. Raises InputRefused if it isn't known."""
     kind = kind_of(path)
     if kind is None:
         known = ", ".join(f"{it.suffix} ({it.what})" for it in KINDS)
@@ -76,6 +74,14 @@ def read_inputs(path: Path) -> tuple[Input, ...]:
             f"{path}: the ending {path.suffix or 'of its name'} isn't known: rename it to one of"
             f" {known}"
         )
+    return kind
+
+
+def read_inputs(path: Path) -> tuple[Input, ...]:
+    """The sketches of a file. Raises InputRefused."""
+    if path.is_dir():
+        raise InputRefused(f"{path}: it is a folder: name the files in it, such as {path / '*'}")
+    kind = check_kind(path)
     try:
         return kind.read(path)
     except OSError as error:
