@@ -367,6 +367,20 @@ def test_the_launcher(tmp_path) -> None:
     assert closed.stderr == ""
 
 
+@pytest.mark.parametrize("words", [
+    ["--version"], ["judge", "--help"], ["judge", "triangle.sketch"],
+    ["judge", "--json", "plate.sketch"],
+    ["judge", "--jobs", "1", "plate.sketch", "triangle.sketch"],
+])
+def test_an_answer_that_a_full_device_does_not_take_is_told(words: list[str]) -> None:
+    environment = {**os.environ, "PYTHONUNBUFFERED": ""}
+    with open("/dev/full", "w") as full:
+        done = subprocess.run([str(TOP / "pertxogai"), *words], cwd=EXAMPLES, stdout=full,
+                              stderr=subprocess.PIPE, text=True, env=environment)
+    assert (done.returncode, done.stderr) == (
+        2, "pertxogai: the answer can't be written: No space left on device\n")
+
+
 def test_the_example_of_the_readme(tmp_path) -> None:
     def run(*sides: str) -> subprocess.CompletedProcess[str]:
         words = [

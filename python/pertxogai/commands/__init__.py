@@ -3,6 +3,7 @@
 from __future__ import annotations
 
 import argparse
+import errno
 import io
 import os
 import sys
@@ -48,6 +49,8 @@ SKETCH = "the sketch to take from a file that has several"
 SECONDS = "the time limit of a call of the program (default: %(default)g)"
 WITHIN = "the limit within which a constraint counts as met, in nm and ppb (default: %(default)s)"
 WRITE = "copy a .FCStd or .slvs to OUT, with each good sketch moved to its solved position"
+FULL = frozenset({errno.ENOSPC, errno.EDQUOT, errno.EFBIG, errno.EIO})
+"""What the system says where a device takes no more."""
 Commands: TypeAlias = "argparse._SubParsersAction[argparse.ArgumentParser]"
 
 
@@ -55,22 +58,42 @@ def main(words: Sequence[str] | None = None) -> int:
     """Does what the words ask for, and returns the exit status."""
     if isinstance(sys.stdout, io.TextIOWrapper):
         sys.stdout.reconfigure(errors="backslashreplace")
-    words = sys.argv[1:] if words is None else words
-    options = command_line(*words[:1]).parse_args(words)
-    act: Callable[[argparse.Namespace], Exit] = options.act
     try:
-        return act(options)
-    except TextRefused as refused:
-        return _complain(f"{options.file}: {refused.told}", Exit.BAD_INPUT)
+        return _done(sys.argv[1:] if words is None else words)
     except (CommandError, FileRefusal, InputRefused) as error:
         return _complain(error, Exit.BAD_INPUT)
     except ProgramError as error:
         return _complain(error, Exit.NO_ANSWER)
     except BrokenPipeError:
-        os.dup2(os.open(os.devnull, os.O_WRONLY), sys.stdout.fileno())
+        _drop_output()
         return Exit.BAD_INPUT
+    except OSError as error:
+        if error.errno not in FULL or error.filename is not None:
+            raise
+        _drop_output()
+        return _complain(f"the answer can't be written: {error.strerror}", Exit.BAD_INPUT)
     except KeyboardInterrupt:
         return 130
+
+
+def _done(words: Sequence[str]) -> Exit:
+    """Does what the words ask for, and writes all of the answer."""
+    try:
+        options = command_line(*words[:1]).parse_args(words)
+    finally:  # The help and the version are printed by now, and end Python.
+        print(end="", flush=True)
+    act: Callable[[argparse.Namespace], Exit] = options.act
+    try:
+        status = act(options)
+    except TextRefused as refused:
+        return _complain(f"{options.file}: {refused.told}", Exit.BAD_INPUT)
+    print(end="", flush=True)
+    return status
+
+
+def _drop_output() -> None:
+    """Has what is still to be written go nowhere, since Python writes it at its end."""
+    os.dup2(os.open(os.devnull, os.O_WRONLY), sys.stdout.fileno())
 
 
 def _complain(error: Exception | str, status: Exit) -> Exit:
