@@ -6,7 +6,7 @@ two tolerances. The answer is that of `sketch verify`, in the same words and wit
     0  verified steps K length T nm angle W ppb     1  refused line N CODE word     9  verify fails WHAT
 
 With --explain, lines before it say what was computed of each step, constraint and sign. Status 2 is for other words than
-these, 3 where FILE can't be read. README.md beside this file says what an accepted claim means."""
+these, 3 where nothing can be read, 4 where nothing can be written. README.md says what an accepted claim means."""
 import re
 import sys
 from collections import namedtuple
@@ -93,8 +93,7 @@ class Sketch:
     def read(self, line):
         """Reads a line behind the header. Answers whether it was the `end`."""
         words = words_of(line, has_comments=self.version == 2)
-        if not words:
-            return False
+        if not words: return False
         first, rest = words[0], words[1:]
         is_block = first == "block" and self.version == 2
         require(first in ELEMENT_WORDS or first in KINDS or first == "end" or is_block, "E2")
@@ -176,8 +175,7 @@ class Claim:
 
     def read(self, line):
         words = words_of(line, has_comments=False)
-        if not words:
-            return
+        if not words: return
         require(self.tolerances is None, "E17")
         require(words[0] in CLAIM_WORDS, "E2")
         require(len(words) in CLAIM_WORDS[words[0]], "E3")
@@ -344,7 +342,9 @@ if __name__ == "__main__":
         sys.exit(2)
     try:
         data = (open(files[0], "rb") if files else sys.stdin.buffer).read(2**20 + 1)
-    except OSError: sys.exit(3)
-    status, line = answer(data, print if "--explain" in sys.argv[1:2] else lambda said: None)
-    print(line)
+    except (OSError, AttributeError): sys.exit(3)  # a standard input that is closed has no buffer
+    try:
+        status, line = answer(data, print if "--explain" in sys.argv[1:2] else lambda said: None)
+        print(line, flush=True)
+    except OSError: status, sys.stdout = 4, None  # so that Python doesn't write the rest at its end
     sys.exit(status)

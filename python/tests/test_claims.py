@@ -2,6 +2,7 @@
 share nothing with it."""
 from __future__ import annotations
 
+import os
 import subprocess
 import sys
 from collections.abc import Callable
@@ -171,6 +172,17 @@ def test_a_file_is_read_as_standard_input_is(in_c: Path, tmp_path: Path) -> None
         for path, status, said in ((claim, 0, f"{VERIFIED}\n"), (tmp_path / "none", 3, "")):
             run = subprocess.run([*words, path], capture_output=True, check=False, text=True)
             assert (run.returncode, run.stdout) == (status, said)
+
+
+@pytest.mark.parametrize("unbuffered", ["", "1"])
+def test_an_input_or_output_that_fails_has_a_status_of_its_own(unbuffered: str, in_c: Path) -> None:
+    """Standard input is closed, or standard output is a device that takes nothing."""
+    environment = {**os.environ, "PYTHONUNBUFFERED": unbuffered}
+    for words in ([sys.executable, checkers.CHECKER / "sketch_claim.py"], [in_c]):
+        for told, status in (('"$@" <&-', 3), ('"$@" > /dev/full', 4), ('"$@" --explain > /dev/full', 4)):
+            run = subprocess.run(["sh", "-c", told, "sh", *words], input=TRIANGLE.encode(),
+                                 capture_output=True, check=False, env=environment)
+            assert (run.returncode, run.stdout, run.stderr) == (status, b"", b""), (words, told)
 
 
 def test_it_is_one_file_of_at_most_350_lines_on_the_standard_library() -> None:
