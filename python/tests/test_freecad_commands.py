@@ -111,6 +111,12 @@ def test_what_others_follow_from_stays(told: dict[str, Any]) -> None:
     assert facts["same"]
 
 
+def test_what_another_open_document_follows_from_stays(told: dict[str, Any]) -> None:
+    assert told["repair_linked width"] == {
+        "above": ["other#Box.Length", "other#Sheet.A1"], "below": ["Constraint11"]}
+    assert told["repair_linked alone"] == {"above": [], "below": ["Constraint11"]}
+
+
 def test_what_says_two_things_is_tried_as_a_whole(told: dict[str, Any]) -> None:
     """A tangency at an end has the end on the circle, and the line along it there. That is said
     once more of the end, and without the tangency the line may turn."""

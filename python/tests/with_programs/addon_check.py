@@ -24,6 +24,7 @@ from pertxogai_freecad.certifying import certify  # noqa: E402
 from pertxogai_freecad.changes import place  # noqa: E402
 from pertxogai_freecad.completing import Proposed  # noqa: E402
 from pertxogai_freecad.constructing import construct  # noqa: E402
+from pertxogai_freecad.following import followers  # noqa: E402
 from pertxogai_freecad.judging import judge_sketch  # noqa: E402
 from pertxogai_freecad.ranging import ranges  # noqa: E402
 from pertxogai_freecad.repairing import Repair  # noqa: E402
@@ -145,6 +146,30 @@ def check_repair_followed():
     (above,) = (each for each in repair.candidates if each.name == "above")
     yield "width", {"stays": stays, "trouble": trouble_of(lambda: repair.take_away(above.index)),
                     "same": stored_of(sketch) == before}
+    FreeCAD.closeDocument(document.Name)
+
+
+def check_repair_linked():
+    """A width that a box and a cell of another document follow from stays; others of that document
+    follow from a sketch of their own, of the same name."""
+    sketch = opened("contradiction")
+    document, other = sketch.Document, FreeCAD.newDocument("other")
+    sketch.setExpression(f"Constraints[{HEIGHT}]", "_self.Constraints.below * 2 / 3")
+    own = other.addObject("Sketcher::SketchObject", "Sketch")
+    own.addGeometry(Part.LineSegment(FreeCAD.Vector(0, 0, 0), FreeCAD.Vector(5, 0, 0)))
+    own.addConstraint(Sketcher.Constraint("Distance", 0, 5.0))
+    own.renameConstraint(0, "above")
+    other.saveAs(os.path.join(os.environ["FOLDER"], "other.FCStd"))  # Else FreeCAD links nothing.
+    other.addObject("Part::Box", "Box").setExpression(
+        "Length", "contradiction#Sketch.Constraints.above")
+    other.addObject("Part::Box", "Own").setExpression("Length", "Sketch.Constraints.above")
+    other.addObject("Spreadsheet::Sheet", "Sheet").set(
+        "A1", "=<<contradiction>>#<<Sketch>>.Constraints.above")
+    numbers = {each.Name: index for index, each in enumerate(sketch.Constraints)}
+    yield "width", {name: followers(sketch, numbers[name]) for name in ("above", "below")}
+    os.remove(other.FileName)
+    FreeCAD.closeDocument(other.Name)
+    yield "alone", {name: followers(sketch, numbers[name]) for name in ("above", "below")}
     FreeCAD.closeDocument(document.Name)
 
 
@@ -360,7 +385,7 @@ def main():
     """All of it, and the end."""
     told = {}
     for check in (check_judge, check_repair, check_repair_moves, check_repair_followed,
-                  check_repair_in_part, check_repair_not_good, check_complete,
+                  check_repair_linked, check_repair_in_part, check_repair_not_good, check_complete,
                   check_complete_two, check_complete_moved,
                   check_complete_outer, check_complete_nothing, check_place, check_place_rough,
                   check_certify, check_construction,
