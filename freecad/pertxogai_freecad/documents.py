@@ -93,7 +93,7 @@ def run(command: str, folder: Path, out: Path | None = None) -> Ends:
 
 def _document(command: str, path: Path, asked: Asked) -> Ends:
     """Does a command for each sketch of one document."""
-    from pertxogai_freecad.sketches import read_sketches
+    from pertxogai_freecad.sketches import read_sketches, write_copy
 
     out = asked.out / path.name if asked.out is not None else None
     try:
@@ -104,7 +104,7 @@ def _document(command: str, path: Path, asked: Asked) -> Ends:
             told = [_sketch(command, read, asked) for read in read_sketches(document)]
             if out is not None and any(is_changed for _, is_changed in told):
                 out.parent.mkdir(parents=True, exist_ok=True)
-                document.saveCopy(str(out))
+                write_copy(document, out)
                 print(f"{path.name}: wrote {out}")
     except (Trouble, OSError) as trouble:
         print(f"{path.name}: {trouble}")

@@ -3,10 +3,12 @@ from __future__ import annotations
 
 import re
 from collections.abc import Mapping
+from contextlib import suppress
 from dataclasses import dataclass
 from functools import cached_property
 from pathlib import Path
 from tempfile import TemporaryDirectory
+from zipfile import is_zipfile
 
 from pertxogai.drawing import Drawing, Shape
 from pertxogai.files.contents import FileSketch
@@ -100,9 +102,20 @@ def read_sketches(document: OwnDocument) -> tuple[ReadSketch, ...]:
     sketches = {each.Name: each for each in document.Objects if each.TypeId in SKETCHES}
     if not sketches:
         raise Trouble(f"{document.Label} has no sketch: draw one in the Sketcher")
-    with TemporaryDirectory(prefix="pertxogai-") as room, troubles():
+    with troubles(), TemporaryDirectory(prefix="pertxogai-") as room:
         copy = Path(room, "copy.FCStd")
-        document.saveCopy(str(copy))
+        write_copy(document, copy)
         found = read_freecad(copy)
     return tuple(ReadSketch(sketches[each.name], each, stored_of(sketches[each.name]))
                  for each in found)
+
+
+def write_copy(document: OwnDocument, path: Path) -> None:
+    """Writes a copy of a document. Raises Trouble where FreeCAD couldn't write it, also where it
+    doesn't say so, and leaves no part of one."""
+    with suppress(Exception):  # FreeCAD raises errors of its own, or none.
+        document.saveCopy(str(path))
+    if not is_zipfile(path):
+        path.unlink(missing_ok=True)
+        raise Trouble(f"FreeCAD couldn't write {path}: look at its folder, and whether the disk is "
+                      "full")

@@ -15,7 +15,8 @@ class NotGoodTrouble(Trouble):
 
 @contextmanager
 def troubles() -> Iterator[None]:
-    """Raises Trouble for whatever the package refuses, with the package's own line."""
+    """Raises Trouble for whatever the package refuses, with the package's own line, and for what
+    the system does."""
     from pertxogai.exits import CommandError
     from pertxogai.files.contents import FileRefusal
     from pertxogai.judging import DrawingRefused
@@ -26,5 +27,5 @@ def troubles() -> Iterator[None]:
     try:
         yield
     except (CommandError, FileRefusal, DrawingRefused, NotAccepted, NotHeld, Refusal,
-            ProgramError) as refused:
+            ProgramError, OSError) as refused:
         raise Trouble(" ".join(str(refused).split())) from None

@@ -244,6 +244,10 @@ def test_what_is_set_wrongly_is_told_by_name(told: dict[str, Any]) -> None:
     lost = told["program lost"]["trouble"]
     assert lost.startswith("/nowhere/sketch is no program that can be run")
     assert told["program within"]["trouble"].endswith("change it in Edit, Preferences.., Pertxogai")
+    assert "No such file or directory: '/nowhere/" in told["program room"]["trouble"]
+    full = told["program full"]
+    assert re.fullmatch(r"FreeCAD couldn't write .*/full\.FCStd: look at its folder, and whether the "
+                        "disk is full", full["trouble"]) and not full["left"]
 
 
 def sums(folder: Path) -> dict[str, str]:

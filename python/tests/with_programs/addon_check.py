@@ -8,6 +8,8 @@ facts of each check by its name. What is expected stands in python/tests/test_fr
 """
 import json
 import os
+import resource
+import tempfile
 import traceback
 from pathlib import Path
 
@@ -28,7 +30,7 @@ from pertxogai_freecad.following import followers  # noqa: E402
 from pertxogai_freecad.judging import judge_sketch  # noqa: E402
 from pertxogai_freecad.ranging import ranges  # noqa: E402
 from pertxogai_freecad.repairing import Repair  # noqa: E402
-from pertxogai_freecad.sketches import read_sketch, stored_of  # noqa: E402
+from pertxogai_freecad.sketches import read_sketch, stored_of, write_copy  # noqa: E402
 
 ARCS, END = (0, 1), 2
 """The numbers of two arcs of the link, and of a shape's end."""
@@ -375,10 +377,22 @@ def check_range():
 
 
 def check_program():
-    """A program that isn't there."""
+    """A program that isn't there, a limit that is none, and no room for a copy: no folder for it,
+    and a system that takes 1,000 bytes of it."""
     lost = Settings(program="/nowhere/sketch")
     yield "lost", {"trouble": trouble_of(lambda: find_program(lost))}
     yield "within", {"trouble": trouble_of(lambda: limit_of(Settings(within=0)))}
+    sketch = opened("plate")
+    tempfile.tempdir = "/nowhere"
+    trouble = trouble_of(lambda: read_sketch(sketch))
+    tempfile.tempdir = None
+    yield "room", {"trouble": trouble}
+    path, limits = Path(os.environ["FOLDER"], "full.FCStd"), resource.getrlimit(resource.RLIMIT_FSIZE)
+    resource.setrlimit(resource.RLIMIT_FSIZE, (1000, limits[1]))
+    trouble = trouble_of(lambda: write_copy(sketch.Document, path))
+    resource.setrlimit(resource.RLIMIT_FSIZE, limits)
+    yield "full", {"trouble": trouble, "left": path.exists()}
+    FreeCAD.closeDocument(sketch.Document.Name)
 
 
 def main():
