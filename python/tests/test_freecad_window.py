@@ -111,6 +111,12 @@ def test_a_construction_is_drawn_over_the_sketch_and_goes_with_the_panel(
     assert facts["plays"] == "Pause"
 
 
+def test_a_construction_lies_over_construction_lines_alone(told: dict[str, Any]) -> None:
+    facts = told["construction_lines"]
+    assert facts["edges"] == 0 and facts["steps"] == 6 and facts["drawn"] == 1
+    assert facts["last"].startswith("step 6 makes ") and facts["last"].endswith(" (6 / 6)")
+
+
 def test_a_construction_lies_over_a_sketch_that_is_turned(told: dict[str, Any]) -> None:
     """A plate of 60 x 40 mm that stands on its lower edge, 20 mm behind the origin."""
     facts = told["construction_turned"]

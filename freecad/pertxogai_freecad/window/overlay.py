@@ -7,6 +7,7 @@ from collections.abc import Iterable, Mapping, Sequence
 from contextlib import suppress
 from typing import Any
 
+import FreeCAD
 import FreeCADGui
 from pivy import coin
 
@@ -23,6 +24,8 @@ Spot = tuple[float, float]
 CORNERS = 48
 """Into how many pieces a curve is cut to be shown."""
 DASHES = 0x0F0F
+LEAST_REACH_MM = 1.0
+"""How long a line without ends is shown at least, as where there is a single point."""
 LIFT_MM = 0.01
 """How far all of it lies above the sketch, so that it is seen."""
 
@@ -75,8 +78,12 @@ class Overlay:
         return [(each.x, each.y) for each in curve.toShape().discretize(CORNERS)]
 
     def _reach(self) -> float:
-        """How long a line without ends is shown, in millimetres."""
-        return float(self._sketch.Shape.BoundBox.DiagonalLength) or 1.0
+        """How long a line without ends is shown, in millimetres. The sketch's own Shape has no
+        construction geometry, and nothing of what FreeCAD's solver doesn't solve."""
+        box = FreeCAD.BoundBox()
+        for each in self._sketch.Geometry:
+            box.add(each.toShape().BoundBox)
+        return max(float(box.DiagonalLength), LEAST_REACH_MM) if box.isValid() else LEAST_REACH_MM
 
 
 def _placed(sketch: OwnSketch) -> Any:

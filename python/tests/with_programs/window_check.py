@@ -310,6 +310,23 @@ def check_construction():
     return facts
 
 
+def check_construction_lines():
+    """Over a sketch that has nothing but construction lines, of which FreeCAD makes no shape."""
+    sketch = opened("plate")
+    for count in range(len(sketch.Geometry)):
+        sketch.toggleConstruction(count)
+    sketch.Document.recompute()
+    scene = FreeCADGui.ActiveDocument.ActiveView.getSceneGraph()
+    children = scene.getNumChildren()
+    run("Construction")
+    slider = found(QtGui.QSlider, "Slider")
+    slider.setValue(slider.maximum())
+    facts = {"edges": len(sketch.Shape.Edges), "steps": slider.maximum(), "last": text("Step"),
+             "drawn": scene.getNumChildren() - children}
+    closed(sketch)
+    return facts
+
+
 def check_construction_turned():
     """Over a sketch that lies elsewhere; and not where a spreadsheet is in front."""
     sketch = opened("plate")
@@ -409,7 +426,8 @@ def check_nothing():
 
 CHECKS = (check_workbench, check_untouched, check_judge, check_repair, check_two_documents,
           check_complete,
-          check_construction, check_construction_turned, check_range_and_certify, check_place,
+          check_construction, check_construction_lines, check_construction_turned,
+          check_range_and_certify, check_place,
           check_clusters, check_gone, check_nothing)
 
 
