@@ -214,6 +214,16 @@ def test_directions_that_contradict_are_left_general() -> None:
             assert isinstance(constraint, AngleBetween) or off < Decimal("1e-40")
 
 
+@pytest.mark.parametrize("right", ["perpendicular {}", "angle {} 90deg", "angle {} 1/0"])
+def test_directions_that_contradict_leave_right_angles(right: str) -> None:
+    """The sides of a rectangle are equal in pairs, and of its four angles one follows from the others:
+    its height alone, which is told once, is needed in any case."""
+    angles = "".join(f"{right.format(each)}\n" for each in ("A B", "B C", "C D"))
+    found = free_of(QUADRILATERAL + angles + "angle D A 80deg\nlength A 40\nlength B 32\nlength C 40\n")
+    assert (found.lacks, found.excess) == (0, 2)
+    assert [number for number in range(1, 8) if found.may_go(number)] == [1, 2, 3, 4, 5, 7]
+
+
 def test_a_rank_that_takes_too_long_is_not_told(monkeypatch: pytest.MonkeyPatch) -> None:
     monkeypatch.setattr("pertxogai.judging.freedoms.Steps", lambda: Steps(10))
     assert freedoms(read_drawing(TRIANGLE + "length A 41\n")) is None

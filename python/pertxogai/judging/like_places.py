@@ -15,9 +15,9 @@ from random import Random
 from typing import Generic
 
 from pertxogai.drawing import (
-    AngleBetween, Arc, Circle, Coincident, Concentric, Constraint, Diameter, Distance, Drawing,
-    Fixed, Horizontal, Length, Midpoint, ParallelDistance, PointLineDistance, PointRef, Radius,
-    Segment, ShapeRef, Symmetric, Vertical, XDistance, YDistance)
+    AngleBetween, Arc, Circle, Coincident, Concentric, Constraint, Degrees, Diameter, Distance,
+    Drawing, Fixed, Horizontal, Length, Midpoint, ParallelDistance, PointLineDistance, PointRef,
+    Radius, Segment, ShapeRef, Symmetric, Vertical, XDistance, YDistance)
 from pertxogai.judging.equations import Plane, Unknowns
 from pertxogai.judging.jets import DECIMALS, EXACT, FLOATS, Jet, N, Rows, Steps, unit_row
 
@@ -51,11 +51,20 @@ class Held(Enum):
             case Held.DIRECTIONS:
                 return not isinstance(constraint, LENGTHS)
             case Held.NO_VALUE:
-                return not (isinstance(constraint, (*LENGTHS, AngleBetween, Fixed))
-                            or _tells_a_run(constraint))
+                return not (isinstance(constraint, (*LENGTHS, Fixed))
+                            or _tells_an_angle(constraint) or _tells_a_run(constraint))
             case Held.LINEAR:
                 return isinstance(constraint, LINEAR) or (
                     isinstance(constraint, Symmetric) and isinstance(constraint.about, PointRef))
+
+
+def _tells_an_angle(constraint: Constraint) -> bool:
+    """Whether it tells an angle that isn't a right one: two lines at a right angle are
+    perpendicular, whichever of the two words says so."""
+    if not isinstance(constraint, AngleBetween):
+        return False
+    value = constraint.value
+    return value.value % 180 != 90 if isinstance(value, Degrees) else value.q != 0
 
 
 def _tells_a_run(constraint: Constraint) -> bool:
