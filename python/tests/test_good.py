@@ -428,6 +428,8 @@ def test_a_corner_that_turns_by_the_directions_of_its_edges_is_not_mirrored(prog
     "angle A +60deg\nangle B -30deg\nlength A 40\nlength B 30\n",
     "angle A +60deg\nangle YAxis B -120deg\nlength A 40\nlength B 30\n",
     "horizontal A\nvertical B\nlength A 40\ny A.end B.end -30\n",
+    "horizontal A.start A.end\nvertical B.start B.end\nlength A 40\ny A.end B.end -30\n",
+    "on A.end XAxis\nx A.end B.end 0\nlength A 40\ny A.end B.end -30\n",
     "horizontal A\nvertical B\nlength A 40\ny B.end -30\n",  # A begins in the origin.
     "horizontal A\nperpendicular A B\nlength A 40\ny A.end B.end -30\n",
     "x A.end +40\ny A.end -1\nx B.end +50\ny B.end -30\n",

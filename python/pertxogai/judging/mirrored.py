@@ -92,7 +92,8 @@ class _Words:
         run = self._runs.run(*edge.ends)
         if None not in run:
             return any(run)
-        return self._runs.is_directed(edge.name) and (
+        is_directed = 0 in run or self._runs.is_directed(edge.name)
+        return is_directed and (
             any(run) or self._runs.is_turned(X_AXIS.name, edge.name)
             or dot(edge.drawn.way, edge.placed.way) > 0)
 

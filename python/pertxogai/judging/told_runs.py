@@ -63,13 +63,13 @@ class ToldRuns:
             self._take(each)
 
     def _take(self, said: Constraint) -> None:
-        """Takes what a constraint tells with a sign, and what is level by it."""
+        """Takes what a constraint tells with a sign, and what is level or upright by it."""
         match said:
             case AngleBetween(line, other, Degrees()) if said.sense is Sense.SIGNED:
                 self._turned.tell(line.name, other.name, 0)
-            case XDistance(first, second, value) if said.sense is Sense.SIGNED:
+            case XDistance(first, second, value) if said.sense is Sense.SIGNED or not value:
                 self._tell(self._along_x, first, second, value)
-            case YDistance(first, second, value) if said.sense is Sense.SIGNED:
+            case YDistance(first, second, value) if said.sense is Sense.SIGNED or not value:
                 self._tell(self._along_y, first, second, value)
             case Horizontal(Pair(first, second)):
                 self._tell(self._along_y, first, second, 0)
@@ -88,8 +88,8 @@ class ToldRuns:
         return self._turned.run(line, other) is not None
 
     def run(self, first: PointRef, second: PointRef) -> tuple[Number | None, Number | None]:
-        """How far the second lies from the first along x, and along y; None where no words with a
-        sign say so."""
+        """How far the second lies from the first along x, and along y; None where no words say so
+        that have a sign, or say that it is 0."""
         first, second = self._leader(first), self._leader(second)
         return self._along_x.run(first, second), self._along_y.run(first, second)
 
