@@ -494,6 +494,14 @@ def test_what_follows_is_not_nearly_so():
     assert nearly(read_drawing(PLATE + "length PlateBottom 80\nlength PlateRight 50\n")) == ()
 
 
+@pytest.mark.parametrize("touch", ["tangent S A", "tangent A S", "tangent S.end A.start"])
+def test_a_touch_of_an_arc_that_is_told_is_not_nearly_so(touch):
+    """The arc's radius is the height of its centre over S, which is no whole number of
+    micrometres where the arc is placed."""
+    text = "segment S 0 0 40 0\nhorizontal S\nlength S 40\n"
+    assert nearly(read_drawing(f"{text}arc A 40 12.3 S.end 52.4 13\n{touch}\n")) == ()
+
+
 def test_lines_are_added_behind_the_drawing_with_its_notes():
     drawing = read_drawing("# a plate\n" + PLATE + "# its end\n")
     more = read_drawing(PLATE + "length PlateBottom 80\n").constraints[-1:]

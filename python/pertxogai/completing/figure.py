@@ -4,7 +4,7 @@ from __future__ import annotations
 
 from cmath import phase
 from collections.abc import Iterator
-from math import degrees
+from math import degrees, hypot
 
 from pertxogai.drawing import (
     DATUM_NAMES, ORIGIN, AngleBetween, Arc, Circle, Coincident, Constraint, Drawing, Fixed,
@@ -83,8 +83,12 @@ class Figure:
         return abs(self.beside(point, edge).imag) * self.length_um(edge)
 
     def radius_um(self, rim: Circle | Arc) -> float:
-        """The radius of a circle or an arc."""
-        return float(self.drawing.drawn_radius_um(rim.name))
+        """The radius of a circle or an arc. That of an arc isn't rounded: where a drawing is
+        placed, its touches hold to a nanometre."""
+        if isinstance(rim, Circle):
+            return float(rim.radius_um)
+        middle, start = map(self.drawing.drawn, (centre(rim), ends(rim)[0]))
+        return hypot(*map(float, middle.way_to(start)))
 
     def turn(self, first: Segment, second: Segment) -> float:
         """By how much the first edge has to turn to the left to run as the second."""

@@ -23,8 +23,8 @@ NEAR_PART = 0.01
 touch by no more than this part of the radius nearly touch."""
 HAIR = 1e-3
 """Nearer than this part of the drawing's size points are nearly one, or on a line."""
-EXACT_MM, EXACT_DEGREES = 2e-6, 1e-5
-"""What is off by no more holds."""
+EXACT_MM, EXACT_DEGREES = 5e-6, 1e-5
+"""What is off by no more holds: whole nanometres of the ends and the centres of two arcs."""
 MOST_EDGES = 150
 """Of a drawing with more edges, only those are compared that share a corner."""
 Sized = TypeVar("Sized", Segment, Circle, Arc)
