@@ -98,3 +98,30 @@ def test_what_lies_on_the_other_side_is_told(
     found = warnings(drawing, placed(drawing, places))
     assert [each.shapes for each in found
             if getattr(each, "departure", None) is DepartureKind.ACROSS] == told
+
+
+CHAIN = """segment A Origin -40 5
+segment B A.end -70 30
+length A 40
+length B 30
+"""
+"""A is drawn at 173 degrees, and B at 140."""
+ALONE = "segment A Origin -40 -10\nlength A 40\n"
+
+
+@pytest.mark.parametrize(("text", "last_mm"), [
+    # A at 10 degrees, and B at 100: 40 cos 10 + 30 cos 100, 40 sin 10 + 30 sin 100.
+    (CHAIN + "angle A +10deg\nangle A B +90deg\n", (34.1829, 36.4902)),
+    (CHAIN + "angle A B +90deg\nangle A +10deg\n", (34.1829, 36.4902)),
+    (CHAIN + "angle B A -90deg\nangle A +10deg\n", (34.1829, 36.4902)),
+    # 40 cos 60, 40 sin 60: from the x axis, or from the edge to the x axis, or to the y axis.
+    (ALONE + "angle XAxis A +60deg\n", (20, 34.6410)),
+    (ALONE + "angle A XAxis -60deg\n", (20, 34.6410)),
+    (ALONE + "angle A YAxis +30deg\n", (20, 34.6410))])
+def test_a_signed_angle_is_met_wherever_its_segment_is_drawn(
+        text: str, last_mm: tuple[float, float]) -> None:
+    drawing = read_drawing(text)
+    found = judge(drawing, quickest())
+    assert found.solution is not None and not any(found.limit.beyond(found.deviations))
+    x, y = found.solution.spot(PointRef(drawing.geometry[-1].name, Which.END))
+    assert (float(x) / MM, float(y) / MM) == pytest.approx(last_mm, abs=1e-4)

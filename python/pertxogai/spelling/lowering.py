@@ -23,6 +23,9 @@ from pertxogai.spelling.linear import Form, Number, small
 
 LEVEL = Lean()
 RIMS = (Circle, Arc)
+TURNS = 16
+"""How often all segments with signed angles are drawn anew at most: angles that contradict each
+other would turn them for ever."""
 
 
 DRAWN = (XDistance, YDistance, AngleBetween, Tangent, Fixed)
@@ -93,9 +96,11 @@ class _Lowering:
         self.facts.own[Y_AXIS] = (ORIGIN_KNOT, ORIGIN_KNOT)
         for number, shape in enumerate(self.drawing.geometry, 1):
             self._shape(shape, Owner(number, True))
-        for constraint in self.drawing.constraints:
-            if isinstance(constraint, AngleBetween) and constraint.sense is Sense.SIGNED:
-                self._redraw(constraint)
+        signed = [each for each in self.drawing.constraints
+                  if isinstance(each, AngleBetween) and each.sense is Sense.SIGNED]
+        for _ in signed[:TURNS]:  # One that is redrawn turns what is told from it, or joined to it.
+            if not any([self._redraw(each) for each in signed]):
+                break
         for number in range(1, len(self.drawing.constraints) + 1):
             self.one(number)
         return self.facts
@@ -246,23 +251,28 @@ class _Lowering:
             case Collinear(first, second):
                 self._say(OneLine(first, second, owner))
 
-    def _redraw(self, angle: AngleBetween) -> None:
+    def _redraw(self, angle: AngleBetween) -> bool:
         """Draws a segment as its signed angle says, where it is drawn more than half a right angle
-        off."""
-        first, second = self.facts.direction(angle.first), self.facts.direction(angle.second)
+        off: the second of two, or the one that has the angle with an axis. Returns whether it was
+        drawn so."""
         asked = turn(self.drawing, angle)
         if isinstance(asked, Degrees):
             radians = float(asked.value) * pi / 180
         else:
             radians = atan2(asked.p, asked.q) + (pi if asked.backward else 0)
-        goal = atan2(float(first[1]), float(first[0])) + radians
+        is_last = isinstance(self.drawing.shape(angle.second.name), Segment)
+        fixed, turned = (angle.first, angle.second) if is_last else (angle.second, angle.first)
+        if not isinstance(self.drawing.shape(turned.name), Segment):
+            return False
+        first, second = self.facts.direction(fixed), self.facts.direction(turned)
+        goal = atan2(float(first[1]), float(first[0])) + (radians if is_last else -radians)
         size = hypot(float(second[0]), float(second[1]))
-        near = cos(goal - atan2(float(second[1]), float(second[0]))) >= sqrt(0.5)
-        if isinstance(self.drawing.shape(angle.second.name), Segment) and not near:
-            start, end = self._ends(angle.second.name)
-            x, y = self.facts.drawn[start]
-            self.facts.drawn[end] = (x + Fraction(size * cos(goal)),
-                                     y + Fraction(size * sin(goal)))
+        if cos(goal - atan2(float(second[1]), float(second[0]))) >= sqrt(0.5):
+            return False
+        start, end = self._ends(turned.name)
+        x, y = self.facts.drawn[start]
+        self.facts.drawn[end] = (x + Fraction(size * cos(goal)), y + Fraction(size * sin(goal)))
+        return True
 
     def _on(self, point: Knot, curve: ShapeRef, owner: Owner) -> None:
         if isinstance(self.drawing.shape(curve.name), RIMS):
