@@ -5,6 +5,7 @@ from __future__ import annotations
 import json
 from pathlib import Path
 
+from all_shown import COUNTS, settle
 from boards import Served, wait_for
 from browsing import Page
 from selenium.webdriver.common.by import By
@@ -204,6 +205,18 @@ def test_the_menu_goes_by_a_click_elsewhere_and_by_escape(page: Page) -> None:
     page.driver.switch_to.active_element.send_keys(Keys.ESCAPE)
     assert not page.driver.execute_script(is_open)
     assert page.driver.execute_script(FOCUSED).tag_name == "summary"
+
+
+def test_escape_gives_up_what_goes_with_the_hand(page: Page) -> None:
+    """A corner of which only the drawn position moves, and the label of a dimension."""
+    page.begin(TRIANGLE, "well")
+    page.driver.execute_script(COUNTS)
+    before = settle(page)
+    for (x, y), held in ((page.at("B.end"), Keys.ALT), (page.mark(1), "")):
+        page.press(x, y, to=(x + 60, y - 40), held=held, lets_go=False)
+        page.keys(Keys.ESCAPE)
+        page.let_go()
+        assert settle(page) == before
 
 
 def test_a_second_finger_leaves_the_drag(page: Page) -> None:

@@ -67,6 +67,18 @@ def test_a_box_to_the_left_takes_what_it_touches_too(page: Page, at) -> None:
     shows(page, "C")
 
 
+def test_escape_gives_a_box_up(page: Page, at) -> None:
+    """It would take C; what was selected before stays so."""
+    page.select("P")
+    page.press(*at(10, 4), to=at(60, 30), lets_go=False)
+    page.wait("a box", "return document.querySelector('.box')")
+    page.keys(Keys.ESCAPE)
+    page.wait("no box", "return !document.querySelector('.box')")
+    page.let_go()
+    page.settled()
+    assert selected(page) == {"P"}
+
+
 def test_the_right_button_pans(page: Page, at) -> None:
     from selenium.webdriver.common.actions.mouse_button import MouseButton
     from selenium.webdriver.common.action_chains import ActionChains

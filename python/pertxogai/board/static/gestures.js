@@ -267,6 +267,12 @@ export class Gestures extends Work {
     this.sequence.forget();
   }
 
+  /** Whether something goes with the hand: what it drags, a label, a box, or the board. */
+  get carries() {
+    const isCarried = this.pressed?.moved && !this.hand.draws;
+    return isCarried || this.dragging.held !== null;
+  }
+
   /** The browser takes the pointer away: what was dragged stays where it was. */
   cancel() {
     this.pressed = null;

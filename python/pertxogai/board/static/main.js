@@ -257,7 +257,7 @@ export class Page {
   escape() {
     const { menu } = this;
     const { firstElementChild: title } = menu;
-    if (this.gestures.dragging.held) this.gestures.cancel();
+    if (this.gestures.carries) this.gestures.cancel();
     else if (!menu.open) this.gestures.sequence.do(() => this.drop());
     else if (menu.contains(document.activeElement) && title instanceof HTMLElement) title.focus();
     menu.open = false;
