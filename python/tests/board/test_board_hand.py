@@ -219,6 +219,18 @@ def test_escape_gives_up_what_goes_with_the_hand(page: Page) -> None:
         assert settle(page) == before
 
 
+def test_what_is_dragged_stays_under_the_hand_in_another_view(page: Page) -> None:
+    """The board is zoomed while it is dragged; the hand goes 30 mm to the right."""
+    at = page.begin_to_scale("segment B 40 0 40 40\n")
+    page.press(*at((40, 20)), to=at((50, 20)), held=Keys.ALT, lets_go=False)
+    page.keys("-")
+    page.settled()
+    (x, y), (u, _) = page.at("Origin"), page.at("Far")
+    page.hover(x + 0.7 * (u - x), y - 0.2 * (u - x))
+    page.let_go()
+    wait_for("30 mm", lambda: "segment B 70 0 70 40\n" in page.text())
+
+
 def test_a_second_finger_leaves_the_drag(page: Page) -> None:
     page.begin("point Q 0 0\npoint P 30 20\n", "open")
     x, y = page.driver.execute_script(

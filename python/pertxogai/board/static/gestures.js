@@ -15,9 +15,10 @@ import { Work } from './work.js';
 /** @typedef {import('./protocol').Edit} Edit */
 
 /**
- * What was pressed, where it was first and last, whether it pans or draws a box, whether it was
- * moved, whether what is open follows, and the edit that it makes, with what is guessed of it.
- * @typedef {{ at: Place, last: Place, thing: Thing, pans: boolean, boxes: boolean,
+ * What was pressed, where it was first, in pixels and in millimetres, and last, whether it pans or
+ * draws a box, whether it was moved, whether what is open follows, and the edit that it makes, with
+ * what is guessed of it.
+ * @typedef {{ at: Place, from: Place, last: Place, thing: Thing, pans: boolean, boxes: boolean,
  *   moved: boolean, follows?: boolean, edit: Edit | null,
  *   guesses: import('./guesses.js').Guess[] }} Pressed
  */
@@ -100,7 +101,9 @@ export class Gestures extends Work {
     const pans = event.button > 0 || this.pans;
     const boxes = !pans && !thing && !this.hand.draws;
     this.labels.take(typeof thing === 'number' ? thing : null);
-    this.pressed = { at, last: at, thing, pans, boxes, moved: false, edit: null, guesses: [] };
+    const from = this.board.plane.toPlane(at);
+    this.pressed = {
+      at, from, last: at, thing, pans, boxes, moved: false, edit: null, guesses: [] };
   }
 
   /**
@@ -144,16 +147,17 @@ export class Gestures extends Work {
    */
   carry(pressed, event, at) {
     const { board } = this;
+    const start = board.plane.toScreen(pressed.from);
     if (pressed.pans) {
       board.plane.pan(at[0] - pressed.last[0], at[1] - pressed.last[1]);
       board.draw();
     } else if (pressed.boxes) {
-      board.preview = () => [boxMade(boxOf(pressed.at, at))];
+      board.preview = (plane) => [boxMade(boxOf(plane.toScreen(pressed.from), at))];
       board.drawHand();
     } else if (!this.hand.draws && typeof pressed.thing === 'string') {
-      this.drag(pressed, pressed.thing, at, heldOf(event));
+      this.drag(pressed, pressed.thing, start, at, heldOf(event));
     } else if (!this.hand.draws && typeof pressed.thing === 'number') {
-      this.labels.hold(at, pressed.at);
+      this.labels.hold(at, start);
     } else this.hover(at, heldOf(event));
   }
 
@@ -162,18 +166,19 @@ export class Gestures extends Work {
    * what is asked for where it is dropped.
    * @param {Pressed} pressed
    * @param {string} name
+   * @param {Place} start
    * @param {Place} at
    * @param {Held} held
    */
-  drag(pressed, name, at, held) {
+  drag(pressed, name, start, at, held) {
     const aim = this.moving.drop(name, at, held);
-    pressed.follows ??= this.dragging.begin(name, pressed.at, held.altKey);
+    pressed.follows ??= this.dragging.begin(name, start, held.altKey);
     if (pressed.follows) {
       pressed.guesses = this.dragging.follow(aim, at) ? aim.guesses : [];
       this.board.preview = pressed.guesses.length ? () => this.drafting.signs(aim.guesses) : null;
       return;
     }
-    const edit = this.moving.dragged(name, pressed.at, aim.at);
+    const edit = this.moving.dragged(name, start, aim.at);
     if (!edit) return;
     Object.assign(pressed, { edit, guesses: aim.guesses });
     this.board.preview = aim.guesses.length ? () => this.drafting.signs(aim.guesses) : null;
@@ -191,8 +196,9 @@ export class Gestures extends Work {
     if (!pressed) return;
     if (pressed.follows) this.letGo(pressed);
     else if (pressed.edit) this.land(pressed.edit, pressed);
-    else if (pressed.boxes && pressed.moved) this.box(pressed.at, at, heldOf(event));
-    else if (event.button === 0 && !(pressed.pans && pressed.moved)) {
+    else if (pressed.boxes && pressed.moved) {
+      this.box(this.board.plane.toScreen(pressed.from), at, heldOf(event));
+    } else if (event.button === 0 && !(pressed.pans && pressed.moved)) {
       this.release(pressed, at, heldOf(event));
     } else this.labels.drop();
     this.clicked = pressed.moved ? null : pressed.thing;
@@ -240,9 +246,9 @@ export class Gestures extends Work {
    * @param {Place} to
    * @param {Held} held
    */
-  release({ thing, at: from, moved }, to, held) {
+  release({ thing, from: first, moved }, to, held) {
     const { plane } = this.board;
-    const [first, last] = [plane.toPlane(from), plane.toPlane(to)];
+    const last = plane.toPlane(to);
     const grip = this.labels.letGo();
     this.sequence.do(() => {
       const [start, end] = [plane.toScreen(first), plane.toScreen(last)];
