@@ -107,6 +107,15 @@ def test_the_space_bar_pans(page: Page, at) -> None:
     shows(page)
 
 
+def test_a_space_bar_that_goes_up_in_another_window_pans_no_more(page: Page, at) -> None:
+    from selenium.webdriver.common.action_chains import ActionChains
+    page.keys(Keys.ESCAPE)
+    ActionChains(page.driver).key_down(Keys.SPACE).perform()
+    page.driver.execute_script("window.dispatchEvent(new Event('blur'));")
+    page.press(*at(10, 4), to=at(60, 30))
+    shows(page, "C")
+
+
 def test_the_wheel_zooms_about_the_hand(page: Page, at) -> None:
     """What lies under it stays there, and all else goes away from it by one factor."""
     (x, y), (u, v) = page.at("A.start"), page.at("A.end")

@@ -25,6 +25,7 @@ export class Keys {
     document.addEventListener('keyup', ({ key }) => {
       if (key === ' ') this.page.gestures.pans = false;
     });
+    window.addEventListener('blur', () => { this.page.gestures.pans = false; });
   }
 
   /**
