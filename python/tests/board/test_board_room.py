@@ -167,6 +167,41 @@ def test_the_hint_is_read_whole_in_a_narrow_window(page: Page, resized) -> None:
     assert cut <= 1 and below <= 0
 
 
+def lies_within(page: Page, *selectors: str) -> bool:
+    """Whether nodes lie in the window as a whole."""
+    return bool(page.driver.execute_script(
+        "return arguments[0].every((each) => {"
+        "  const r = document.querySelector(each).getBoundingClientRect();"
+        "  return r.width && r.left >= 0 && r.top >= 0 && r.right <= innerWidth"
+        "    && r.bottom <= innerHeight; });", selectors))
+
+
+@pytest.mark.parametrize("width, height", [(320, 640), (400, 700), (700, 600), (640, 300)])
+def test_the_menu_and_the_field_of_a_value_lie_in_a_small_window(
+        page: Page, resized, width: int, height: int) -> None:
+    page.begin(PLATE, "well")
+    resized(width, height)
+    page.click("#export summary")
+    assert lies_within(page, "[data-export=dxf]", "#print")
+    page.keys("0", Keys.ESCAPE)
+    page.select("RBottom.start", "RRight.end")
+    page.wait("distance", "return document.querySelector('#offers [data-word=distance]')")
+    page.click("#offers [data-word=distance]")
+    page.wait("a field", "return document.querySelector('#value[open]')")
+    assert lies_within(page, "#value", "#value-field", "#value [value=taken]", "#measure")
+    page.driver.switch_to.active_element.send_keys(Keys.ESCAPE)
+
+
+def test_all_of_the_panel_can_be_scrolled_to_in_a_low_window(page: Page, resized) -> None:
+    """640 by 300 is what 1280 by 600 has at 200 %."""
+    page.begin(PLATE, "well")
+    resized(640, 300)
+    page.click("#fold")
+    page.settled()
+    page.driver.execute_script("document.getElementById('text').scrollIntoView()")
+    assert lies_within(page, "#text")
+
+
 def test_arrows_go_through_a_toolbar(page: Page) -> None:
     def focused() -> str:
         return str(page.driver.execute_script("return document.activeElement.dataset.tool"))

@@ -74,6 +74,9 @@ export async function typed(label, value, [x, y]) {
     dialog.style.setProperty('--y', `${board.top + y + 14}px`);
     input.value = value;
     dialog.showModal();
+    const { width, height } = dialog.getBoundingClientRect();
+    dialog.style.setProperty('--width', `${width}px`);
+    dialog.style.setProperty('--height', `${height}px`);
     input.select();
   });
   return answer ? input.value.trim() || null : null;
