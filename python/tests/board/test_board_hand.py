@@ -231,6 +231,15 @@ def test_what_is_dragged_stays_under_the_hand_in_another_view(page: Page) -> Non
     wait_for("30 mm", lambda: "segment B 70 0 70 40\n" in page.text())
 
 
+def test_what_is_copied_on_the_board_are_shapes_also_where_a_text_is_selected(page: Page) -> None:
+    page.begin(TRIANGLE, "well")
+    page.driver.execute_script(
+        "getSelection().selectAllChildren(document.querySelector('#verdict p'))")
+    page.select("A")
+    page.keys(Keys.CONTROL + "c")
+    wait_for("A is copied", lambda: page.told("hint").startswith("Copied: A."))
+
+
 def test_a_second_finger_leaves_the_drag(page: Page) -> None:
     page.begin("point Q 0 0\npoint P 30 20\n", "open")
     x, y = page.driver.execute_script(

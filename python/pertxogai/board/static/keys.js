@@ -35,7 +35,7 @@ export class Keys {
   does(event) {
     const { key, shiftKey: shift } = event;
     const chord = (event.ctrlKey || event.metaKey) && !BRACKETS[key];
-    if (chord && key === 'c' && getSelection()?.toString()) return false;
+    if (chord && key === 'c' && getSelection()?.toString() && !onShapes(event)) return false;
     if (isTyping(event)) return chord && savesOrOpens(key) && this.press(`Control+${key}`);
     if (ARROWS[key]) return this.arrow(event, chord);
     if (chord) return this.press(`Control+${shift ? 'Shift+' : ''}${key}`);
@@ -155,11 +155,18 @@ function pressed(selector) {
 }
 
 /**
+ * Whether a key is pressed on the board itself.
+ * @param {KeyboardEvent} event
+ */
+function onShapes({ target }) {
+  return target instanceof Element && target.closest('#board') !== null;
+}
+
+/**
  * Whether a key is pressed on the board, or on nothing that takes keys.
  * @param {KeyboardEvent} event
  */
-function onBoard({ target }) {
-  if (!(target instanceof Element)) return false;
-  const isElsewhere = target === document.body || target === byId('verdict');
-  return isElsewhere || target.closest('#board') !== null;
+function onBoard(event) {
+  const { target } = event;
+  return target === document.body || target === byId('verdict') || onShapes(event);
 }
