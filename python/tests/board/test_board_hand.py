@@ -313,6 +313,18 @@ def test_a_file_that_is_too_large_is_told_by_its_name(page: Page, tmp_path: Path
                       ".startsWith('large.dxf has over 750 KB')")
 
 
+def test_of_several_files_that_are_dropped_none_is_opened(page: Page, tmp_path: Path) -> None:
+    paths = [tmp_path / name for name in ("one.drawing", "two.drawing")]
+    for path in paths:
+        path.write_text("segment A 0 0 10 0\n")
+    for kind in ("dragEnter", "dragOver", "drop"):
+        page.driver.execute_cdp_cmd("Input.dispatchDragEvent", {
+            "type": kind, "x": 400, "y": 300,
+            "data": {"items": [], "files": list(map(str, paths)), "dragOperationsMask": 1}})
+    wait_for("told", lambda: page.told("hint") == "Drop one file at a time: none is opened")
+    assert page.text() == ""
+
+
 def test_of_two_tabs_the_one_that_was_changed_last_is_shown_anew(
         page: Page, board: Served) -> None:
     mine, theirs = "segment A 0 0 50 0\nlength A 50\n", "segment B 0 0 30 0\nlength B 30\n"

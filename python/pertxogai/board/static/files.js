@@ -44,8 +44,10 @@ export class Files {
   drop(event) {
     if (!event.dataTransfer?.types.includes('Files')) return;
     event.preventDefault();
-    const isFree = event.type === 'drop' && !document.querySelector('dialog[open]');
-    if (isFree) this.open(event.dataTransfer.files[0]);
+    const { files } = event.dataTransfer;
+    if (event.type !== 'drop' || document.querySelector('dialog[open]')) return;
+    if (files.length > 1) this.paper.tell('trouble', 'Drop one file at a time: none is opened');
+    else this.open(files[0]);
   }
 
   /**
