@@ -319,6 +319,25 @@ def test_an_answer_that_is_none_shows_in_the_console(page: Page) -> None:
 
 # What is selected once the clicks before are through.
 
+def test_behind_a_call_that_was_stopped_the_last_drawing_is_said_to_stand(page: Page) -> None:
+    """With its constraints; the next call judges the text."""
+    page.begin("segment A 0 0 40 0\nlength A 40\n", "well")
+    page.driver.execute_script(
+        "const { fetch } = window; window.fetch = async (path, options) => {"
+        "  if (path !== 'call/judge') return fetch(path, options);"
+        "  window.fetch = fetch;"
+        "  return new Response(JSON.stringify({ trouble: { kind: 'stopped', message: 'Late.' } }));"
+        "};")
+    page.type("segment A 0 0 40 0\nlength A 50\n")
+    page.verdict("trouble")
+    assert "Late.\nThe board shows the last drawing that was judged." in page.told()
+    page.click("#tab-asked")
+    assert "length A 40" in page.told("asked") and page.count(".edges [data-name]") == 1
+    page.click("#tab-text")
+    page.type("segment A 0 0 40 0\nlength A 60\n")
+    page.verdict("well")
+
+
 def test_delete_waits_for_the_click_before_it(page: Page) -> None:
     page.begin("point P 0 0\npoint Q 60 0\n", "open")
     (x, y), (u, v) = page.at("P"), page.at("Q")

@@ -72,7 +72,7 @@ export class Dragging extends Work {
   begin(name, from, isRough) {
     const { paper, selection: { names: selected } } = this;
     const { answer } = paper;
-    const judgement = paper.refused ? null : answer?.judgement;
+    const judgement = paper.isOld ? null : answer?.judgement;
     if (isRough || !answer || !(judgement?.placed || judgement?.found)) return false;
     if (!judgement.found || DATUM.includes(name)) {
       const isJudged = answer.text === paper.text;

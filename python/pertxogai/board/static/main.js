@@ -289,8 +289,8 @@ export class Page {
     const { drawing } = answer;
     if (drawing) {
       this.selection.keep(drawing);
-      this.board.show({ drawing, judgement: answer.refused ? paper.answer?.judgement
-        : answer.judgement });
+      this.board.show({ drawing, judgement: drawing === paper.answer?.drawing
+        ? paper.answer.judgement : answer.judgement });
       this.groups.show();
       this.cross.tellAgain();
     }

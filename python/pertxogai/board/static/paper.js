@@ -29,7 +29,7 @@ export class Paper extends EventTarget {
    */
   leftOut = [];
   /**
-   * What is said of the last text that could be read.
+   * What is said of the last text that could be read, and of which the server had an answer.
    * @type {Judged | null}
    */
   answer = null;
@@ -38,6 +38,8 @@ export class Paper extends EventTarget {
    * @type {import('./protocol').Refused | null}
    */
   refused = null;
+  /** Whether `answer` is of a text before: the one that stands couldn't be read, or not judged. */
+  isOld = false;
   /**
    * What was told of the text that stands.
    * @type {Judged | null}
@@ -84,6 +86,7 @@ export class Paper extends EventTarget {
     this.history = new History(text);
     Object.assign(this, { name, saved, leftOut });
     Object.assign(this, { answer: null, refused: null, said: null, live: null, seen: null });
+    this.isOld = false;
     this.tell('begin', null);
     return this.turned();
   }
@@ -176,7 +179,8 @@ export class Paper extends EventTarget {
 
   /** Why an edit of what was seen isn't made of what stands now. */
   changed() {
-    return this.refused ? { ...CHANGED, message: this.refused.message } : CHANGED;
+    const why = this.isOld ? this.refused ?? this.said?.trouble : null;
+    return why ? { ...CHANGED, message: why.message } : CHANGED;
   }
 
   /**
@@ -314,8 +318,9 @@ export class Paper extends EventTarget {
   take(text, answer) {
     if (text !== this.text) return;
     this.refused = answer.refused ?? null;
-    if (!this.refused) this.answer = answer;
-    this.said = this.refused ? { ...this.answer, ...answer, judgement: null } : answer;
+    this.isOld = !answer.drawing;
+    if (!this.isOld) this.answer = answer;
+    this.said = this.isOld ? { ...this.answer, ...answer, judgement: null } : answer;
     this.tell('answer', this.said);
     const { verdict, good } = answer.judgement ?? {};
     if (verdict && !good) this.weighLater(text, answer);
@@ -339,7 +344,7 @@ export class Paper extends EventTarget {
    * @param {Judged} answer
    */
   async weigh(text, answer) {
-    const stands = () => this.answer === answer && !this.refused;
+    const stands = () => this.answer === answer && !this.isOld;
     const found = stands() ? await this.about('weigh', { text }).catch(ended) : null;
     if (!found?.spare || !stands()) return;
     Object.assign(answer.judgement ?? {}, found);

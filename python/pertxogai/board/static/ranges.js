@@ -115,7 +115,7 @@ export class Slider {
    */
   has(of) {
     const { drawing, judgement } = this.paper.answer ?? {};
-    if (this.paper.refused) return false;
+    if (this.paper.isOld) return false;
     if ('name' in of) return Boolean(drawing?.values.some(({ name }) => name === of.name));
     return Boolean(judgement?.good && drawing?.constraints[of.number - 1]?.value);
   }

@@ -99,12 +99,12 @@ export class Steps {
 
   /** Asks for the plan of the text that stands. */
   async load() {
-    const { text, answer, refused } = this.paper;
+    const { text, answer, isOld } = this.paper;
     if (text === this.text) return;
     this.leave();
-    if (answer?.text !== text && !refused) return;
+    if (answer?.text !== text && !isOld) return;
     this.text = text;
-    const isPlaced = answer?.judgement?.placed && !refused;
+    const isPlaced = answer?.judgement?.placed && !isOld;
     /** @type {import('./protocol').Planned | null} */
     const found = isPlaced ? await this.paper.ask('plan', { text }) : {};
     if (!found) this.text = null;

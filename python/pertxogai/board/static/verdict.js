@@ -7,6 +7,7 @@ import { html, colourOf } from './nodes.js';
 
 const EMPTY = 'Draw with the tools above the board, start from the gallery, or write in the text '
   + 'below.';
+const OLD = 'The board shows the last drawing that was judged.';
 
 /** Shows the judgement of each answer, line by line as the server tells it. */
 export class Verdict {
@@ -48,7 +49,7 @@ export class Verdict {
    * @param {Judged} answer
    */
   show(answer) {
-    const [kind, title, lines] = told(answer);
+    const [kind, title, lines] = told(answer, this.paper.isOld);
     this.node.className = kind;
     this.node.dataset.verdict = kind;
     const focused = this.node.contains(document.activeElement) ? document.activeElement : null;
@@ -134,13 +135,15 @@ export class Verdict {
 }
 
 /**
- * A kind, a title, and the lines below it.
+ * A kind, a title, and the lines below it; isOld: whether the drawing is one before.
  * @param {Judged} answer
+ * @param {boolean} isOld
  * @returns {[string, string, Line[]]}
  */
-function told({ refused, trouble, judgement }) {
+function told({ drawing, refused, trouble, judgement }, isOld) {
+  const old = isOld && drawing ? [{ text: OLD }] : [];
   if (refused) return ['refused', 'not read', [{ text: refused.message }]];
-  if (trouble) return ['trouble', 'not judged', [{ text: trouble.message }]];
+  if (trouble) return ['trouble', 'not judged', [{ text: trouble.message }, ...old]];
   if (!judgement) return ['empty', 'empty', [{ kind: 'quiet', text: EMPTY }]];
   const { failure, verdict, good, lines } = judgement;
   if (failure) return ['fault', 'well, but can’t be placed', lines];
