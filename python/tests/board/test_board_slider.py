@@ -181,9 +181,31 @@ def test_all_ranges_are_listed_on_wish(page: Page) -> None:
     assert page.count("#ranges li") == 0
 
 
+BOTH = """value Width 30
+segment S 0 0 40 0
+coincident S.start Origin
+horizontal S
+length S 40
+"""
+
+
+def test_a_range_that_takes_too_long_is_told_by_its_name(page: Page) -> None:
+    """And the one behind it is listed."""
+    page.begin(BOTH, "well")
+    page.driver.execute_script(
+        "const { fetch } = window;"
+        "window.fetch = async (path, options) => {"
+        "  const isIt = path === 'call/range' && JSON.parse(options.body).name === 'Width';"
+        "  return isIt ? new Response(JSON.stringify({ why: 'it took too long' }))"
+        "    : fetch(path, options); };")
+    page.click("#tab-values")
+    page.click("#all-ranges")
+    wait_for("the other", lambda: page.count("#ranges li [data-selects='3']") == 1)
+    assert page.told("ranges").splitlines()[0] == "Width: it took too long"
+
+
 def test_a_dimension_is_listed_beside_a_value_of_its_name(page: Page) -> None:
-    page.begin("value Width 30\nsegment S 0 0 40 0\ncoincident S.start Origin\nhorizontal S\n"
-               "Width: length S 40\n", "well")
+    page.begin(BOTH.replace("length", "Width: length"), "well")
     page.click("#tab-values")
     page.click("#all-ranges")
     wait_for("both", lambda: page.count("#ranges li [data-selects='3']") == 1)
@@ -191,8 +213,7 @@ def test_a_dimension_is_listed_beside_a_value_of_its_name(page: Page) -> None:
 
 
 def test_a_value_that_is_removed_has_no_slider(page: Page) -> None:
-    page.begin("value Width 30\nsegment S 0 0 40 0\ncoincident S.start Origin\nhorizontal S\n"
-               "length S 40\n", "well")
+    page.begin(BOTH, "well")
     page.click("#tab-values")
     page.click("#values [data-range=Width]")
     wait_for("its slider", lambda: "Width: 30" in page.told("range-of"))

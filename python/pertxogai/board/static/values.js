@@ -103,27 +103,33 @@ export class Values {
     this.list.show(line ? [...rows, [0, 'li', { class: 'quiet' }, line]] : rows);
   }
 
-  /** Asks for the range of each value and dimension, one after the other, and lists them. */
+  /**
+   * Asks for the range of each value and dimension, one after the other, and lists them; where that
+   * of one isn't found, why. Of a drawing that isn't good none is.
+   */
   async listAll() {
-    const { text, answer } = this.paper;
+    const { text, answer, isOld } = this.paper;
     const values = answer?.drawing?.values ?? [];
     const valued = (answer?.drawing?.constraints ?? []).filter(({ value }) => value !== null);
-    const asked = [...values.map(({ name }) => ({ name })),
-      ...valued.map(({ number }) => ({ number }))];
+    const asked = isOld ? [] : [
+      ...values.map(({ name }) => ({ key: name, called: name, of: { name } })),
+      ...valued.map(({ number, called }) => ({ key: number, called, of: { number } }))];
     /** @type {Listed} */
     const listed = { text, rows: [], line: '' };
     this.listed = listed;
-    for (const each of asked) {
+    for (const { key, called, of } of asked) {
       this.listOf(listed, 'Finding the ranges ..');
-      const found = await this.paper.about('range', { text, ...each }).catch(ended);
+      const found = await this.paper.about('range', { text, ...of }).catch(ended);
       if (this.listed !== listed || !found) return;
+      const why = found.why ?? found.trouble?.message ?? '';
       if (found.range) listed.rows.push(rangeRow(found.range));
-      else if (!found.values) {
-        this.listOf(listed, found.why ?? found.trouble?.message ?? '');
+      else if (!answer?.judgement?.good) {
+        this.listOf(listed, why);
         return;
-      }
+      } else if (!found.values) listed.rows.push([key, 'li', {}, `${called}: ${why}`]);
     }
-    this.listOf(listed, listed.rows.length ? '' : 'No value and no dimension has a range.');
+    const none = isOld ? 'The text isn’t judged.' : 'No value and no dimension has a range.';
+    this.listOf(listed, listed.rows.length ? '' : none);
   }
 
   /**
