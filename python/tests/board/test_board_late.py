@@ -289,6 +289,21 @@ def test_a_choice_that_is_turned_back_at_once_shows_no_other_shape(page: Page) -
     assert page.count("#board .other > *") == 0 and page.count("#flip[aria-pressed=false]") == 1
 
 
+def test_what_is_verified_is_the_part_as_placed(page: Page) -> None:
+    """Also while the other shape is shown; what was verified before isn't said of that."""
+    page.begin(drawing("arm"), "well")
+    page.click("#tab-steps")
+    page.wait("a choice", "return document.querySelector('#flip:not([hidden])')")
+    page.click("#verify")
+    wait_for("verified", lambda: page.told("verified").startswith("verified steps "))
+    page.click("#flip")
+    page.wait("the other shape", "return document.querySelector('.other .shape')")
+    assert page.told("verified") == ""
+    page.click("#verify")
+    wait_for("verified", lambda: page.told("verified").startswith(
+        "The part as placed, not the other shape: verified steps "))
+
+
 # Another tab, and an answer that can't be read.
 
 def test_the_other_shape_comes_to_a_tab_that_was_opened_again(page: Page) -> None:

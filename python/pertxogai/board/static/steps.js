@@ -250,6 +250,7 @@ export class Steps {
     const { told } = this;
     if (!told) return;
     const { number } = told;
+    byId('verified').textContent = '';
     if (!this.flipped.delete(number)) this.flipped.add(number);
     let found = await this.other();
     if (found?.trouble) {
@@ -283,11 +284,13 @@ export class Steps {
     if (await this.paper.redraw([...this.flipped], this.text)) this.board.reveal();
   }
 
-  /** Has what is shown verified as a claim, and tells what is said of it. */
+  /** Has what is placed verified as a claim, and tells what is said of it. */
   async verify() {
     const told = byId('verified');
     const found = await this.paper.ask('verify', { text: this.text ?? '' });
-    told.textContent = found?.said ?? found?.trouble?.message ?? '';
+    const said = found?.said ?? found?.trouble?.message ?? '';
+    const whose = this.flipped.size ? 'The part as placed, not the other shape: ' : '';
+    told.textContent = whose + said;
   }
 
   /**
