@@ -349,7 +349,7 @@ def test_the_scale_that_is_offered_fits_what_is_dragged_away_too(page: Page,
 @pytest.mark.skipif(not shutil.which("pdftoppm"), reason="without Debian's poppler-utils")
 def test_the_sheet_is_of_the_drawing_that_stands(page: Page, tmp_path: Path) -> None:
     """Also where the browser's own menu prints it, and while a step of the construction is shown;
-    an open drawing's says who has placed it."""
+    an open drawing's says who has placed it, and one that isn't placed is as drawn."""
     page.begin(PLATE, "well")
     printed(page, tmp_path, "1:2")
     page.begin(PLATE.replace("100", "80"), "well")
@@ -362,6 +362,8 @@ def test_the_sheet_is_of_the_drawing_that_stands(page: Page, tmp_path: Path) -> 
     page.wait("a shape", "return document.getElementById('pieces')")
     found = words_printed(page, tmp_path)
     assert {"60", "open,", "numbers;"} <= found and "80" not in found
+    page.begin(PLATE + "length RTop 100\n", "over")
+    assert {"over,", "as", "drawn;"} <= words_printed(page, tmp_path)
     page.click("#new")
     page.verdict("empty")
     assert words_printed(page, tmp_path) == set()

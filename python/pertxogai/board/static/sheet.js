@@ -93,7 +93,9 @@ export class Sheet {
     const long = bar * scale * MM;
     const [y, x] = [top + TITLE * MM * 0.72, width - 12 - long];
     const verdict = byId('verdict').querySelector('h2')?.textContent ?? '';
-    const placed = this.board.answer.judgement?.found ? ', placed by numbers' : '';
+    const { judgement } = this.board.answer;
+    const whose = judgement?.found ? ', placed by numbers' : ', as drawn';
+    const placed = judgement?.placed ? '' : whose;
     return [
       svg('rect', { class: 'frame', x: 0.5, y: 0.5, width: width - 1,
         height: top + TITLE * MM - 1 }),
