@@ -62,6 +62,15 @@ def test_a_polygon_is_drawn(page: Page, board_of) -> None:
     wait_for("one step", lambda: "G1" not in page.text())
 
 
+def test_a_number_of_sides_that_cant_be_gives_way_to_the_one_that_counts(page: Page,
+                                                                         board_of) -> None:
+    board_of("")
+    page.keys("n")
+    for typed, counts in (("5", "5"), ("2", "5"), ("41", "4"), ("7", "7")):
+        option(page, "sides", typed)
+        assert page.driver.find_element(By.ID, "sides").get_attribute("value") == counts
+
+
 def test_a_rectangle_round_the_origin(page: Page, board_of) -> None:
     at = board_of("")
     before = page.text()

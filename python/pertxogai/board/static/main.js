@@ -213,6 +213,7 @@ export class Page {
 
   /**
    * A number of the tool that is held: it counts as it is typed, and Enter goes back to the board.
+   * One that can't be gives way to the one that counts.
    * @param {'sides' | 'count'} what
    */
   option(what) {
@@ -220,6 +221,7 @@ export class Page {
     field.addEventListener('input', () => {
       if (field.validity.valid && field.value) this.hand[what] = Number(field.value);
     });
+    field.addEventListener('change', () => { field.value = String(this.hand[what]); });
     field.addEventListener('keydown', ({ key }) => {
       if (key === 'Enter' || key === 'Escape') this.board.node.focus();
     });
