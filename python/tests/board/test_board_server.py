@@ -510,8 +510,7 @@ def test_exports_are_those_of_the_commands(client, program, tmp_path, monkeypatc
         assert undated(found.encode()) == undated(out.read_bytes())
     language = answer(client, "judge", text=text)["judgement"]["language"]
     own = answer(client, "program-dxf", text=text)["dxf"]
-    assert own == program.ask(["dxf"], language).text and own.startswith("  0\nSECTION") or \
-        own.startswith("0\nSECTION")
+    assert own == program.ask(["dxf"], language).text and own.startswith("0\nSECTION")
 
 
 def test_a_picture_of_what_has_no_places_tells_the_programs_counts(client) -> None:
