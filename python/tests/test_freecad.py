@@ -384,24 +384,28 @@ def test_a_damaged_zip_is_refused(tmp_path: Path) -> None:
 OUTER = [line.split() for line in (FILES / "freecad.outer").read_text().splitlines()]
 
 
-def test_outer_geometry_lies_where_freecad_sees_it() -> None:
-    """A solid, moved and seen from a tilted plane; FreeCAD tells 0 0 of a point that isn't there."""
-    drawing = found("solid", "Over").drawing
+@pytest.mark.parametrize("name,places", [
+    ("solid", 8 * 2 + 18 * 3 + 2 * 3 + 2), ("many-faces", (36 + 27) * 2 + (24 + 18) * 3)])
+def test_outer_geometry_lies_where_freecad_sees_it(name: str, places: int) -> None:
+    """Solids, moved and seen from a tilted plane; FreeCAD tells 0 0 of a point that isn't there."""
+    drawing = found(name, "Over").drawing
     seen = 0
-    for _, _, count, position, x, y in OUTER:
-        name = f"Outer{count}"
-        shape = drawing.shape(name)
+    for of, _, count, position, x, y in OUTER:
+        if of != name:
+            continue
+        outer = f"Outer{count}"
+        shape = drawing.shape(outer)
         which = {"1": Which.START, "2": Which.END, "3": Which.CENTRE}[position]
         if isinstance(shape, Segment) and which is Which.CENTRE:
             continue
         if isinstance(shape, Circle) and which is not Which.CENTRE:
             continue
-        ref = PointRef(name, which if isinstance(shape, (Segment, Circle, Arc)) else Which.AT)
+        ref = PointRef(outer, which if isinstance(shape, (Segment, Circle, Arc)) else Which.AT)
         place = drawing.drawn(ref)
         assert math.isclose(float(place.x_um) / 1000, float(x), abs_tol=2e-9)
         assert math.isclose(float(place.y_um) / 1000, float(y), abs_tol=2e-9)
         seen += 1
-    assert seen == 8 * 2 + 18 * 3 + 2 * 3 + 2 and not found("solid", "Over").left_out
+    assert seen == places and not found(name, "Over").left_out
 
 
 def test_outer_geometry_of_another_sketch_and_of_a_pad() -> None:
@@ -454,6 +458,8 @@ Ed
 *
 
 +1 0"""
+IDLE = "1\n1 0 0 0\n0 1 0 0\n0 0 1 0\n"
+"""A motion that moves nothing, by its matrix."""
 
 
 @pytest.mark.parametrize("locations,curve,what", [
@@ -463,8 +469,12 @@ Ed
     ("0", "1 1e999 0 0 1 0 0", "one of its numbers is too large"),
     ("1 2 1", "1 0 0 0 1 0 0", "its shape isn't stored as FreeCAD stores it"),
     ("1\n1 1 0 0", "1 0 0 0 1 0 0", "its shape isn't stored as FreeCAD stores it"),
+    (f"2\n{IDLE}2 1 9 0", "1 0 0 0 1 0 0", "its shape isn't stored as FreeCAD stores it"),
+    (f"3\n{IDLE}2 1 2 0\n2 2 1 0", "1 0 0 0 1 0 0", "its shape isn't stored as FreeCAD stores it"),
+    (f"2\n{IDLE}2 " + "1 8 1 -8 " * 200_000 + "0", "1 0 0 0 1 0 0", "has more than 50000 parts"),
     ("0", "\n" * (33 << 20), "has more than 16777216 bytes in its stored shapes"),
-], ids=["nested", "negative count", "negative degree", "infinite", "cut locations", "short matrix", "large"])
+], ids=["nested", "negative count", "negative degree", "infinite", "cut locations", "short matrix",
+        "great power", "of no matrix", "many motions", "large"])
 def test_a_hostile_shape_is_left_out(tmp_path: Path, locations: str, curve: str, what: str
                                      ) -> None:
     path = written(tmp_path / "a.FCStd", document(geometry(segment(0, 0, 1, 1)) + BOX))

@@ -20,6 +20,8 @@ import Sketcher
 HERE = os.environ.get("FILES", os.path.dirname(os.path.abspath(__file__)))
 START, END, CENTRE = 1, 2, 3
 ORIGIN, X_AXIS, Y_AXIS = (-1, START), -1, -2
+SEEN = []
+"""The lines of freecad.outer."""
 
 
 def vector(x, y):
@@ -942,21 +944,58 @@ def solid():
     document.recompute()
     over = Sheet(document, "Over")
     over.sketch.Placement = FreeCAD.Placement(FreeCAD.Vector(1, 2, 30), turn)
-    lines = []
-    for word, parts in (("Edge", soft.Shape.Edges), ("Vertex", soft.Shape.Vertexes)):
-        for count in range(1, len(parts) + 1):
-            over.sketch.addExternal("Soft", "%s%d" % (word, count))
+    see("solid", over.sketch, soft)
+    return save("solid", document)
+
+
+def many_faces():
+    """A sketch on a tilted plane that refers to the edges and corners of two solids: a star of
+    twelve corners that was turned and then raised, so that it has fourteen faces, and a block with
+    a notch by another block, both moved. freecad.outer has where FreeCAD sees their points."""
+    document = FreeCAD.newDocument("many_faces")
+    star = Sheet(document, "Star")
+    corners = [(round(30 + (20 + 6 * (count % 2)) * math.cos(count * math.pi / 6), 1),
+                round(30 + (20 + 6 * (count % 2)) * math.sin(count * math.pi / 6), 1))
+               for count in range(12)]
+    for edge, (x, y) in zip(star.chain(*corners), corners):
+        star.tie("DistanceX", *ORIGIN, edge, START, x)
+        star.tie("DistanceY", *ORIGIN, edge, START, y)
+    star.sketch.Placement = FreeCAD.Placement(
+        FreeCAD.Vector(3, 4, 5), FreeCAD.Rotation(FreeCAD.Vector(1, 1, 1), 50))
+    raised = document.addObject("Part::Extrusion", "Raised")
+    raised.Base, raised.Dir, raised.Solid = star.sketch, FreeCAD.Vector(0, 0, 10), True
+    block, notch = (document.addObject("Part::Box", name) for name in ("Block", "Notch"))
+    block.Length, block.Width, block.Height = 40, 30, 20
+    block.Placement = FreeCAD.Placement(
+        FreeCAD.Vector(1, 2, 3), FreeCAD.Rotation(FreeCAD.Vector(1, 2, 3), 33))
+    notch.Length, notch.Width, notch.Height = 12, 9, 50
+    notch.Placement = FreeCAD.Placement(
+        FreeCAD.Vector(12, 11, -5), FreeCAD.Rotation(FreeCAD.Vector(1, 0, 1), 13))
+    cut = document.addObject("Part::Cut", "Cut")
+    cut.Base, cut.Tool = block, notch
     document.recompute()
-    for count in range(len(soft.Shape.Edges) + len(soft.Shape.Vertexes)):
+    over = Sheet(document, "Over")
+    over.sketch.Placement = FreeCAD.Placement(
+        FreeCAD.Vector(5, 6, 40), FreeCAD.Rotation(FreeCAD.Vector(3, 1, 2), 25))
+    see("many-faces", over.sketch, raised, cut)
+    return save("many-faces", document)
+
+
+def see(name, over, *solids):
+    """Has a sketch refer to all edges and corners of some solids, and notes where FreeCAD sees
+    their points."""
+    for solid in solids:
+        for word, parts in (("Edge", solid.Shape.Edges), ("Vertex", solid.Shape.Vertexes)):
+            for count in range(1, len(parts) + 1):
+                over.addExternal(solid.Name, "%s%d" % (word, count))
+    over.Document.recompute()
+    for count in range(sum(len(parts) for _, parts in over.ExternalGeometry)):
         for position in (START, END, CENTRE):
             try:
-                at = over.sketch.getPoint(-3 - count, position)
+                at = over.getPoint(-3 - count, position)
             except ValueError:
                 continue
-            lines.append("solid Over %d %d %.9f %.9f" % (count + 1, position, at.x, at.y))
-    with open(os.path.join(HERE, "freecad.outer"), "w", encoding="utf-8") as out:
-        out.write("\n".join(lines) + "\n")
-    return save("solid", document)
+            SEEN.append("%s Over %d %d %.9f %.9f" % (name, count + 1, position, at.x, at.y))
 
 
 def empty():
@@ -967,9 +1006,11 @@ def empty():
 
 def main():
     """Writes everything."""
-    lines = [line for draw in DRAWINGS for line in one(draw)] + outer() + body() + solid() + empty()
-    with open(os.path.join(HERE, "freecad.facts"), "w", encoding="utf-8") as out:
-        out.write("\n".join(lines) + "\n")
+    lines = [line for draw in DRAWINGS for line in one(draw)]
+    lines += outer() + body() + solid() + many_faces() + empty()
+    for name, told in (("freecad.facts", lines), ("freecad.outer", SEEN)):
+        with open(os.path.join(HERE, name), "w", encoding="utf-8") as out:
+            out.write("\n".join(told) + "\n")
 
 
 main()

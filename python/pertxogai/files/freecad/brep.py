@@ -8,6 +8,7 @@ in the order in which a walk through the shape meets them first.
 from __future__ import annotations
 
 import math
+import re
 from collections.abc import Iterator
 from dataclasses import dataclass, field
 from enum import IntEnum
@@ -23,8 +24,12 @@ _MATRIX = "1"
 _CURVE_IN_SPACE = "1"
 """How a line of an edge begins that names a curve in space: its number, that of its motion, and the
 parameters at which the edge begins and ends."""
+_CHILDREN = re.compile(r"\s*(?:[-+io]\d+\s+\d+\s*)+")
+"""A line of parts within a part, each with the number of its motion."""
 _MOST_POWER = 8
 """The greatest power of a motion that another names."""
+_MOST_FACTORS = 200
+"""The most motions of which one is made."""
 _MOST_DEPTH = 50
 """The most parts within each other."""
 
@@ -90,6 +95,34 @@ class Solid:
 
 
 @dataclass(frozen=True)
+class _Location:
+    """A motion as a product of the file's own: the number and the power of each, in the order in
+    which they are done, without what cancels out. Two are one where these are the same, as Open
+    Cascade has it: a part that is met at one location twice is one."""
+
+    factors: tuple[tuple[int, int], ...] = ()
+    motion: Motion = field(default=Motion(), compare=False)
+
+    def after(self, first: _Location) -> _Location:
+        """This motion after another. Raises ValueError where that is made of too many."""
+        factors = list(first.factors)
+        for number, power in self.factors:
+            _add_factor(factors, number, power)
+        return _Location(tuple(factors), self.motion.after(first.motion))
+
+
+def _add_factor(factors: list[tuple[int, int]], number: int, power: int) -> None:
+    """Adds a motion behind others, which it may cancel. Raises ValueError where these are too
+    many."""
+    if factors and factors[-1][0] == number:
+        power += factors.pop()[1]
+    if power:
+        factors.append((number, power))
+    if len(factors) > _MOST_FACTORS:
+        raise ValueError(len(factors))
+
+
+@dataclass(frozen=True)
 class _Child:
     """A part within a part: its number, and the number of its motion."""
 
@@ -120,9 +153,9 @@ def read_solid(text: str, budget: Budget) -> Solid:
     budget.lines.add(text.count("\n"))
     try:
         sections = _sections(text)
-        motions = _motions(sections["Locations"])
+        locations = _locations(sections["Locations"], budget.parts)
         curves = tuple(_curves(" ".join(sections["Curves"]).split()))
-        return _Walk(motions, curves, sections["TShapes"], budget.parts).solid()
+        return _Walk(locations, curves, sections["TShapes"], budget.parts).solid()
     except (LookupError, ValueError, ArithmeticError, StopIteration):
         raise BadShape("its shape isn't stored as FreeCAD stores it") from None
 
@@ -140,23 +173,35 @@ def _sections(text: str) -> dict[str, list[str]]:
     return sections
 
 
-def _motions(lines: list[str]) -> list[Motion]:
-    """The motions by their numbers; 0 is none."""
-    motions = [Motion()]
+def _locations(lines: list[str], met: Count) -> list[_Location]:
+    """The motions by their numbers; 0 is none. Each of which another is made counts as a part."""
+    found = [_Location()]
     words = iter(" ".join(lines).split())
     for kind in words:
         if kind == _MATRIX:
             rows = [[float(next(words)) for _ in range(4)] for _ in range(3)]
             first, second, third = ((row[0], row[1], row[2]) for row in rows)
-            motions.append(Motion((first, second, third), (rows[0][3], rows[1][3], rows[2][3])))
-            continue
-        whole = Motion()
-        while (number := int(next(words))) != 0:
-            for _ in range(min(abs(power := int(next(words))), _MOST_POWER)):
-                one = motions[number] if power > 0 else motions[number].inverse()
-                whole = whole.after(one)
-        motions.append(whole)
-    return motions
+            motion = Motion((first, second, third), (rows[0][3], rows[1][3], rows[2][3]))
+            found.append(_Location(((len(found), 1),), motion))
+        else:
+            found.append(_product(words, found, met))
+    return found
+
+
+def _product(words: Iterator[str], found: list[_Location], met: Count) -> _Location:
+    """A motion that is made of others before it, each told by its matrix, in the order in which
+    they are done. Raises ValueError where it is made otherwise, or a power is too great."""
+    factors: list[tuple[int, int]] = []
+    motion = Motion()
+    while (number := int(next(words))) != 0:
+        power, one = int(next(words)), found[number]
+        if one.factors != ((number, 1),) or abs(power) > _MOST_POWER:
+            raise ValueError(power)
+        _add_factor(factors, number, power)
+        for _ in range(abs(power)):
+            met.add()
+            motion = (one.motion if power > 0 else one.motion.inverse()).after(motion)
+    return _Location(tuple(factors), motion)
 
 
 def _curves(words: list[str]) -> Iterator[tuple[_Curve, list[float]]]:
@@ -202,34 +247,35 @@ def _count(word: str) -> int:
 class _Walk:
     """A walk through the parts of a shape."""
 
-    def __init__(self, motions: list[Motion], curves: tuple[tuple[_Curve, list[float]], ...],
-                 lines: list[str], met: Count) -> None:
-        self._motions = motions
+    def __init__(self, locations: list[_Location],
+                 curves: tuple[tuple[_Curve, list[float]], ...], lines: list[str],
+                 met: Count) -> None:
+        self._locations = locations
         self._curves = curves
         self._parts = list(_parts(lines))
         self._root = _children(lines[-1])[0] if lines[-1].strip() else _children(lines[-2])[0]
-        self._met: dict[tuple[int, Motion], str] = {}
+        self._met: dict[tuple[int, _Location], str] = {}
         self._count = met
 
     def solid(self) -> Solid:
         """All that the walk meets."""
-        self._visit(self._root, Motion(), 0)
-        vertices = tuple(motion.place(self._vertex(part))
-                         for (part, motion), word in self._met.items() if word == "Ve")
-        edges = tuple(self._edge(part, motion)
-                      for (part, motion), word in self._met.items() if word == "Ed")
+        self._visit(self._root, _Location(), 0)
+        vertices = tuple(at.motion.place(self._vertex(part))
+                         for (part, at), word in self._met.items() if word == "Ve")
+        edges = tuple(self._edge(part, at.motion)
+                      for (part, at), word in self._met.items() if word == "Ed")
         return Solid(vertices, edges)
 
-    def _visit(self, child: _Child, above: Motion, depth: int) -> None:
+    def _visit(self, child: _Child, above: _Location, depth: int) -> None:
         self._count.add()
         if depth > _MOST_DEPTH:
             raise BadShape("its shape has parts within each other that are too many")
         part = self._part(child.part)
-        motion = above.after(self._motions[child.motion]) if child.motion else above
+        at = above.after(self._locations[child.motion]) if child.motion else above
         if part.word in ("Ve", "Ed"):
-            self._met.setdefault((child.part, motion), part.word)
+            self._met.setdefault((child.part, at), part.word)
         for within in part.children:
-            self._visit(within, motion, depth + 1)
+            self._visit(within, at, depth + 1)
 
     def _part(self, number: int) -> _Part:
         """A part by its number; they are written from the last to the first."""
@@ -243,21 +289,25 @@ class _Walk:
         for line in self._part(number).lines[1:]:
             words = line.split()
             if words[:1] == [_CURVE_IN_SPACE] and len(words) == 5:
-                within = motion.after(self._motions[int(words[2])])
+                within = motion.after(self._locations[int(words[2])].motion)
                 kind, numbers = self._curves[int(words[1]) - 1]
                 return _edge_between(kind, numbers, within, float(words[3]), float(words[4]))
         return None
 
 
 def _parts(lines: list[str]) -> Iterator[_Part]:
-    """The parts, each from its word to a line that ends in a star."""
+    """The parts, each from its word to a line that ends in a star. Before that are lines of ten of
+    the parts within each, where there are more."""
     word = ""
     gathered: list[str] = []
     for line in lines:
         if line.strip() in _PARTS:
             word, gathered = line.strip(), []
         elif line.rstrip().endswith("*"):
-            yield _Part(word, tuple(gathered), tuple(_children(line)))
+            within = [line]
+            while gathered and _CHILDREN.fullmatch(gathered[-1]):
+                within.append(gathered.pop())
+            yield _Part(word, tuple(gathered), tuple(_children(" ".join(reversed(within)))))
         else:
             gathered.append(line)
 
