@@ -519,3 +519,29 @@ def test_what_is_good_and_not_tied_to_the_datum_says_so(text, whole, program):
     line = (f"  not tied to the origin and the axes: the whole can still be {whole} (by rank); it "
             "is placed as drawn")
     assert [each for each in drawing_lines(found) if "not tied" in each] == ([line] if whole else [])
+
+
+WASHER = "circle Rim Origin 10\nradius Rim 10\n"
+
+
+@pytest.mark.parametrize(("more", "lacks_so_many"), [
+    # Of a point its distance: the whole may still be turned about the origin.
+    ("point P 50 20\n", 1),
+    ("circle Hole 50 20 5\nradius Hole 5\n", 1),
+    # Of a plate x and y, or y alone; of a triangle the distance of one corner, and how it is turned.
+    ("rectangle R 50 20 90 50\nlength RBottom 40\nlength RRight 30\n", 2),
+    ("rectangle R 50 20 90 50\nlength RBottom 40\nlength RRight 30\nx RBottom.start 50\n", 1),
+    (TRIANGLE.replace("0 0", "50 20").replace("40 2", "90 22").replace("38 30", "88 50"), 2)])
+def test_what_is_not_tied_to_a_point_in_the_origin_is_open(more, lacks_so_many, program):
+    found = judged(WASHER + more, program)
+    assert found.judgement.verdict is Verdict.OPEN
+    assert found.judgement.free.lacks == lacks_so_many
+
+
+def test_what_lies_about_a_point_in_the_origin_is_good(program):
+    """A is 40 long at 30 degrees, so its end is at 20 cos 30 and 20 sin 30."""
+    found = judged(WASHER + "segment A -20 -10 20 10\nsymmetric A.start A.end about Rim\n"
+                   "length A 40\nangle A 30deg\n", program)
+    assert lacks(found) == []
+    at = found.judgement.solution.spot(PointRef("A", Which.END))
+    assert at == pytest.approx((17_320_508, 10_000_000), abs=2)

@@ -1,6 +1,7 @@
 """Which points and tracks a sketch has, and what they are called."""
 from __future__ import annotations
 
+from pertxogai.drawing import ORIGIN
 from pertxogai.spelling.axes import Coordinate
 from pertxogai.spelling.facts import ORIGIN_KNOT
 from pertxogai.spelling.rails import Rail
@@ -36,16 +37,25 @@ class Tracks:
 
     def _is_origin_needed(self) -> bool:
         """Whether the origin has to be a point of the sketch: it has a distance, shares a rail, is
-        that from which a rail has a dimension, or lies on a line that leans."""
+        that from which a rail has a dimension, lies on a line that leans, or is a drawn point and
+        not the place in which both of the datum's rails meet."""
         layout = self.layout
         ran = {rail for run in layout.rails.runs for rail in layout.run_rails(run)}
-        return (any(ORIGIN_KNOT in each.ends() for each in layout.axes.loose)
+        return (self._is_origin_drawn()
+                and sum(rail.datum() and (rail in ran or len(members) > 1)
+                        for rail, members in layout.rails.members.items()) < 2
+                or any(ORIGIN_KNOT in each.ends() for each in layout.axes.loose)
                 or any(coordinate.knot == ORIGIN_KNOT and (
                     len(members) > 1 or rail in ran and not rail.datum())
                     for rail, members in layout.rails.members.items() for coordinate in members)
                 or any(member.knot == ORIGIN_KNOT for line in layout.axes.lines.all()
                        if layout.axes.fixed_axis(line) is None
                        for member in layout.axes.lines.members(line)))
+
+    def _is_origin_drawn(self) -> bool:
+        """Whether a point of a shape is the origin."""
+        refs = self.layout.axes.facts.refs
+        return any(knot == ORIGIN_KNOT and ref != ORIGIN for ref, knot in refs.items())
 
     def name_tracks(self) -> list[Track]:
         """The rails that carry something, and the lines that lean, named."""
