@@ -139,6 +139,15 @@ def test_half_a_circle_is_no_more_than_half_at_every_zoom(page: Page) -> None:
     assert large == [["0"]] * 48
 
 
+def test_fit_shows_a_drawing_of_a_kilometre(page: Page) -> None:
+    page.begin("segment A 0 0 1000000 0\n", "open")
+    page.keys("0")
+    page.settled()
+    (x, _), (u, _) = page.at("A.start"), page.at("A.end")
+    width = board_box(page)[2]
+    assert 0 < x < u < width and u - x > width / 2
+
+
 POINTS = "point P 10 10\npoint Q 50 40\n"
 
 
@@ -334,6 +343,15 @@ def test_the_scale_that_is_offered_fits(page: Page, tmp_path: Path) -> None:
     told = subprocess.run(["pdftotext", printed(page, tmp_path, None), "-"],
                           capture_output=True, text=True, check=True)
     assert "1:1" in told.stdout.split()
+
+
+@pytest.mark.skipif(not shutil.which("pdftoppm"), reason="without Debian's poppler-utils")
+def test_the_scale_that_is_offered_fits_a_kilometre(page: Page, tmp_path: Path) -> None:
+    """On 225 mm by 116 for the drawing: 1:5000 makes 200 mm of it, and 1:2000 500 mm."""
+    page.begin("segment A 0 0 1000000 0\nlength A 1000000\n", "well")
+    told = subprocess.run(["pdftotext", printed(page, tmp_path, None), "-"],
+                          capture_output=True, text=True, check=True)
+    assert "1:5000" in told.stdout.split()
 
 
 @pytest.mark.skipif(not shutil.which("pdftoppm"), reason="without Debian's poppler-utils")

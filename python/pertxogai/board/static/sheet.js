@@ -21,7 +21,8 @@ const ROOM = 26;
 /** The height of the title below it. */
 const TITLE = 18;
 /** Scales that are usual, the largest first. */
-const SCALES = [10, 5, 2, 1, 1 / 2, 1 / 5, 1 / 10, 1 / 20, 1 / 50, 1 / 100, 1 / 200, 1 / 500];
+const SCALES = [10, 5, 2, 1, 1 / 2, 1 / 5, 1 / 10, 1 / 20, 1 / 50, 1 / 100, 1 / 200, 1 / 500,
+  1 / 1000, 1 / 2000, 1 / 5000, 1 / 10000];
 
 /** Makes the sheet of what a board shows, and has it printed. */
 export class Sheet {

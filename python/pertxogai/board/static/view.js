@@ -3,7 +3,7 @@
 
 /** @typedef {import('./page').Place} Place */
 
-const LEAST = 0.02;
+const LEAST = 0.00001;
 const MOST = 2000;
 /**
  * The room around all that is shown, for the dimensions, in pixels; of a small board this share.
