@@ -143,6 +143,22 @@ def test_a_check_keeps_the_focus_while_keys_open_and_close_it(page, button) -> N
 
 
 @needs_browser
+def test_delete_tells_the_check_that_goes_with_it(page) -> None:
+    """The check is of the point End, and of the segment Wall."""
+    from selenium.webdriver.common.keys import Keys
+
+    page.begin(ROW, "well")
+    wait_for("the check", lambda: page.count(MARK) == 1)
+    page.select("Slot")
+    assert "check" not in page.driver.execute_script(
+        "return document.getElementById('erase').title")
+    page.select("Wall")
+    page.keys(Keys.DELETE)
+    wait_for("it is told", lambda: page.told("hint").startswith("Deletes Wall; with it: "))
+    assert "check Gap" in page.told("hint") and "check Gap" not in page.text()
+
+
+@needs_browser
 def test_without_checks_nothing_is_shown(page) -> None:
     page.begin(ROW, "well")
     wait_for("the check", lambda: page.count(MARK) == 1)

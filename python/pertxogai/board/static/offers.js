@@ -226,7 +226,10 @@ export class Offers {
     }
   }
 
-  /** What goes when what is selected is taken away, and what of it goes with its shapes. */
+  /**
+   * What goes when what is selected is taken away, and what goes with its shapes: constraints, and
+   * the checks that are shown.
+   */
   going() {
     const { shapes, numbers } = this.selected();
     const names = new Set(shapes.map((shape) => shape.name));
@@ -235,8 +238,11 @@ export class Offers {
     const going = all.filter((each) => !numbers.includes(each.number)
       && namesIn(each).some((name) => names.has(name.split('.')[0])));
     const measured = numbers.flatMap((each) => this.reference(each)?.words?.join(' ') ?? []);
+    const checks = this.board.checks.checks.filter(
+      ({ words }) => words.split(' ').some((each) => names.has(each.split('.')[0])));
     return { things: [...names, ...chosen.map((each) => each.called), ...measured],
-      going: going.map((each) => each.name ?? each.words) };
+      going: [...going.map((each) => each.name ?? each.words),
+        ...checks.map(({ name }) => `check ${name}`)] };
   }
 
   /**
