@@ -14,6 +14,7 @@ import { Stopped } from './calls.js';
 
 /** @type {import('./protocol').Trouble} */
 const CHANGED = { kind: 'page', message: 'the drawing has changed: choose again' };
+const STOPPED = 'The text is judged once the board’s server is there again.';
 
 /**
  * A drawing that is worked on. Listeners hear 'begin', 'answer', 'trouble', 'text', and 'settle'
@@ -149,7 +150,7 @@ export class Paper extends EventTarget {
     return this.queue(async () => {
       if (turn !== this.asked) return;
       const { text } = this;
-      const answer = await this.about('judge', { text });
+      const answer = await this.about('judge', { text }).catch(unjudged);
       if (turn === this.asked) this.take(text, answer);
     });
   }
@@ -424,6 +425,16 @@ function repeatsIn(judgement) {
 export function ended(error) {
   if (!(error instanceof Stopped)) throw error;
   return null;
+}
+
+/**
+ * What is said of a text that the stopped server doesn't judge.
+ * @param {unknown} error
+ * @returns {Judged}
+ */
+function unjudged(error) {
+  ended(error);
+  return whole({ trouble: { kind: 'stopped', message: STOPPED } });
 }
 
 /**
