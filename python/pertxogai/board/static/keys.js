@@ -35,7 +35,7 @@ export class Keys {
   does(event) {
     const { key, shiftKey: shift } = event;
     const chord = (event.ctrlKey || event.metaKey) && !BRACKETS[key];
-    if (chord && key === 'c' && getSelection()?.toString() && !onShapes(event)) return false;
+    if (chord && key === 'c' && copiesText(event)) return false;
     if (isTyping(event)) return chord && savesOrOpens(key) && this.press(`Control+${key}`);
     if (ARROWS[key]) return this.arrow(event, chord);
     if (chord) return this.press(`Control+${shift ? 'Shift+' : ''}${key}`);
@@ -152,6 +152,14 @@ function pressed(selector) {
   if (!(button instanceof HTMLElement)) return false;
   button.click();
   return true;
+}
+
+/**
+ * Whether a key that copies means a text that is selected: not where it is pressed on the board.
+ * @param {KeyboardEvent} event
+ */
+function copiesText(event) {
+  return !onShapes(event) && Boolean(getSelection()?.toString());
 }
 
 /**

@@ -103,21 +103,24 @@ export class Values {
     this.list.show(line ? [...rows, [0, 'li', { class: 'quiet' }, line]] : rows);
   }
 
+  /** The values and the dimensions: the key of each, what it is called, and how it is asked for. */
+  asked() {
+    const { values, constraints } = this.paper.answer?.drawing ?? { values: [], constraints: [] };
+    const valued = constraints.filter(({ value }) => value !== null);
+    return [...values.map(({ name }) => ({ key: name, called: name, of: { name } })),
+      ...valued.map(({ number, called }) => ({ key: number, called, of: { number } }))];
+  }
+
   /**
    * Asks for the range of each value and dimension, one after the other, and lists them; where that
    * of one isn't found, why. Of a drawing that isn't good none is.
    */
   async listAll() {
     const { text, answer, isOld } = this.paper;
-    const values = answer?.drawing?.values ?? [];
-    const valued = (answer?.drawing?.constraints ?? []).filter(({ value }) => value !== null);
-    const asked = isOld ? [] : [
-      ...values.map(({ name }) => ({ key: name, called: name, of: { name } })),
-      ...valued.map(({ number, called }) => ({ key: number, called, of: { number } }))];
     /** @type {Listed} */
     const listed = { text, rows: [], line: '' };
     this.listed = listed;
-    for (const { key, called, of } of asked) {
+    for (const { key, called, of } of isOld ? [] : this.asked()) {
       this.listOf(listed, 'Finding the ranges ..');
       const found = await this.paper.about('range', { text, ...of }).catch(ended);
       if (this.listed !== listed || !found) return;
