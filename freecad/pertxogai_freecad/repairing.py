@@ -6,7 +6,7 @@ from collections.abc import Iterator
 from dataclasses import dataclass, replace
 from enum import Enum
 
-from pertxogai.judging import Then, judge_at_once
+from pertxogai.judging import Surplus, Then, judge_at_once
 from pertxogai.judging.naming import listed
 from pertxogai.judging.surplus import without
 from pertxogai.program.reports import Verdict
@@ -22,6 +22,7 @@ REST = {
     Then.NO_PLACES: "fully constrained, but has no places", Then.OVER: "still over-constrained",
 }
 """What the program says of the rest, in the trade's words."""
+OPENS = ", and under-constrained once enough is removed"
 NOTHING = QT_TRANSLATE_NOOP("Pertxogai", "nothing is redundant")
 NOT_COUNTED = QT_TRANSLATE_NOOP(
     "Pertxogai", "the program finds nothing redundant; the rank wasn't counted")
@@ -118,15 +119,23 @@ class Repair:
 
 
 def _surplus(judged: JudgedSketch) -> Iterator[Candidate]:
-    """What may go of what is over."""
+    """What may go of what is over; last that without which a dimension is missing once enough is
+    removed."""
     untried = By.PROGRAM if judged.judged.judgement.free is None else By.RANK
-    for index, each in surplus_by_index(judged).items():
+    found = surplus_by_index(judged).items()
+    for index, each in sorted(found, key=lambda pair: pair[1].opens()):
         off, standing = of_surplus(judged.read, each)
         if standing is Standing.IN_PART:
             yield _in_part(judged, index)
         else:
-            yield Candidate(index, each.name, standing, off, REST[each.then], each.others,
+            yield Candidate(index, each.name, standing, off, _rest(each), each.others,
                             untried if each.then is None else By.TRIED)
+
+
+def _rest(each: Surplus) -> str:
+    """What the rest is without a constraint; empty where that wasn't tried."""
+    opens = OPENS if each.then is Then.OVER and each.opens() else ""
+    return REST[each.then] + opens
 
 
 def _without(judged: JudgedSketch, index: int) -> Then:

@@ -126,6 +126,17 @@ def test_what_says_two_things_is_tried_as_a_whole(told: dict[str, Any]) -> None:
     assert facts["then"] == OPEN
 
 
+def test_what_would_leave_a_corner_open_comes_last_and_says_so(told: dict[str, Any]) -> None:
+    """With the second width, the second height and the equality gone, the rectangle needs each of
+    its corners."""
+    rest = told["repair_opening corner"]["rest"]
+    over = "still over-constrained"
+    corners = [[f"Constraint{number}", f"{over}, and under-constrained once enough is removed"]
+               for number in (1, 2, 3, 4)]
+    assert rest[-4:] == corners
+    assert {each for _, each in rest[:-4]} == {over} and len(rest) > 6
+
+
 def test_a_rest_that_is_not_good_is_told_as_that(told: dict[str, Any]) -> None:
     """Without its radius the ring would have one of -0.05 mm. Without the distance it touches the
     disc with its centre 5.05 away."""

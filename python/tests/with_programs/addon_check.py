@@ -40,6 +40,8 @@ WIDTH, HEIGHT, HOLE = 9, 10, 11
 """The numbers of three dimensions of the plate, from 0: that of a hole is its radius."""
 FLOOR, BELOW = 0, 9
 """The numbers of a plate's lower edge, and of its width there."""
+RIGHT, LEFT = 1, 3
+"""The numbers of a plate's upright edges."""
 HOLE_SHAPE, CENTRE = 5, 3
 """The numbers of a plate's second hole, and of a centre."""
 OUTER = -3
@@ -185,6 +187,16 @@ def check_repair_in_part():
     (tangency,) = (each for each in repair.candidates if each.name == "Constraint3")
     repair.take_away(tangency.index)
     yield "tangency", {"told": told, "then": judged(sketch).headline()}
+    FreeCAD.closeDocument(sketch.Document.Name)
+
+
+def check_repair_opening():
+    """Beside the two widths a second height, and equal upright sides: three are too many."""
+    sketch = opened("contradiction")
+    sketch.addConstraint(Sketcher.Constraint("DistanceY", LEFT, END, LEFT, START, 40.0))
+    sketch.addConstraint(Sketcher.Constraint("Equal", RIGHT, LEFT))
+    repair = Repair.of(judged(sketch))
+    yield "corner", {"rest": [[each.name, each.rest] for each in repair.candidates]}
     FreeCAD.closeDocument(sketch.Document.Name)
 
 
@@ -399,7 +411,8 @@ def main():
     """All of it, and the end."""
     told = {}
     for check in (check_judge, check_repair, check_repair_moves, check_repair_followed,
-                  check_repair_linked, check_repair_in_part, check_repair_not_good, check_complete,
+                  check_repair_linked, check_repair_in_part, check_repair_opening,
+                  check_repair_not_good, check_complete,
                   check_complete_two, check_complete_moved,
                   check_complete_outer, check_complete_nothing, check_place, check_place_rough,
                   check_certify, check_construction,
