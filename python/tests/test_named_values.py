@@ -178,6 +178,14 @@ def test_a_root_that_is_no_fraction_is_taken_to_thirty_places_and_told():
         1, 10 ** 27)
 
 
+def test_a_root_that_is_a_fraction_is_exact():
+    drawing = read_drawing(f"{SHAPES}length S sqrt(9/4)*40\nlength T sqrt(20mm*45mm)\n"
+                           "angle S T sqrt(36deg*25deg)")
+    first, second, angle = drawing.constraints
+    assert (first.value_um, second.value_um) == (60_000, 30_000)
+    assert angle.value.value == 30 and rounded_roots(drawing) == ()
+
+
 def test_a_root_that_is_no_fraction_in_a_value_is_told_where_that_is_used():
     drawing = read_drawing(f"value D sqrt(2)*40\nvalue E 2*D\n{SHAPES}length S E\nlength T 50")
     assert rounded_roots(drawing) == (1,)
@@ -250,6 +258,10 @@ def test_a_line_that_is_too_long_is_refused_before_it_is_reckoned():
     ("value A min(3mm, 2deg)", "line 1: 'min(3mm, 2deg)' is in deg, and what stands before it is "
      "in mm"),
     ("value A sqrt(1 - 2)", "line 1: '1 - 2' comes to -1, which has no square root"),
+    ("value A sqrt(30deg)", "line 1: '30deg' is in deg, which has no square root: write sqrt of a "
+     "number, or of mm times mm"),
+    ("value A sqrt(2mm)", "line 1: '2mm' is in mm, which has no square root: write sqrt of a "
+     "number, or of mm times mm"),
     ("value A 3cm", "line 1: '3cm' has a unit that isn't read: write mm, in or deg"),
     ("value A 3 4", "line 1: '4' stands behind a whole expression: write + - * or / between them"),
     ("value A (3", "line 1: '(3' opens a bracket that isn't closed"),

@@ -36,6 +36,15 @@ def test_a_piece_in_the_middle_leaves_two_on_one_line() -> None:
         "on S1.start R"]
 
 
+def test_comments_stay_with_their_lines_where_an_edge_becomes_two() -> None:
+    text = ("# of the whole\nsegment A 0 0 40 0 # of A\nsegment L 10 -10 10 10\n# of R\n"
+            "segment R 30 -10 30 10 # beside R\nlength L 20 # of its length\n# the end\n")
+    assert trim(text, "A", 20, 0) == [
+        "# of the whole", "segment A 0 0 10 0 # of A", "segment S1 30 0 40 0",
+        "segment L 10 -10 10 10", "# of R", "segment R 30 -10 30 10 # beside R",
+        "length L 20 # of its length", "on A.end L", "collinear A S1", "on S1.start R", "# the end"]
+
+
 def test_what_crosses_nothing_goes() -> None:
     assert trim("segment A 0 0 40 0\npoint P 0 9\nlength A 40\n", "A", 9, 0) == ["point P 0 9"]
 
