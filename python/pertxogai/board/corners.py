@@ -13,8 +13,9 @@ from pertxogai.board.mapping import PointUm, numbers, rounded
 from pertxogai.board.new_names import Figure, free_name
 from pertxogai.board.typed import value_word
 from pertxogai.drawing import (
-    Arc, Coincident, Constraint, Distance, Drawing, Length, Midpoint, Note, Pair, Perpendicular,
-    Place, PointRef, Segment, Shape, ShapeRef, Symmetric, Tangent, Which, WordFault, points_of)
+    Arc, Coincident, Constraint, Distance, Drawing, Fixed, Length, Midpoint, Note, Pair,
+    Perpendicular, Place, PointRef, Segment, Shape, ShapeRef, Symmetric, Tangent, Which, WordFault,
+    points_of)
 from pertxogai.drawing.checks import standing
 from pertxogai.drawing.geometry import Point
 from pertxogai.drawing.mentions import refs_of, with_refs
@@ -160,13 +161,19 @@ class _Cut:
                          if self.drawing.meetings.same(ref, self.meeting.first))
 
     def _is_spoken_of(self) -> bool:
-        """Whether something is said of the corner, or of the whole lengths of the segments."""
+        """Whether something is said of the corner, or of the whole segments."""
         ends = {self.meeting.first, self.meeting.second}
         names = {each.shape for each in ends}
         checked = (each.asked for each in self.drawing.tolerancing.checks)
-        return bool(self._at_corner() - ends) or any(
+        return bool(self._at_corner() - ends or self._fixed()) or any(
             _mentions(each, self._at_corner()) or _is_of_length(each, names)
             for each in (*self.drawing.constraints, *checked) if not self._joins(each))
+
+    def _fixed(self) -> list[PointRef]:
+        """The ends in the corner of the segments that are fixed."""
+        fixed = [each.what for each in self.drawing.constraints if isinstance(each, Fixed)]
+        return [each for each in (self.meeting.first, self.meeting.second)
+                if ShapeRef(each.shape) in fixed]
 
     def _joins(self, constraint: Constraint) -> bool:
         """Whether a constraint only says that the two ends are one point."""
@@ -178,8 +185,8 @@ class _Cut:
         """The drawing with the corner cut open so far back, in micrometres, and a shape in it; with
         a point in the corner where it `keeps` one."""
         (x, y), one, other = self.sides()
-        name = self._point()
-        place = self.drawing.drawn(self.meeting.first)
+        name, fixed = self._point(), self._fixed()
+        place = self.drawing.drawn(fixed[0] if fixed else self.meeting.first)
         ways = {self.meeting.first: one, self.meeting.second: other}
         opened = {ref: rounded(x + way[0] * back, y + way[1] * back) for ref, way in ways.items()}
         shapes = [self._opened(shape, opened, name if keeps else None)
@@ -197,7 +204,8 @@ class _Cut:
         on = [["on", name, each.shape] for each in opened] if keeps else []
         same = [["coincident", str(ref), name] for ref in self.drawing.points()
                 if ref.which is Which.AT and ref in self._at_corner()]
-        for words in [*on, *same, *asks]:
+        stays = [["fixed", name]] if fixed else []
+        for words in [*on, *same, *stays, *asks]:
             drawing = asking(drawing, words)
         return drawing
 
@@ -212,7 +220,8 @@ class _Cut:
         return shape
 
     def _said(self, constraint: Constraint, name: str) -> Constraint:
-        """What a constraint says of the corner, and of a whole length, said of the point in it."""
+        """What a constraint says of the corner, and of a whole length, said of the point in it; of
+        a segment that is fixed, said of its other end."""
         names = {each.shape: each for each in (self.meeting.first, self.meeting.second)}
         match constraint:
             case Length(ShapeRef(segment), value) if segment in names:
@@ -221,6 +230,8 @@ class _Cut:
                                 tolerance=constraint.tolerance)
             case Midpoint(point, ShapeRef(segment)) if segment in names:
                 return Symmetric(*_in_order(names[segment], PointRef(name)), point, constraint.name)
+            case Fixed(ShapeRef(segment)) if segment in names:
+                return Fixed(_far(names[segment]), constraint.name)
             case Perpendicular(first, second, Pair() as pair) if _is_at(pair, self._at_corner()):
                 return Perpendicular(first, second, None, constraint.name)
             case Tangent(at=Pair() as pair) if _is_at(pair, self._at_corner()):

@@ -100,6 +100,31 @@ def test_a_point_of_its_own_in_the_corner_stays_there() -> None:
             "coincident B P1", "tangent A A1", "tangent A1 C", "radius A1 5"]
 
 
+def test_a_segment_that_is_fixed_is_so_by_its_corners() -> None:
+    """Its end in the corner lies elsewhere now; B is drawn to begin a micrometre beside it, and is
+    selected first."""
+    text = ("segment A 0 0 40 0\nsegment B 40.001 0 40 30\ncoincident A.end B.start\n"
+            "Base: fixed A\nvertical B\nlength B 30\n")
+    for made in (fillet(text, "B", "A"), chamfer(text, "B", "A")):
+        assert made[0] == "construction point P1 40 0"
+        assert made[4:9] == ["Base: fixed A.start", "vertical B", "distance P1 B.end 30",
+                             "on P1 B", "on P1 A"] and made[9] == "fixed P1"
+
+
+@pytest.mark.parametrize("kind", ["fillet", "chamfer"])
+@pytest.mark.parametrize("size", ["5", "8", "50"])
+def test_a_corner_of_a_segment_that_is_fixed_stays_where_it_is(kind: str, size: str,
+                                                               program: Program) -> None:
+    """However large what is made of it is; one of 50 runs beyond the other edges, as judge says."""
+    text = "segment A 0 0 40 0\nsegment B A.end 40 30\nfixed A\nvertical B\nlength B 30\n"
+    cut = {"do": "corner", "kind": kind, "first": "A", "second": "B", "size": size}
+    found = Desk(program).answer("edit", {"text": text, "edit": cut})["judgement"]
+    assert found["verdict"] == "well"
+    for name, place in (("P1", (40, 0)), ("B.end", (40, 30))):
+        x, y = found["placed"]["points"][name]
+        assert (round(x, 6), round(y, 6)) == place
+
+
 @pytest.mark.parametrize("kind", ["fillet", "chamfer"])
 def test_a_corner_with_a_point_of_its_own_stays_well(kind: str, program: Program) -> None:
     """The text is read again, as by a page that is loaded anew."""
