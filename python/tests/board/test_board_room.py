@@ -292,6 +292,19 @@ def test_the_pressed_tool_shows_in_forced_colours(page: Page) -> None:
     assert pressed != other
 
 
+def test_the_grid_is_no_edge_in_forced_colours(page: Page) -> None:
+    """It keeps colours of its own, beside the one that is forced on the edges."""
+    page.begin(PLATE, "well")
+    page.driver.execute_cdp_cmd("Emulation.setEmulatedMedia", {
+        "features": [{"name": "forced-colors", "value": "active"}]})
+    edge, axis, grid = (page.driver.execute_script(
+        "const { forcedColorAdjust, stroke } = getComputedStyle("
+        "  document.querySelector(arguments[0])); return [forcedColorAdjust, stroke];",
+        f"#board {each}") for each in (".shape", ".axis", ".gridlines"))
+    page.driver.execute_cdp_cmd("Emulation.setEmulatedMedia", {"features": []})
+    assert (edge[0], axis[0], grid[0]) == ("auto", "none", "none") and axis[1] != grid[1]
+
+
 # The sheet.
 
 def printed(page: Page, folder: Path, scale: str | None) -> Path:
