@@ -2,7 +2,7 @@
 from __future__ import annotations
 
 import math
-from collections.abc import Iterable, Iterator
+from collections.abc import Iterable, Iterator, Sequence
 from contextlib import contextmanager
 from typing import Any
 
@@ -15,7 +15,7 @@ from pertxogai.files.freecad.constraints import Entry, Kind
 from pertxogai.judging import GoodJudgement
 from pertxogai.judging.measure import Solution
 from pertxogai.judging.measure.upright import upright
-from pertxogai_freecad.freecad_types import OwnDocument
+from pertxogai_freecad.freecad_types import OwnDocument, OwnSketch
 from pertxogai_freecad.sketches import ReadSketch
 from pertxogai_freecad.trouble import Trouble
 
@@ -84,8 +84,18 @@ def place(read: ReadSketch, good: GoodJudgement) -> None:
     geometry = list(read.sketch.Geometry)
     for count, shape in read.curves().items():
         _settle(geometry[count], shape.name, level)
+    marks = [read.sketch.getConstruction(count) for count in range(len(geometry))]
     with one_step(read.sketch.Document, "Place (Pertxogai)"):
         read.sketch.Geometry = geometry
+        _mark(read.sketch, marks)
+
+
+def _mark(sketch: OwnSketch, marks: Sequence[bool]) -> None:
+    """Makes each curve construction geometry or not as it was: FreeCAD takes a point for part of
+    the outline once it is stored anew."""
+    for count, is_construction in enumerate(marks):
+        if sketch.getConstruction(count) != is_construction:
+            sketch.setConstruction(count, is_construction)
 
 
 def _settle(curve: Any, name: str, level: Solution) -> None:

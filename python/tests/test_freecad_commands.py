@@ -186,6 +186,13 @@ def test_shapes_come_to_lie_where_the_plate_has_them(told: dict[str, Any]) -> No
     assert facts["radius"] == pytest.approx(5, abs=2e-3)
 
 
+def test_what_is_construction_geometry_stays_so(told: dict[str, Any]) -> None:
+    """The outline is the one line: two ends, and not the point."""
+    facts = told["place_point mark"]
+    assert facts["before"] == facts["after"] == [[True, True, False], 2]
+    assert facts["undo"] == ["Place (Pertxogai)"]
+
+
 def test_an_outer_edge_that_lies_elsewhere_keeps_dimensions_from_being_added(
         told: dict[str, Any]) -> None:
     facts = told["complete_outer edge"]
@@ -257,8 +264,8 @@ def test_what_is_set_wrongly_is_told_by_name(told: dict[str, Any]) -> None:
     assert told["program within"]["trouble"].endswith("change it in Edit, Preferences.., Pertxogai")
     assert "No such file or directory: '/nowhere/" in told["program room"]["trouble"]
     full = told["program full"]
-    assert re.fullmatch(r"FreeCAD couldn't write .*/full\.FCStd: look at its folder, and whether the "
-                        "disk is full", full["trouble"]) and not full["left"]
+    assert re.fullmatch(r"FreeCAD couldn't write .*/full\.FCStd: look at its folder, and whether "
+                        "the disk is full", full["trouble"]) and not full["left"]
 
 
 def sums(folder: Path) -> dict[str, str]:

@@ -326,6 +326,31 @@ def check_complete_outer():
     FreeCAD.closeDocument(document.Name)
 
 
+def check_place_point():
+    """A point, which is construction geometry to FreeCAD, and a construction line to it."""
+    document = FreeCAD.newDocument()
+    document.UndoMode = 1
+    sketch = document.addObject("Sketcher::SketchObject", "Sketch")
+    sketch.addGeometry(Part.Point(FreeCAD.Vector(3, 4, 0)))
+    sketch.addGeometry(Part.LineSegment(FreeCAD.Vector(0, 0, 0), FreeCAD.Vector(3, 4, 0)), True)
+    sketch.addGeometry(Part.LineSegment(FreeCAD.Vector(0, 0, 0), FreeCAD.Vector(9, 0, 0)))
+    for said in (("DistanceX", -1, START, 0, START, 3.0), ("DistanceY", -1, START, 0, START, 4.0),
+                 ("Coincident", 1, START, -1, START), ("Coincident", 1, END, 0, START),
+                 ("Coincident", 2, START, -1, START), ("Horizontal", 2), ("Distance", 2, 9.0)):
+        sketch.addConstraint(Sketcher.Constraint(*said))
+    document.recompute()
+
+    def outline():
+        return [[sketch.getConstruction(count) for count in range(3)], len(sketch.Shape.Vertexes)]
+
+    facts = {"before": outline()}
+    found = judged(sketch)
+    place(found.read, found.good)
+    facts.update(after=outline(), undo=list(document.UndoNames))
+    yield "mark", facts
+    FreeCAD.closeDocument(document.Name)
+
+
 def check_certify():
     """A link that is good, a plate that isn't, and a document that was never saved."""
     sketch = opened("link")
@@ -399,7 +424,8 @@ def check_program():
     trouble = trouble_of(lambda: read_sketch(sketch))
     tempfile.tempdir = None
     yield "room", {"trouble": trouble}
-    path, limits = Path(os.environ["FOLDER"], "full.FCStd"), resource.getrlimit(resource.RLIMIT_FSIZE)
+    path = Path(os.environ["FOLDER"], "full.FCStd")
+    limits = resource.getrlimit(resource.RLIMIT_FSIZE)
     resource.setrlimit(resource.RLIMIT_FSIZE, (1000, limits[1]))
     trouble = trouble_of(lambda: write_copy(sketch.Document, path))
     resource.setrlimit(resource.RLIMIT_FSIZE, limits)
@@ -415,6 +441,7 @@ def main():
                   check_repair_not_good, check_complete,
                   check_complete_two, check_complete_moved,
                   check_complete_outer, check_complete_nothing, check_place, check_place_rough,
+                  check_place_point,
                   check_certify, check_construction,
                   check_range, check_program):
         word = check.__name__.removeprefix("check_")
