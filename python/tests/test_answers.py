@@ -549,6 +549,21 @@ def test_edges_in_one_line_turn_to_no_side(aside_nm, is_turned):
     assert found == [DepartureKind.OTHER_SIDE] * is_turned
 
 
+@pytest.mark.parametrize("x, y, crosses", [
+    (50, -10, ""), (20, -10, "A and B"), (20, 0, ""), (20, 1, ""), (39, -19, "A and B"), (41, -10, "")])
+def test_edges_that_cross_are_told_where_they_are_drawn_apart(x, y, crosses):
+    """A is 40 long; B, 20 long and upright, is drawn beyond its end, and placed from x, y on: across it, ended
+    on it, above it, past it. C crosses it as it is drawn, and is placed apart; D crosses it in both."""
+    drawing = read_drawing("segment A 0 0 40 0\nsegment B 50 -10 50 10\nsegment C 10 -10 10 10\n"
+                           "segment D 30 -10 30 10\n")
+    spots = {ref_of("A.start"): (0, 0), ref_of("A.end"): (40, 0), ref_of("B.start"): (x, y),
+             ref_of("B.end"): (x, y + 20), ref_of("C.start"): (70, -10), ref_of("C.end"): (70, 10),
+             ref_of("D.start"): (30, -10), ref_of("D.end"): (30, 10)}
+    placed = Solution({ref: (1_000_000 * u, 1_000_000 * v) for ref, (u, v) in spots.items()})
+    assert [each.text() for each in warnings(drawing, placed)] == [
+        f"{each} cross, but are drawn apart" for each in [crosses] if each]
+
+
 CAM = """arc Base 0 0 -20 0 20 0
 arc Nose 0 27 4 32 -4 32
 arc Right -21.538 0 Base.end Nose.start
