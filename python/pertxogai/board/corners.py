@@ -42,10 +42,14 @@ class Meeting:
 
     @staticmethod
     def of(drawing: Drawing, first: str, second: str) -> Meeting:
-        """The corner of two segments. Raises WordFault where they have none."""
+        """The corner of two segments. Raises WordFault where they have none, or one is given from
+        outside, so that it stays as it is."""
         for name in (first, second):
-            if not isinstance(standing(drawing.scene, name, name), Segment):
+            shape = standing(drawing.scene, name, name)
+            if not isinstance(shape, Segment):
                 raise WordFault(name, "is no segment: a fillet and a chamfer need two")
+            if shape.outer:
+                raise WordFault(name, "is given from outside: it can't be rounded or cut")
         pair = drawing.meetings.corner(ShapeRef(first), ShapeRef(second))
         if pair is None or first == second:
             raise WordFault(f"{first} {second}", "have no corner: join two of their ends")

@@ -39,9 +39,9 @@ class Trim:
 
     def on(self, drawing: Drawing) -> Drawing:
         """The drawing without that piece; without the edge where nothing crosses it. Raises
-        WordFault where there is no such edge."""
+        WordFault where there is no such edge, or it is given from outside."""
         shown = self.shown or drawing
-        edge = edge_of(shown, self.shape)
+        edge = _own_edge(shown, self.shape, "trimmed")
         along = edge.along(numbers(self.at))
         found = sorted(_crossings(drawing, shown, edge), key=lambda each: each.along)
         if not found:
@@ -59,9 +59,10 @@ class Extend:
     shown: Drawing | None = None
 
     def on(self, drawing: Drawing) -> Drawing:
-        """The drawing with it. Raises WordFault where it isn't a segment, or meets nothing."""
+        """The drawing with it. Raises WordFault where it isn't a segment, is given from outside, or
+        meets nothing."""
         shown = self.shown or drawing
-        edge = edge_of(shown, self.shape)
+        edge = _own_edge(shown, self.shape, "extended")
         if not isinstance(edge, Straight):
             raise WordFault(self.shape, "is no segment: only a segment goes on")
         is_end = edge.along(numbers(self.at)) > 0.5
@@ -71,6 +72,15 @@ class Extend:
             raise WordFault(self.shape, "meets nothing on that side")
         nearest = min(beyond, key=lambda each: abs(each.along - is_end))
         return _ended(drawing, PointRef(self.shape, Which.END if is_end else Which.START), nearest)
+
+
+def _own_edge(shown: Drawing, name: str, done: str) -> Edge:
+    """An edge where it is shown. done: what is done with it. Raises WordFault where there is none,
+    or it is given from outside, so that it stays as it is."""
+    edge = edge_of(shown, name)
+    if _shape(shown, name).outer:
+        raise WordFault(name, f"is given from outside: it can't be {done}")
+    return edge
 
 
 def _crossings(drawing: Drawing, shown: Drawing, edge: Edge,
@@ -129,8 +139,7 @@ def _opened(drawing: Drawing, shape: str, first: Crossing, last: Crossing) -> Dr
     """The drawing with an arc in place of a circle, from one crossing round to another."""
     old = drawing.shape(shape)
     assert isinstance(old, Circle)
-    arc = Arc(old.name, old.centre, rounded(*first.at), rounded(*last.at), old.construction,
-              old.outer)
+    arc = Arc(old.name, old.centre, rounded(*first.at), rounded(*last.at), old.construction)
     made = replace(drawing, geometry=tuple(
         arc if shape is old else shape for shape in drawing.geometry))
     made = asking(made, ["on", f"{shape}.start", first.other])

@@ -180,6 +180,8 @@ def test_notes_stay_where_they_were() -> None:
     (ELBOW + "segment C 0 50 10 50\n", "A", "C", "have no corner"),
     ("segment A 0 0 40 0\nsegment B A.end 90 0.1\n", "A", "B", "run along each other"),
     (ELBOW + "circle C 9 9 2\n", "A", "C", "is no segment"),
+    ("outer " + ELBOW, "A", "B", "'A' is given from outside: it can't be rounded or cut"),
+    ("outer " + ELBOW, "B", "A", "'A' is given from outside: it can't be rounded or cut"),
     (ELBOW, "A", "Z", "isn't drawn"), (ELBOW, "A", "A", "have no corner"),
     (ELBOW + "arc C 40 5 40 0 45 5\ntangent A.end C.start\n", "A", "B", "touch in this corner")])
 def test_corners_that_cant_be_rounded(text: str, first: str, second: str, said: str) -> None:

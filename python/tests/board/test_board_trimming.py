@@ -154,6 +154,11 @@ def test_a_segment_goes_on_to_what_it_meets_next() -> None:
     ("extend", "circle A 0 0 20\n", "A", "is no segment"),
     ("trim", "point A 0 0\n", "A", "is no edge"), ("trim", CROSS, "Z", "isn't drawn"),
     ("trim", "circle A 0 0 10\nsegment B 0 0 20 0\n", "A", "is crossed once"),
+    ("trim", f"outer {CROSS}", "A", "'A' is given from outside: it can't be trimmed"),
+    ("trim", "outer segment A 0 0 40 0\n", "A", "'A' is given from outside: it can't be trimmed"),
+    ("trim", "outer circle A 0 0 10\nsegment B -20 0 20 0\n", "A", "it can't be trimmed"),
+    ("extend", "outer segment A 0 0 20 0\nsegment B 30 -9 30 9\n", "A",
+     "'A' is given from outside: it can't be extended"),
     ("trim", "arc A 0 0 10 0 -10 0\nsegment B 6 0 6 20\nsegment D -6 0 -6 20\n", "A", "fall apart")])
 def test_what_cant_be_cut(edit: str, text: str, shape: str, said: str) -> None:
     x, y = (0, 10) if "arc" in text else (9, 0)
