@@ -33,6 +33,8 @@ def way(found: GoodJudgement, name: str) -> tuple[float, float]:
     ("y A.start A.end 20", "A", sqrt(40 ** 2 - 20 ** 2), 20),
     ("y A.start A.end -20", "A", sqrt(40 ** 2 - 20 ** 2), -20),
     ("x A.start B.end 3", "C", -3, -sqrt(45 ** 2 - 3 ** 2)),
+    ("y A.end B.end 20", "B", -sqrt(30 ** 2 - 20 ** 2), 20),  # B is drawn to the left,
+    ("x A.end B.end 5", "B", -5, sqrt(30 ** 2 - 5 ** 2)),     # and upwards.
     ("angle C 3/4", "C", -45 * 0.8, -45 * 0.6),
     ("parallel C YAxis\nx B.end 7\ny B.end 9", "C", 0, -45),
 ])
