@@ -188,6 +188,10 @@ COLOURED = {
          [("Flag", "construction"), ("Shape", "segment"), *[("Number", it) for it in
                                                              ("0", "0", "40", "0")]]),
         ("value Width 120", [("Value", "value"), ("Number", "120")]),
+        ("tolerances ISO2768-m # general", [("Tolerancing", "tolerances"),
+                                            ("Comment", "# general")]),
+        ("check Gap distance A.end B.start 0.1 .. 0.5",
+         [("Tolerancing", "check"), ("Number", "0.1"), ("Number", "0.5")]),
         ("Left width: length Bottom 120mm", [("Constraint", "length"), ("Number", "120mm")]),
         ("coincident PlateBottom.start Origin", [("Constraint", "coincident"),
                                                  ("Datum", "Origin")]),

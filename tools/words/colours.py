@@ -4,6 +4,7 @@ from dataclasses import dataclass
 from .table import CONSTRAINTS, EDITS, ELEMENTS, ENDS, QUESTIONS, STEP_WORDS, TAILS, Line
 from pertxogai.drawing.constraint_lines import ConstraintWord
 from pertxogai.drawing.shape_lines import Flag, ShapeWord
+from pertxogai.drawing.tolerances import check, iso2768
 from pertxogai.drawing.values.lines import WORD
 
 
@@ -51,6 +52,7 @@ DRAWING = Language("drawing", "Drawing", (
     Words("Shape", "Type", "storage.type", tuple(it.value for it in ShapeWord), FLAGGED, "storage.modifier"),
     Words("Flag", "StorageClass", "storage.modifier", FLAGS, FLAGGED),
     Words("Value", "Define", "storage.type.value", (WORD,)),
+    Words("Tolerancing", "Define", "storage.type.tolerancing", (iso2768.WORD, check.WORD)),
     Words("Constraint", "Statement", "keyword.operator.constraint", tuple(it.value for it in ConstraintWord), r"(^|:)\s*"),
     Words("Datum", "Constant", "constant.language", ("Origin", "XAxis", "YAxis"), r"\s"),
 ), units=("mm", "in", "deg", "°"))
