@@ -196,6 +196,21 @@ def test_beside_a_point_there_is_nothing(page: Page, board_of) -> None:
     assert page.text() == before
 
 
+def test_what_is_copied_beside_a_line_that_cant_be_read_is_pasted(page: Page, board_of) -> None:
+    """It is copied of the drawing that is shown, not of the text that stands."""
+    at = board_of(HOLE)
+    before = page.text()
+    page.type(before + "lenght C\n")
+    page.verdict("refused")
+    page.select("C")
+    page.keys(Keys.CONTROL + "c")
+    page.click("#undo")
+    page.wait("read again", "return document.getElementById('refused').hidden")
+    page.keys(Keys.CONTROL + "v")
+    page.press(*at((60, 30)))
+    wait_for("pasted", lambda: "circle C1 60 30 4\n" in page.text())
+
+
 def test_what_is_copied_is_pasted_also_in_another_drawing(page: Page, board_of) -> None:
     at = board_of(HOLE + "segment E 50 0 50 40\nlength E 40\n")
     before = page.text()

@@ -59,7 +59,7 @@ export class Copies extends Work {
       this.tell(NONE);
       return;
     }
-    this.clip = { text: paper.text, shapes, view: shown.between };
+    this.clip = { text: paper.answer?.text ?? paper.text, shapes, view: shown.between };
     const radii = shapes.map((shape) => [shape.name, shown.viewOf(shape).radii[shape.name]]);
     this.clip.view = { ...shown.between, radii: Object.fromEntries(radii) };
     this.tell(`Copied: ${shapes.map((each) => each.name).join(', ')}. Ctrl+V pastes them.`);
