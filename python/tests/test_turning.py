@@ -45,6 +45,19 @@ def test_a_triangle_of_three_lengths_is_turned_by_one_word(words, name, dx, dy, 
     assert abs(x - dx) <= 3e-6 and abs(y - dy) <= 3e-6
 
 
+@pytest.mark.parametrize("words, name, dx, dy", [
+    ("y A.start A.end -20", "A", -sqrt(40 ** 2 - 20 ** 2), -20),
+    ("x A.start B.end +3", "C", -3, -sqrt(45 ** 2 - 3 ** 2)),
+])
+def test_what_a_sign_tells_leaves_the_other_side_to_the_drawing(words, name, dx, dy, program):
+    """The same triangle, drawn to the left: A runs there, and B ends above, whatever sign the way
+    across has."""
+    left = SIDES.replace("40 2", "-40 2").replace("38 30", "-38 30")
+    found = good_of(judged(left + words + "\n", program))
+    assert isinstance(found, GoodJudgement)
+    assert way(found, name) == pytest.approx((dx, dy), abs=3e-6)
+
+
 def test_a_point_of_it_lies_where_it_is_told(program):
     found = good_of(judged(SIDES + "angle A 30deg\nx B.end 7\n", program))
     assert isinstance(found, GoodJudgement)
