@@ -228,6 +228,19 @@ def test_a_direction_holds_by_its_ppb_and_all_else_by_its_length(words, nm, ppb,
     assert len(list(Limit().beyond(off))) <= 1
 
 
+@pytest.mark.parametrize("words, nm, ppb, told", [
+    ("parallel A B", 3, 5, Unit.NM),  # Both hold.
+    ("parallel A B", 9, 50_000, Unit.PPB),  # The direction alone is beyond the limit.
+    ("parallel A B", 2000, 5, Unit.PPB),  # It alone counts.
+    ("parallel A B", 2000, 50_000, Unit.NM),
+    ("collinear A B", 9, 50_000, Unit.PPB),
+    ("collinear A B", 2000, 5, Unit.NM),
+])
+def test_of_a_length_and_a_direction_that_is_told_which_decides(words, nm, ppb, told):
+    off = one(words, (nm, Unit.NM), (ppb, Unit.PPB))
+    assert Limit().told(off) is off[told is Unit.PPB]
+
+
 def test_what_is_no_direction():
     drawing = read_drawing("point P 0 0\npoint Q 1 0\nsegment A 0 0 9 0\nhorizontal P Q\n"
                            "length A 9\nhorizontal A\n")
