@@ -123,8 +123,13 @@ def test_the_slider_goes_to_its_ends_by_keys(page: Page, slider: WebElement) -> 
 
 
 def select(page: Page, number: int) -> None:
-    """Selects a constraint in the list of them."""
-    page.click("#tab-asked")
+    """Selects a constraint in the list of them. The tab is clicked again where it has moved from
+    under the first click, as when proposals come in above it."""
+    def is_listed() -> bool:
+        page.click("#tab-asked")
+        return page.count("#tab-asked[aria-selected='true']") == 1
+
+    wait_for("the list", is_listed)
     page.click(f"[data-selects='{number}']")
 
 
