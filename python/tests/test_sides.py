@@ -1,5 +1,5 @@
-"""What a constraint puts on a side of a segment, and lies on the other side: each worked out by
-hand."""
+"""What a constraint puts on a side of a segment or a point, and lies on the other side: each worked
+out by hand."""
 from __future__ import annotations
 
 from math import atan2, degrees
@@ -27,6 +27,8 @@ radius C 3
 """
 """C is drawn left of Up, which is drawn at 14.04 degrees."""
 EDGE = "segment S 0 0 40 0\n"
+TIED = "point A -100 -100\npoint B -60 -80\ncoincident A Origin\n"
+"""B is drawn right of A and above it. The origin is, too."""
 
 
 @pytest.mark.parametrize(("lean", "x_mm", "is_across"), [
@@ -52,6 +54,14 @@ def test_the_range_of_the_angle_ends_there() -> None:
     high = ranging.range_of(of).high
     assert float(high.at) == pytest.approx(degrees(atan2(10, 40)) + 45, abs=1e-4)
     assert high.fault.text == "C is drawn on the other side of Up"
+
+
+def test_what_is_tied_to_the_origin_by_a_point_that_is_drawn_elsewhere_is_warned_of() -> None:
+    """A counts as drawn in the origin, and so B as drawn to its left and below it."""
+    found = judge(read_drawing(TIED + "x A B 40\ny A B 20\n"), quickest())
+    assert found.solution is not None
+    assert found.solution.spot(PointRef("B", Which.AT)) == (-40 * MM, -20 * MM)
+    assert [each.text() for each in found.warnings] == ["B is drawn on the other side of A"]
 
 
 def placed(drawing: Drawing, places: dict[str, tuple[float, float]]) -> Solution:
@@ -88,6 +98,18 @@ def placed(drawing: Drawing, places: dict[str, tuple[float, float]]) -> Solution
     # They touch in a point that is told: an end, or one that lies on both.
     (EDGE + "arc A 40 5 S.end 40 10\ntangent S A\n", {"A.centre": (40, -5), "A.end": (45, -5)}, []),
     (EDGE + "circle C 20 5 5\non S.end C\ntangent S C\n", {"C.centre": (40, -5)}, []),
+    # Along both axes, told once; with a sign the drawing decides nothing.
+    (TIED + "x A B 40\ny A B 20\n", {"A": (0, 0), "B": (-40, -20)}, [("B", "A")]),
+    (TIED + "x A B -40\ny A B -20\n", {"A": (0, 0), "B": (-40, -20)}, []),
+    (TIED + "x A B 40\ny A B 20\n", {"A": (0, 0), "B": (40, 20)}, []),
+    # It is drawn right of the other, or a micrometre from there; or it is placed so.
+    ("point P 30 5\nx P 30\n", {"P": (-30, 5)}, [("P", "Origin")]),
+    ("point P 0.001 5\nx P 30\n", {"P": (-30, 5)}, []),
+    ("point P 30 5\nx P 0\n", {"P": (0, 5)}, []),
+    ("circle C 20 5 3\ny C 5\n", {"C.centre": (20, -5)}, [("C", "Origin")]),
+    # Of S, which leans now: it runs on, but rises in place of falling; or it runs the other way.
+    ("segment S 0 10 40 0\ny S.start S.end 10\n", {"S.end": (40, 20)}, [("S.end", "S.start")]),
+    ("segment S 0 0 40 0\nx S.start S.end 40\n", {"S.end": (-40, 0)}, []),
     # No constraint puts P on a side of S.
     (EDGE + "point P 20 5\nx P 20\n", {"P": (20, -5)}, []),
     ("circle C 20 5 5\ntangent C XAxis\n", {"C.centre": (20, -5)}, []),

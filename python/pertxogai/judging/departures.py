@@ -20,7 +20,7 @@ from pertxogai.judging.edges import (
 from pertxogai.judging.insides import Loops
 from pertxogai.judging.measure.solution import Solution
 from pertxogai.judging.rims import Rim, Round
-from pertxogai.judging.sides import Sided, sided
+from pertxogai.judging.sides import Beside, Sided, beside, sided
 
 
 class DepartureKind(Enum):
@@ -95,6 +95,10 @@ class Comparison:
     def _sided(self) -> tuple[Sided, ...]:
         return tuple(sided(self._drawing))
 
+    @cached_property
+    def _beside(self) -> tuple[Beside, ...]:
+        return tuple(beside(self._drawing))
+
     def warnings(self, edges: Edges, free: bool) -> tuple[Warned, ...]:
         """Everything that is warned of in a placed drawing, which may differ from this one by its
         dimensions. Raises MissingPlace."""
@@ -102,12 +106,16 @@ class Comparison:
         return (*found, *self._across(edges, found), *self._met.cusps(edges))
 
     def _across(self, edges: Edges, found: Sequence[Departure]) -> Iterator[Departure]:
-        """What lies on the other side of a segment than it is drawn. Of one that runs the other way
-        than it is drawn both sides are the other ones, so that tells nothing."""
+        """What lies on the other side of a segment or a point than it is drawn. Of a segment that
+        runs the other way than it is drawn both sides are the other ones, so that tells nothing."""
         turned = {each.shapes for each in found if each.departure is DepartureKind.TURNED}
         for each in self._sided:
             if (each.line.name,) not in turned and each.is_across(edges):
                 yield Departure(DepartureKind.ACROSS, (each.name, each.line.name))
+        across = ((each.name, each.of) for each in self._beside
+                  if (each.edge(),) not in turned and each.is_across(edges))
+        for names in dict.fromkeys(across):
+            yield Departure(DepartureKind.ACROSS, names)
 
     def departures(self, edges: Edges, free: bool) -> tuple[Departure, ...]:
         """Every departure of such a drawing but of sides by a constraint. Raises MissingPlace."""

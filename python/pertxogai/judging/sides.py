@@ -1,13 +1,14 @@
-"""What constraints put on a side of a segment: as it is drawn, and as it is placed."""
+"""What constraints put on a side of a segment or of a point: as it is drawn, and as it is
+placed."""
 from __future__ import annotations
 
 from collections.abc import Callable, Iterator
 from typing import NamedTuple
 
 from pertxogai.drawing import (
-    Arc, Circle, Drawing, ParallelDistance, PointLineDistance, PointOn, PointRef, Segment, ShapeRef,
-    Tangent, Which)
-from pertxogai.exact import Vector, between, cross, square
+    Arc, Circle, Drawing, ParallelDistance, PointLineDistance, PointOn, PointRef, Segment, Sense,
+    ShapeRef, Tangent, Which, XDistance, YDistance)
+from pertxogai.exact import Number, Vector, between, cross, square
 from pertxogai.judging.edges import STRAIGHT_NM, Edges, ends_of
 
 
@@ -24,6 +25,39 @@ class Sided(NamedTuple):
     def is_across(self, edges: Edges) -> bool:
         """Whether all of it is placed on the other side than it is drawn. Raises MissingPlace."""
         return _side(self.points, self.line, edges.spot) == -self.side
+
+
+class Beside(NamedTuple):
+    """What a distance along an axis, without a sign, puts on a side of a point, by the names of
+    both and the points. axis: 0 along x, 1 along y. side: where it is drawn, 1 or -1."""
+
+    name: str
+    of: str
+    point: PointRef
+    first: PointRef
+    axis: int
+    side: int
+
+    def edge(self) -> str | None:
+        """The shape of which these are two points; None where they are of two."""
+        return self.point.shape if self.point.shape == self.first.shape else None
+
+    def is_across(self, edges: Edges) -> bool:
+        """Whether it is placed on the other side than it is drawn. Raises MissingPlace."""
+        return _sign(_way(self.first, self.point, edges.spot)[self.axis]) == -self.side
+
+
+def beside(drawing: Drawing) -> Iterator[Beside]:
+    """What distances along the axes put on a side of a point. Points that are one count as drawn
+    where the first of them is; so where these are drawn apart, a thing may come to lie on the other
+    side of one than it is drawn."""
+    for each in drawing.constraints:
+        if isinstance(each, XDistance | YDistance) and each.sense is Sense.DRAWN:
+            axis = 1 if isinstance(each, YDistance) else 0
+            way = _way(each.first, each.second, drawing.scene.drawn_nm)
+            if side := _sign(way[axis]):
+                names = _called(drawing, each.second), _called(drawing, each.first)
+                yield Beside(*names, each.second, each.first, axis, side)
 
 
 def sided(drawing: Drawing) -> Iterator[Sided]:
@@ -85,8 +119,19 @@ def _side(points: tuple[PointRef, ...], line: Segment, spot: Callable[[PointRef]
     return sides.pop() if len(sides) == 1 else 0
 
 
-def _side_of(way: Vector, beside: Vector) -> int:
-    turn = cross(way, beside)
+def _side_of(way: Vector, aside: Vector) -> int:
+    turn = cross(way, aside)
     if turn * turn <= STRAIGHT_NM ** 2 * square(way):
         return 0
     return 1 if turn > 0 else -1
+
+
+def _way(first: PointRef, second: PointRef, spot: Callable[[PointRef], Vector]) -> Vector:
+    return between(spot(first), spot(second))
+
+
+def _sign(run_nm: Number) -> int:
+    """Which way a run along an axis goes; 0 where that is within a micrometre."""
+    if -STRAIGHT_NM <= run_nm <= STRAIGHT_NM:
+        return 0
+    return 1 if run_nm > 0 else -1
