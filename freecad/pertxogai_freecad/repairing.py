@@ -119,7 +119,7 @@ class Repair:
 
 
 def _surplus(judged: JudgedSketch) -> Iterator[Candidate]:
-    """What may go of what is over; last that without which a dimension is missing once enough is
+    """What may go of what is over; last that without which the rest is open once enough is
     removed."""
     untried = By.PROGRAM if judged.judged.judgement.free is None else By.RANK
     found = surplus_by_index(judged).items()

@@ -516,7 +516,7 @@ def test_what_opens_a_drawing_stands_below_what_does_not(capsys, tmp_path: Path)
     assert [line for line in lines[first + 1:first + 4] if line.startswith("    ")] == [
         f"    '{name}': conflicting, off by 2 mm; without it the rest is well"
         for name in ("Wide", "Along", "Across")]
-    assert lines[first + 4] == "  removable too, but then a dimension is missing:"
+    assert lines[first + 4] == "  removable too, but then the rest is open:"
     assert lines[first + 5] == "    constraint 12 (vertical Right); without it the rest is open"
 
 
@@ -527,7 +527,7 @@ def test_what_opens_a_drawing_stands_below_where_two_have_to_go(capsys, tmp_path
     path.write_text(ROUNDED + "Twice: y Top.end 50\n")
     _, out, _ = judged(capsys, "judge", "--no-search", str(path))
     lines = out.splitlines()
-    below = lines.index("  removable too, but then a dimension is missing:")
+    below = lines.index("  removable too, but then the rest is open:")
     assert ("  what to do: more than one has to go; remove one of these, and judge again "
             "(by rank; each was tried)" in lines)
     above = [line for line in lines[:below] if line.startswith("    '")]

@@ -272,7 +272,7 @@ def _surplus_lines(judged: CountedDrawing) -> Iterator[str]:
     for each in others or opening:
         yield from _removable_lines(each, judged)
     if others and opening:
-        yield "  removable too, but then a dimension is missing:"
+        yield "  removable too, but then the rest is open:"
         for each in opening:
             yield from _removable_lines(each, judged)
     yield from (f"  a dimension is missing all the same (by rank): {what}"
