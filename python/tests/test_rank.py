@@ -216,8 +216,8 @@ def test_directions_that_contradict_are_left_general() -> None:
 
 @pytest.mark.parametrize("right", ["perpendicular {}", "angle {} 90deg", "angle {} 1/0"])
 def test_directions_that_contradict_leave_right_angles(right: str) -> None:
-    """The sides of a rectangle are equal in pairs, and of its four angles one follows from the others:
-    its height alone, which is told once, is needed in any case."""
+    """The sides of a rectangle are equal in pairs, and of its four angles one follows from the
+    others. Its width is told twice. Only its height is told once, so it has to stay."""
     angles = "".join(f"{right.format(each)}\n" for each in ("A B", "B C", "C D"))
     found = free_of(QUADRILATERAL + angles + "angle D A 80deg\nlength A 40\nlength B 32\nlength C 40\n")
     assert (found.lacks, found.excess) == (0, 2)

@@ -98,7 +98,8 @@ class _Lowering:
             self._shape(shape, Owner(number, True))
         signed = [each for each in self.drawing.constraints
                   if isinstance(each, AngleBetween) and each.sense is Sense.SIGNED]
-        for _ in signed[:TURNS]:  # One that is redrawn turns what is told from it, or joined to it.
+        # A segment that is drawn anew changes the angles to it, and turns what begins at its end.
+        for _ in signed[:TURNS]:
             if not any([self._redraw(each) for each in signed]):
                 break
         for number in range(1, len(self.drawing.constraints) + 1):
